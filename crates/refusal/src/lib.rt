@@ -1,0 +1,59 @@
+// The refusals of 01's table, and the answers that carry no more than a refusal or a count.
+ghost use mathlib.Core.Path.{_≡_};
+ghost use Rattle.refusal.specs.Table.{numberOf};
+
+// Why a call is turned back: one case for each number of 01's table.
+pub enum Refusal {
+    Stages,
+    Factor,
+    GainBits,
+    Span,
+    FirFactor,
+    Taps,
+    Samples,
+    TapsMultiple,
+    Ratio,
+    HalfBandTaps,
+    Depth,
+    Phases,
+    Prototype,
+    Step,
+    State,
+}
+
+// What an opening or a reset answers.
+pub enum Opening {
+    Opened,
+    Refused(Refusal),
+}
+
+// What a block answers: how many outputs stand in front of the span.
+pub enum Count {
+    Written(usize),
+    Refused(Refusal),
+}
+
+impl Refusal {
+    // 01's number.
+    pub fn number(self) -> u8
+        ensures { λ r. ⌜ r ≡ numberOf self ⌝ }
+    {
+        match self {
+            Refusal::Stages => 1,
+            Refusal::Factor => 2,
+            Refusal::GainBits => 3,
+            Refusal::Span => 4,
+            Refusal::FirFactor => 5,
+            Refusal::Taps => 6,
+            Refusal::Samples => 7,
+            Refusal::TapsMultiple => 8,
+            Refusal::Ratio => 9,
+            Refusal::HalfBandTaps => 10,
+            Refusal::Depth => 11,
+            Refusal::Phases => 12,
+            Refusal::Prototype => 13,
+            Refusal::Step => 14,
+            Refusal::State => 15,
+        }
+    }
+}

@@ -1,0 +1,11 @@
+pub mod Integers
+pub mod Wrap
+pub mod Sections
+pub mod Cascades
+pub mod Listed
+pub mod Decimation
+pub mod Machines
+pub mod Runs
+pub mod Feeds
+pub mod Kept
+pub mod FeedLoop
