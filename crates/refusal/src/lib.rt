@@ -33,6 +33,12 @@ pub enum Count {
     Refused(Refusal),
 }
 
+// What a feed or a feeding block answers: how many samples it took and how many outputs it wrote.
+pub enum Counts {
+    Moved { taken: usize, written: usize },
+    Refused(Refusal),
+}
+
 impl Refusal {
     // 01's number.
     pub fn number(self) -> u8

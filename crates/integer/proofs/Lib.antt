@@ -1,0 +1,10 @@
+pub mod Row
+pub mod Run
+pub mod Turning
+pub mod Held
+pub mod Bits
+pub mod Hogenauer
+pub mod Towers
+pub mod Within
+pub mod Decimating
+pub mod Streaming

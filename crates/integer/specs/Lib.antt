@@ -1,0 +1,5 @@
+pub mod Limits
+pub mod Stages
+pub mod Gain
+pub mod MovingSums
+pub mod CicDecimator

@@ -1,0 +1,264 @@
+// 01, section 1: the cascaded integrator-comb decimator.
+ghost use mathlib.Core.Path.{_≡_};
+ghost use Prim.Native.Nat.{_+_, _≤_, min};
+ghost use lib.Dec.{ltb};
+ghost use lib.ListN.{length};
+ghost use Rattle.refusal.specs.Outcome.{openingNumber};
+ghost use Rattle.integer.specs.Gain.{gainOf, gainBits, toldGain, toldBits, Least};
+ghost use Rattle.integer.specs.CicDecimator as D;
+use crate::gain::Gain;
+use crate::gain::GainBits;
+use crate::gain::bits_of;
+use crate::gain::gain_of;
+use crate::gain::scaled;
+use crate::limits::MAX_STAGES;
+use crate::limits::factor_ok;
+use crate::limits::stages_ok;
+use crate::stages::comb;
+use crate::stages::integrate;
+use crate::stages::run;
+use refusal::Counts;
+use refusal::Opening;
+use refusal::Refusal;
+
+// 01, section 1: "for g up to 31".
+const MAX_BITS: u32 = 31;
+
+pub struct CicDecimator {
+    pub stages: usize,
+    pub r: usize,
+    pub integrator_state: [i32; MAX_STAGES],
+    pub comb_state: [i32; MAX_STAGES],
+    pub sample_counter: usize,
+}
+
+// An opening, with the state beside it.
+pub struct CicOpened {
+    pub answer: Opening,
+    pub state: CicDecimator,
+}
+
+// What a sample gives: nothing yet, a sum, or a refusal.
+pub enum CicOutput {
+    Nothing,
+    Sample(i32),
+    Refused(Refusal),
+}
+
+pub struct CicStep {
+    pub output: CicOutput,
+    pub state: CicDecimator,
+}
+
+pub struct CicBlock {
+    pub counts: Counts,
+    pub state: CicDecimator,
+}
+
+// What a sample gives a state that is known to be valid.
+pub enum CicSum {
+    Nothing,
+    Value(i32),
+}
+
+pub struct CicAt {
+    pub sum: CicSum,
+    pub sample_counter: usize,
+}
+
+fn zeros(stages: usize, r: usize) -> CicDecimator
+    ensures { λ d. ⌜ d ≡ D.fresh stages r ⌝ }
+{
+    CicDecimator {
+        stages,
+        r,
+        integrator_state: [0; MAX_STAGES],
+        comb_state: [0; MAX_STAGES],
+        sample_counter: 0,
+    }
+}
+
+fn valid(stages: usize, r: usize, sample_counter: usize) -> bool
+    ensures { λ b. ⌜ b ≡ D.validAt stages r «sample_counter» ⌝ }
+{
+    if !stages_ok(stages) {
+        return false;
+    }
+    if !factor_ok(r) {
+        return false;
+    }
+    sample_counter < r
+}
+
+// Whether the next sample completes no sum.
+fn waits(sample_counter: usize, r: usize) -> bool
+    ensures { λ b. ⌜ b ≡ ltb («sample_counter» + 1) r ⌝ }
+{
+    if r <= sample_counter {
+        return false;
+    }
+    sample_counter + 1 < r
+}
+
+// One sample, the numbers by value and the arrays lent.
+pub fn sample_at(
+    stages: usize,
+    r: usize,
+    sample_counter: usize,
+    integrators: &mut [i32; MAX_STAGES],
+    combs: &mut [i32; MAX_STAGES],
+    input: i32,
+) -> CicAt
+    ensures { λ a. ⌜ (D.sumOf (a .sum) ≡ D.decimator .out (D.decimatorOf stages r (now (integrators .entry)) (now (combs .entry)) «sample_counter») input) × (D.decimatorOf stages r (now (integrators .exit)) (now (combs .exit)) (a .«sample_counter») ≡ D.decimator .next (D.decimatorOf stages r (now (integrators .entry)) (now (combs .entry)) «sample_counter») input) ⌝ }
+{
+    let val = integrate(stages, integrators, input);
+    if waits(sample_counter, r) {
+        return CicAt {
+            sum: CicSum::Nothing,
+            sample_counter: sample_counter + 1,
+        };
+    }
+    let sum = comb(stages, combs, val);
+    CicAt {
+        sum: CicSum::Value(sum),
+        sample_counter: 0,
+    }
+}
+
+fn output_of(sum: CicSum) -> CicOutput
+    ensures { λ o. ⌜ (D.outputNumber o ≡ 0) × (D.outputSum o ≡ D.sumOf sum) ⌝ }
+{
+    match sum {
+        CicSum::Nothing => CicOutput::Nothing,
+        CicSum::Value(y) => CicOutput::Sample(y),
+    }
+}
+
+fn scaled_output_of(sum: CicSum, bits: u32) -> CicOutput
+    ensures { λ o. ⌜ (D.outputNumber o ≡ 0) × (D.outputSum o ≡ D.scaledBy bits (D.sumOf sum)) ⌝ }
+{
+    match sum {
+        CicSum::Nothing => CicOutput::Nothing,
+        CicSum::Value(y) => CicOutput::Sample(scaled(y, bits)),
+    }
+}
+
+fn least(a: usize, b: usize) -> usize
+    ensures { λ m. ⌜ m ≡ min a b ⌝ }
+{
+    if a < b { a } else { b }
+}
+
+impl CicDecimator {
+    // 01, section 1. The clause `stream` is Hogenauer's theorem, for every list of samples.
+    pub fn new(stages: usize, r: usize) -> CicOpened
+        ensures answer { λ o. ⌜ D.toldOpening o ≡ D.opening stages r ⌝ }
+        ensures stream { λ o. ⌜ (openingNumber (o .answer) ≡ 0 → D.Streams stages r (o .state)) ⌝ }
+    {
+        if !stages_ok(stages) {
+            return CicOpened {
+                answer: Opening::Refused(Refusal::Stages),
+                state: zeros(0, 0),
+            };
+        }
+        if !factor_ok(r) {
+            return CicOpened {
+                answer: Opening::Refused(Refusal::Factor),
+                state: zeros(0, 0),
+            };
+        }
+        CicOpened {
+            answer: Opening::Opened,
+            state: zeros(stages, r),
+        }
+    }
+
+    // r^N, held at 2^64 - 1.
+    pub fn gain(self) -> Gain
+        ensures answer { λ g. ⌜ toldGain g ≡ D.onState self (gainOf (self .stages) (self .r)) ⌝ }
+    {
+        if !valid(self.stages, self.r, self.sample_counter) {
+            return Gain::Refused(Refusal::State);
+        }
+        Gain::Value(gain_of(self.stages, self.r))
+    }
+
+    // The least g with 2^g no less than the gain.
+    pub fn gain_bits(self) -> GainBits
+        ensures answer { λ b. ⌜ toldBits b ≡ D.onState self (gainBits (self .stages) (self .r)) ⌝ }
+        ensures least { λ b. ⌜ (toldBits b .number ≡ 0 → Least (gainOf (self .stages) (self .r)) (toldBits b .value)) ⌝ }
+    {
+        if !valid(self.stages, self.r, self.sample_counter) {
+            return GainBits::Refused(Refusal::State);
+        }
+        GainBits::Value(bits_of(gain_of(self.stages, self.r)))
+    }
+
+    pub fn process_sample(mut self, input: i32) -> CicStep
+        ensures answer { λ s. ⌜ D.toldStep s ≡ D.step self input ⌝ }
+    {
+        if !valid(self.stages, self.r, self.sample_counter) {
+            return CicStep {
+                output: CicOutput::Refused(Refusal::State),
+                state: self,
+            };
+        }
+        let mut integrators = self.integrator_state;
+        let mut combs = self.comb_state;
+        let at = sample_at(
+            self.stages,
+            self.r,
+            self.sample_counter,
+            &mut integrators,
+            &mut combs,
+            input,
+        );
+        self.integrator_state = integrators;
+        self.comb_state = combs;
+        self.sample_counter = at.sample_counter;
+        let sum = at.sum;
+        let output = output_of(sum);
+        CicStep {
+            output,
+            state: self,
+        }
+    }
+
+    // Refusal 3 is looked at on every call: it goes by the settings alone.
+    pub fn process_sample_scaled(mut self, input: i32) -> CicStep
+        ensures answer { λ s. ⌜ D.toldStep s ≡ D.scaledStep self input ⌝ }
+    {
+        if !valid(self.stages, self.r, self.sample_counter) {
+            return CicStep {
+                output: CicOutput::Refused(Refusal::State),
+                state: self,
+            };
+        }
+        let bits = bits_of(gain_of(self.stages, self.r));
+        if bits > MAX_BITS {
+            return CicStep {
+                output: CicOutput::Refused(Refusal::GainBits),
+                state: self,
+            };
+        }
+        let mut integrators = self.integrator_state;
+        let mut combs = self.comb_state;
+        let at = sample_at(
+            self.stages,
+            self.r,
+            self.sample_counter,
+            &mut integrators,
+            &mut combs,
+            input,
+        );
+        self.integrator_state = integrators;
+        self.comb_state = combs;
+        self.sample_counter = at.sample_counter;
+        let sum = at.sum;
+        let output = scaled_output_of(sum, bits);
+        CicStep {
+            output,
+            state: self,
+        }
+    }
+}

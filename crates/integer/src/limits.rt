@@ -1,0 +1,28 @@
+// 01, section 1: "Stages N 1 to 8, factor r 1 to 4,096".
+ghost use mathlib.Core.Path.{_≡_};
+ghost use Rattle.integer.specs.Limits.{stagesOk, factorOk, oneTo};
+
+pub const MAX_STAGES: usize = 8;
+
+pub const MAX_FACTOR: usize = 4096;
+
+fn one_to(most: usize, x: usize) -> bool
+    ensures { λ b. ⌜ b ≡ oneTo most x ⌝ }
+{
+    if x < 1 {
+        return false;
+    }
+    x <= most
+}
+
+pub fn stages_ok(stages: usize) -> bool
+    ensures { λ b. ⌜ b ≡ stagesOk stages ⌝ }
+{
+    one_to(MAX_STAGES, stages)
+}
+
+pub fn factor_ok(r: usize) -> bool
+    ensures { λ b. ⌜ b ≡ factorOk r ⌝ }
+{
+    one_to(MAX_FACTOR, r)
+}
