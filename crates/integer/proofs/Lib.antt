@@ -8,3 +8,4 @@ pub mod Towers
 pub mod Within
 pub mod Decimating
 pub mod Streaming
+pub mod Blocking

@@ -149,6 +149,24 @@ fn least(a: usize, b: usize) -> usize
     if a < b { a } else { b }
 }
 
+fn assembled(
+    stages: usize,
+    r: usize,
+    integrators: [i32; MAX_STAGES],
+    combs: [i32; MAX_STAGES],
+    sample_counter: usize,
+) -> CicDecimator
+    ensures { λ d. ⌜ d ≡ D.decimatorOf stages r integrators combs «sample_counter» ⌝ }
+{
+    CicDecimator {
+        stages,
+        r,
+        integrator_state: integrators,
+        comb_state: combs,
+        sample_counter,
+    }
+}
+
 impl CicDecimator {
     // 01, section 1. The clause `stream` is Hogenauer's theorem, for every list of samples.
     pub fn new(stages: usize, r: usize) -> CicOpened
@@ -259,6 +277,47 @@ impl CicDecimator {
         CicStep {
             output,
             state: self,
+        }
+    }
+
+    // Samples of src become sums in dst while dst has a place. It takes up to r samples at once.
+    pub fn process_block(self, src: &[i32], dst: &mut [i32]) -> CicBlock
+        ensures answer { λ b. ⌜ D.toldBlock b ≡ D.block self (now (src .entry)) (length (now (dst .entry))) ⌝ }
+        ensures span { λ b. ⌜ now (dst .exit) ≡ D.blockSpan self (now (src .entry)) (now (dst .entry)) ⌝ }
+    {
+        let stages = self.stages;
+        let r = self.r;
+        let mut counter = self.sample_counter;
+        if !valid(stages, r, counter) {
+            return CicBlock {
+                counts: Counts::Refused(Refusal::State),
+                state: self,
+            };
+        }
+        let mut integrators = self.integrator_state;
+        let mut combs = self.comb_state;
+        let mut taken = 0;
+        let mut written = 0;
+        while written < dst.len() {
+            let m = least(r - counter, src.len() - taken);
+            let val = run(stages, &mut integrators, src, taken, taken + m);
+            taken += m;
+            counter += m;
+            if counter < r {
+                let state = assembled(stages, r, integrators, combs, counter);
+                return CicBlock {
+                    counts: Counts::Moved { taken, written },
+                    state,
+                };
+            }
+            counter = 0;
+            dst[written] = comb(stages, &mut combs, val);
+            written += 1;
+        }
+        let state = assembled(stages, r, integrators, combs, counter);
+        CicBlock {
+            counts: Counts::Moved { taken, written },
+            state,
         }
     }
 }

@@ -1,32 +1,40 @@
-use native.Mathlib.Omega.{arith}
+-- `CicDecimator::process_sample` meets its contract: it refuses where the state is not valid, and else does what `sample_at` does.
+use mathlib.Core.Path.{_≡_, sym, ap, _∙_}
+use mathlib.Core.Bool.{true, false}
 use borrow.Author.Needs.{needs}
+use borrow.Author.Tests.{not-true, not-false}
+use mir.Facts.{toZ-ofZ}
+use Rattle.integer.specs.CicDecimator.{valid, step}
 use Rattle.integer.proofs.cic_decimator.CicDecimator.process_sample.Statement.{statement}
 use Rattle.integer.proofs.cic_decimator.CicDecimator.process_sample.Tie as tie
-use Rattle.integer.proofs.cic_decimator.CicDecimator.process_sample.Reads as reads
-use Rattle.integer.proofs.cic_decimator.CicDecimator.process_sample.Lts as lts
-use Rattle.integer.proofs.cic_decimator.output_of.Reads as output-of-reads
-use Rattle.integer.proofs.cic_decimator.sample_at.Reads as sample-at-reads
-use Rattle.integer.proofs.cic_decimator.valid.Reads as valid-reads
 
--- src/cic_decimator.rt:200:13
 valid-requires : tie.Need-valid-requires
 valid-requires c κs = search needs
 
--- src/cic_decimator.rt:201:13
 returns : tie.Need-returns
-returns c = search needs
+unfolding step
+returns c =
+    let v : valid (c .before .before .args .self) ≡ false = sym (c .before .valid .ensures) ∙ not-true _ (c .if1 .taken) in
+    rw v
 
--- src/cic_decimator.rt:208:13
 sample-at-requires : tie.Need-sample-at-requires
 sample-at-requires c κs = search needs
 
--- src/cic_decimator.rt:220:13
 output-of-requires : tie.Need-output-of-requires
 output-of-requires c κs = search needs
 
--- src/cic_decimator.rt:197:5
 returns-2 : tie.Need-returns-2
-returns-2 c = search needs
+unfolding step
+returns-2 c =
+    let v : valid (c .before .before .before .before .before .before .before .before .args .self) ≡ true = sym (c .before .before .before .before .before .before .before .valid .ensures) ∙ not-false _ (c .before .before .before .before .before .before .if1 .left) in
+    rw (
+      v,
+      c .output-of .ensures .0,
+      c .output-of .ensures .1,
+      c .before .sample-at .ensures .0,
+      c .before .sample-at .ensures .1,
+      toZ-ofZ (c .before .before .before .before .before .before .before .before .fits .input),
+    )
 
 pub process-sample-spec : {M : Type 1} → statement M
 process-sample-spec =

@@ -1,48 +1,60 @@
-use native.Mathlib.Omega.{arith}
+-- `CicDecimator::process_sample_scaled` meets its contract: 15, then 3, and else the sum of `sample_at`, scaled.
+use mathlib.Core.Path.{_≡_, sym, ap, _∙_}
+use mathlib.Core.Bool.{true, false}
 use borrow.Author.Needs.{needs}
-use Rattle.integer.proofs.cic_decimator.CicDecimator.process_sample_scaled.Statement.{
-  statement,
-}
+use borrow.Author.Tests.{not-true, not-false, le-leb, lt-leb}
+use lib.Dec.{leb}
+use mir.Facts.{toZ-ofZ}
+use Rattle.integer.specs.Gain.{bitsOf, gainBits}
+use Rattle.integer.specs.CicDecimator.{valid, scaledDecimator, scaledStep}
+use Rattle.integer.proofs.cic_decimator.CicDecimator.process_sample_scaled.Statement.{statement}
 use Rattle.integer.proofs.cic_decimator.CicDecimator.process_sample_scaled.Tie as tie
-use Rattle.integer.proofs.cic_decimator.CicDecimator.process_sample_scaled.Reads as reads
-use Rattle.integer.proofs.cic_decimator.CicDecimator.process_sample_scaled.Lts as lts
-use Rattle.integer.proofs.cic_decimator.sample_at.Reads as sample-at-reads
-use Rattle.integer.proofs.cic_decimator.scaled_output_of.Reads as scaled-output-of-reads
-use Rattle.integer.proofs.cic_decimator.valid.Reads as valid-reads
-use Rattle.integer.proofs.gain.bits_of.Reads as bits-of-reads
-use Rattle.integer.proofs.gain.gain_of.Reads as gain-of-reads
 
--- src/cic_decimator.rt:231:13
 valid-requires : tie.Need-valid-requires
 valid-requires c κs = search needs
 
--- src/cic_decimator.rt:232:13
 returns : tie.Need-returns
-returns c = search needs
+unfolding scaledStep
+returns c =
+    let v : valid (c .before .before .args .self) ≡ false = sym (c .before .valid .ensures) ∙ not-true _ (c .if1 .taken) in
+    rw v
 
--- src/cic_decimator.rt:237:28
 gain-of-requires : tie.Need-gain-of-requires
 gain-of-requires c κs = search needs
 
--- src/cic_decimator.rt:237:13
 bits-of-requires : tie.Need-bits-of-requires
 bits-of-requires c κs = search needs
 
--- src/cic_decimator.rt:239:13
 returns-2 : tie.Need-returns-2
-returns-2 c = search needs
+unfolding scaledStep
+returns-2 c =
+    let d = c .before .before .before .before .before .args .self in
+    let v : valid d ≡ true = sym (c .before .before .before .before .valid .ensures) ∙ not-false _ (c .before .before .before .if1 .left) in
+    let e : c .before .bits-of .result ≡ gainBits (d .stages) (d .r) = c .before .bits-of .ensures ∙ ap bitsOf (c .before .before .gain-of .ensures) in
+    rw (v, ← e, lt-leb _ _ (c .if2 .taken))
 
--- src/cic_decimator.rt:246:13
 sample-at-requires : tie.Need-sample-at-requires
 sample-at-requires c κs = search needs
 
--- src/cic_decimator.rt:258:13
 scaled-output-of-requires : tie.Need-scaled-output-of-requires
 scaled-output-of-requires c κs = search needs
 
--- src/cic_decimator.rt:228:5
 returns-3 : tie.Need-returns-3
-returns-3 c = search needs
+unfolding scaledStep scaledDecimator
+returns-3 c =
+    let d = c .before .before .before .before .before .before .before .before .before .before .before .args .self in
+    let v : valid d ≡ true = sym (c .before .before .before .before .before .before .before .before .before .before .valid .ensures) ∙ not-false _ (c .before .before .before .before .before .before .before .before .before .if1 .left) in
+    let e : c .before .before .before .before .before .before .before .bits-of .result ≡ gainBits (d .stages) (d .r) = c .before .before .before .before .before .before .before .bits-of .ensures ∙ ap bitsOf (c .before .before .before .before .before .before .before .before .gain-of .ensures) in
+    rw (
+      v,
+      ← e,
+      le-leb _ _ (c .before .before .before .before .before .before .if2 .left),
+      c .scaled-output-of .ensures .0,
+      c .scaled-output-of .ensures .1,
+      c .before .sample-at .ensures .0,
+      c .before .sample-at .ensures .1,
+      toZ-ofZ (c .before .before .before .before .before .before .before .before .before .before .before .fits .input),
+    )
 
 pub process-sample-scaled-spec : {M : Type 1} → statement M
 process-sample-scaled-spec =
