@@ -1,0 +1,85 @@
+// Records are lists of words. tests/oracle/README.md has their format.
+
+// A lent slice holds at most so many elements: 01's limit of 65,536, and some more to exceed it.
+pub const LONGEST: usize = 65600;
+
+// Where a comparison stands once a word differed: past the end of every record.
+const LOST: usize = usize::MAX;
+
+// The word at a place, 0 past the end.
+pub fn word(w: &[u32], at: usize) -> u32 {
+    if at < w.len() { w[at] } else { 0 }
+}
+
+// What follows the first `count` words.
+pub fn rest(w: &[u32], count: usize) -> &[u32] {
+    if count <= w.len() {
+        return &w[count..];
+    }
+    &w[..0]
+}
+
+// The i32 whose two's complement a word is.
+fn signed(x: u32) -> i32 {
+    if x < 2147483648 {
+        return x as i32;
+    }
+    !((4294967295 - x) as i32)
+}
+
+pub fn number(w: &[u32], at: usize) -> i32 {
+    signed(word(w, at))
+}
+
+// A usize or a u64: the low word, then the high one.
+pub fn long(w: &[u32], at: usize) -> usize {
+    if w.len() <= at {
+        return 0;
+    }
+    (word(w, at) as usize) + (word(w, at + 1) as usize) * 4294967296
+}
+
+pub fn eight(w: &[u32]) -> [i32; 8] {
+    [
+        number(w, 0),
+        number(w, 1),
+        number(w, 2),
+        number(w, 3),
+        number(w, 4),
+        number(w, 5),
+        number(w, 6),
+        number(w, 7),
+    ]
+}
+
+// One more word of a record is as expected: the place after it.
+pub fn same(w: &[u32], at: usize, x: u32) -> usize {
+    if at < w.len() {
+        if w[at] == x {
+            return at + 1;
+        }
+    }
+    LOST
+}
+
+pub fn same_number(w: &[u32], at: usize, x: i32) -> usize {
+    if number(w, at) == x {
+        return same(w, at, word(w, at));
+    }
+    LOST
+}
+
+pub fn same_long(w: &[u32], at: usize, x: u64) -> usize {
+    let next = same(w, at, (x % 4294967296) as u32);
+    same(w, next, (x / 4294967296) as u32)
+}
+
+pub fn same_numbers(w: &[u32], at: usize, numbers: &[i32]) -> usize {
+    let mut next = at;
+    let mut i = 0;
+    while i < numbers.len() {
+        next = same_number(w, next, numbers[i]);
+        i += 1;
+    }
+    next
+}

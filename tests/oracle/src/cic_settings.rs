@@ -1,0 +1,74 @@
+//! The settings of a CIC converter, N and r: within 01's limits, at their ends and outside.
+
+use crate::rng::Rng;
+
+const LEAST_OUTSIDE: u64 = 4097;
+
+pub fn stages(rng: &mut Rng) -> u64 {
+    rng.within(1, 8)
+}
+
+/// A factor within the limits, small ones often.
+pub fn factor(rng: &mut Rng) -> u64 {
+    match rng.below(16) {
+        0 => rng.within(1, 4096),
+        1 => rng.within(65, 512),
+        2 => (1u64 << rng.within(1, 12)) - rng.below(2),
+        3 => rng.pick(&[4096, 4095]),
+        4 | 5 => rng.within(13, 16),
+        6 | 7 => rng.within(9, 64),
+        _ => rng.within(1, 8),
+    }
+}
+
+/// A factor of at most `most`.
+pub fn factor_up_to(rng: &mut Rng, most: u64) -> u64 {
+    loop {
+        let r = factor(rng);
+        if r <= most {
+            return r;
+        }
+    }
+}
+
+pub fn bad_stages(rng: &mut Rng) -> u64 {
+    rng.pick(&[0, 0, 9, 9, 10, 4096, 1 << 32, (1 << 32) + 1, u64::MAX])
+}
+
+pub fn bad_factor(rng: &mut Rng) -> u64 {
+    let far = rng.next() | 1 << 40;
+    rng.pick(&[0, 0, LEAST_OUTSIDE, LEAST_OUTSIDE, 1 << 32, (1 << 32) + 1, u64::MAX, far])
+}
+
+/// Settings of which one or both may be outside the limits.
+pub fn any(rng: &mut Rng) -> (u64, u64) {
+    match rng.below(8) {
+        0 => (bad_stages(rng), factor(rng)),
+        1 => (stages(rng), bad_factor(rng)),
+        2 => (bad_stages(rng), bad_factor(rng)),
+        _ => (stages(rng), factor(rng)),
+    }
+}
+
+/// Calls a function that is generic over the number of stages with the constant equal to `$stages`.
+macro_rules! with_stages {
+    ($stages:expr, $function:ident($($argument:expr),*)) => {
+        match $stages {
+            1 => $function::<1>($($argument),*),
+            2 => $function::<2>($($argument),*),
+            3 => $function::<3>($($argument),*),
+            4 => $function::<4>($($argument),*),
+            5 => $function::<5>($($argument),*),
+            6 => $function::<6>($($argument),*),
+            7 => $function::<7>($($argument),*),
+            8 => $function::<8>($($argument),*),
+            _ => unreachable!("the refusals come first"),
+        }
+    };
+}
+pub(crate) use with_stages;
+
+/// The first N of eight places.
+pub fn front<const N: usize>(places: &[i32; 8]) -> [i32; N] {
+    std::array::from_fn(|i| places[i])
+}

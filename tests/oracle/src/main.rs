@@ -1,0 +1,88 @@
+//! Lists what the unchanged Rust answers on seeded cases. ../README.md has the records' format.
+
+mod cic_decimator;
+mod cic_interpolator;
+mod cic_settings;
+mod lent;
+mod record;
+mod refusals;
+mod rng;
+mod samples;
+
+use record::Record;
+use rng::Rng;
+use std::io::{self, BufWriter, Write};
+use std::process::ExitCode;
+
+type Cases = fn(&mut Rng) -> Vec<Record>;
+
+const CONVERTERS: [(&str, Cases); 2] = [
+    ("cic_decimator", cic_decimator::cases),
+    ("cic_interpolator", cic_interpolator::cases),
+];
+
+const USAGE: &str = "usage: oracle list --seed S --cases N [--only NAME]";
+
+struct Request {
+    seed: u64,
+    cases: usize,
+    converters: Vec<Cases>,
+}
+
+fn request(mut words: impl Iterator<Item = String>) -> Option<Request> {
+    if words.next()? != "list" {
+        return None;
+    }
+    let (mut seed, mut cases, mut only) = (None, None, None);
+    while let Some(word) = words.next() {
+        let value = words.next()?;
+        match word.as_str() {
+            "--seed" => seed = Some(value.parse().ok()?),
+            "--cases" => cases = Some(value.parse().ok()?),
+            "--only" => only = Some(value),
+            _ => return None,
+        }
+    }
+    let wanted = |name: &str| only.as_deref().is_none_or(|o| o == name);
+    let converters: Vec<Cases> = CONVERTERS
+        .iter()
+        .filter(|(name, _)| wanted(name))
+        .map(|&(_, cases)| cases)
+        .collect();
+    if converters.is_empty() {
+        return None;
+    }
+    Some(Request {
+        seed: seed?,
+        cases: cases?,
+        converters,
+    })
+}
+
+fn list(request: &Request, out: &mut impl Write) -> io::Result<()> {
+    let mut rng = Rng::new(request.seed);
+    let mut left = request.cases;
+    while left > 0 {
+        let cases = rng.pick(&request.converters);
+        let records = cases(&mut rng);
+        for record in records.iter().take(left) {
+            record.write(out)?;
+        }
+        left -= records.len().min(left);
+    }
+    out.flush()
+}
+
+fn main() -> ExitCode {
+    let Some(request) = request(std::env::args().skip(1)) else {
+        eprintln!("{USAGE}");
+        return ExitCode::from(2);
+    };
+    match list(&request, &mut BufWriter::new(io::stdout().lock())) {
+        Ok(()) => ExitCode::SUCCESS,
+        Err(error) => {
+            eprintln!("oracle: {error}");
+            ExitCode::FAILURE
+        }
+    }
+}
