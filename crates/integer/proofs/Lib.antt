@@ -3,9 +3,12 @@ pub mod Run
 pub mod Turning
 pub mod Held
 pub mod Bits
+pub mod Within
 pub mod Hogenauer
 pub mod Towers
-pub mod Within
 pub mod Decimating
 pub mod Streaming
 pub mod Blocking
+pub mod Stuffing
+pub mod Filling
+pub mod Interpolating

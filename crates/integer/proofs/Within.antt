@@ -6,6 +6,7 @@ use borrow.Author.Tests.{leb-true, ltb-true}
 use lib.Dec.{leb, ltb}
 use Rattle.integer.specs.Limits.{oneTo, stagesOk, factorOk}
 use Rattle.integer.specs.CicDecimator.{validAt}
+use Rattle.integer.specs.CicInterpolator.{validAt as interpolatorValid}
 
 pub and-true : (a b : Bool) → (a && b) ≡ true → (a ≡ true) × (b ≡ true)
 and-true true b e = (refl, e)
@@ -39,3 +40,8 @@ sound N r counter e =
     let t = and-true (factorOk r) (ltb counter r) (s .1) in
     let b = factor-within r (t .0) in
     record { stages = s .0; factor = t .0; least = b .0; most = b .1; below = ltb-true counter r (t .1) }
+
+-- a valid interpolator has a stage at least, and so a stage fewer can be counted
+pub interpolator-stages : (N r : ℕ) → interpolatorValid N r ≡ true → 1 ≤ N
+unfolding interpolatorValid
+interpolator-stages N r e = stages-within N (and-true (stagesOk N) (factorOk r) e .0) .0

@@ -3,3 +3,4 @@ pub mod Stages
 pub mod Gain
 pub mod MovingSums
 pub mod CicDecimator
+pub mod CicInterpolator

@@ -1,6 +1,8 @@
--- 01, section 1: "Output k is made at sample (k+1)r−1 and is, modulo 2^32 as i32, the N-fold length-r moving sum there (Hogenauer 1981)."
+-- 01, sections 1 and 7, moving sums of whole lists. Section 1: "Output k is made at sample (k+1)r−1 and is, modulo 2^32 as i32, the N-fold length-r moving sum there (Hogenauer 1981)."
+use mathlib.Core.Bool.{cond}
 use mathlib.Core.List.{List}
-use Prim.Native.Nat.{ℕ, zero, suc, _+_, _-_, _*_, _/_, _^_}
+use Prim.Native.Nat.{ℕ, zero, suc, _+_, _-_, _*_, _/_, _%_, _^_}
+use lib.Dec.{eqb}
 use lib.IntN.{ℤ, pos, _+ℤ_}
 use lib.ListN.{length, getD}
 use mir.Syntax.{w32}
@@ -43,3 +45,11 @@ sums N r w = listed (length w / r) (sumAt N r (signalOf w))
 -- "`process_sample_scaled` yields floor(sum / 2^g)"
 unfoldable pub scaledSums : ℕ → ℕ → List ℤ → List ℤ
 scaledSums N r w = listed (length w / r) (λ k. floorDiv (sumAt N r (signalOf w) k) (2 ^ gainBits N r))
+
+-- section 7: "inputs each followed by r−1 zeros"
+abbrev pub stuffed : ℕ → Signal → Signal
+stuffed r f t = cond (eqb (t % r) 0) (f (t / r)) (pos 0)
+
+-- "the N-fold length-r moving sum, modulo 2^32" of them, r outputs for each of a list's samples
+unfoldable pub stuffedSums : ℕ → ℕ → List ℤ → List ℤ
+stuffedSums N r w = listed (length w * r) (λ t. wrap w32 (fold N (movingSum r) (stuffed r (signalOf w)) t))

@@ -22,7 +22,7 @@ use Rattle.integer.proofs.cic_decimator.CicDecimator.process_block.Stat
 use Rattle.integer.proofs.cic_decimator.CicDecimator.process_block.Tie as tie
 
 abbrev Inv-loop : tie.InvT-loop
-Inv-loop src dst₀ stages r counter₀ integrators₀ combs₀ taken₀ written₀ dst counter integrators combs taken written = 
+Inv-loop src dst₀ stages r counter₀ integrators₀ combs₀ taken₀ written₀ dst counter integrators combs taken written =
     Midway machine 0 Good law (decimatorOf stages r integrators₀ combs₀ counter₀) src dst₀ dst (decimatorOf stages r integrators combs counter) taken written
 
 abbrev μ-loop : tie.MeasureT-loop

@@ -1,0 +1,181 @@
+// 01, section 7: the cascaded integrator-comb interpolator.
+ghost use mathlib.Core.Path.{_≡_};
+ghost use mathlib.Core.List.{_++_};
+ghost use Prim.Native.Nat.{_-_, _≤_};
+ghost use lib.ListN.{length, drop};
+ghost use Rattle.refusal.specs.Outcome.{openingNumber};
+ghost use Rattle.integer.specs.Gain.{gainOf, gainBits, toldGain, toldBits, Least};
+ghost use Rattle.integer.specs.CicInterpolator as I;
+use crate::gain::Gain;
+use crate::gain::GainBits;
+use crate::gain::bits_of;
+use crate::gain::gain_of;
+use crate::limits::MAX_STAGES;
+use crate::limits::factor_ok;
+use crate::limits::stages_ok;
+use crate::stages::comb;
+use crate::stages::integrate;
+use refusal::Count;
+use refusal::Opening;
+use refusal::Refusal;
+
+pub struct CicInterpolator {
+    pub stages: usize,
+    pub r: usize,
+    pub comb_state: [i32; MAX_STAGES],
+    pub integrator_state: [i32; MAX_STAGES],
+}
+
+// An opening, with the state beside it.
+pub struct CicInterpolatorOpened {
+    pub answer: Opening,
+    pub state: CicInterpolator,
+}
+
+// What a sample gave: how many outputs stand in front of the span, and the next state.
+pub struct CicInterpolated {
+    pub written: Count,
+    pub state: CicInterpolator,
+}
+
+fn zeros(stages: usize, r: usize) -> CicInterpolator
+    ensures { λ d. ⌜ d ≡ I.fresh stages r ⌝ }
+{
+    CicInterpolator {
+        stages,
+        r,
+        comb_state: [0; MAX_STAGES],
+        integrator_state: [0; MAX_STAGES],
+    }
+}
+
+fn valid(stages: usize, r: usize) -> bool
+    ensures { λ b. ⌜ b ≡ I.validAt stages r ⌝ }
+{
+    if !stages_ok(stages) {
+        return false;
+    }
+    factor_ok(r)
+}
+
+// r values out of the integrators, which are held in a local: input goes in, and then zeros.
+fn fill_of(
+    stages: usize,
+    integrators: &mut [i32; MAX_STAGES],
+    input: i32,
+    r: usize,
+    out_buf: &mut [i32],
+)
+    requires { ⌜ r ≤ length (now «out_buf») ⌝ }
+    ensures { λ _. ⌜ (now (integrators .exit) ≡ I.filled stages (now (integrators .entry)) input r .state) × (now («out_buf» .exit) ≡ I.filled stages (now (integrators .entry)) input r .outs ++ drop r (now («out_buf» .entry))) ⌝ }
+{
+    let mut held = *integrators;
+    let mut val = input;
+    let mut i = 0;
+    while i < r {
+        let y = integrate(stages, &mut held, val);
+        out_buf[i] = y;
+        val = 0;
+        i += 1;
+    }
+    *integrators = held;
+}
+
+// The same, the number of stages a constant in each arm, so that the compiler unrolls the integrators.
+fn fill(
+    stages: usize,
+    integrators: &mut [i32; MAX_STAGES],
+    input: i32,
+    r: usize,
+    out_buf: &mut [i32],
+)
+    requires { ⌜ r ≤ length (now «out_buf») ⌝ }
+    ensures { λ _. ⌜ (now (integrators .exit) ≡ I.filled stages (now (integrators .entry)) input r .state) × (now («out_buf» .exit) ≡ I.filled stages (now (integrators .entry)) input r .outs ++ drop r (now («out_buf» .entry))) ⌝ }
+{
+    match stages {
+        1 => fill_of(1, integrators, input, r, out_buf),
+        2 => fill_of(2, integrators, input, r, out_buf),
+        3 => fill_of(3, integrators, input, r, out_buf),
+        4 => fill_of(4, integrators, input, r, out_buf),
+        5 => fill_of(5, integrators, input, r, out_buf),
+        6 => fill_of(6, integrators, input, r, out_buf),
+        7 => fill_of(7, integrators, input, r, out_buf),
+        _ => fill_of(stages, integrators, input, r, out_buf),
+    }
+}
+
+impl CicInterpolator {
+    // The clause `stream` is the dual of Hogenauer's theorem, for every list of samples.
+    pub fn new(stages: usize, r: usize) -> CicInterpolatorOpened
+        ensures answer { λ o. ⌜ I.toldOpening o ≡ I.opening stages r ⌝ }
+        ensures stream { λ o. ⌜ (openingNumber (o .answer) ≡ 0 → I.Streams stages r (o .state)) ⌝ }
+    {
+        if !stages_ok(stages) {
+            return CicInterpolatorOpened {
+                answer: Opening::Refused(Refusal::Stages),
+                state: zeros(0, 0),
+            };
+        }
+        if !factor_ok(r) {
+            return CicInterpolatorOpened {
+                answer: Opening::Refused(Refusal::Factor),
+                state: zeros(0, 0),
+            };
+        }
+        CicInterpolatorOpened {
+            answer: Opening::Opened,
+            state: zeros(stages, r),
+        }
+    }
+
+    // r^(N - 1), held at 2^64 - 1.
+    pub fn gain(self) -> Gain
+        ensures answer { λ g. ⌜ toldGain g ≡ I.onState self (gainOf (self .stages - 1) (self .r)) ⌝ }
+    {
+        if !valid(self.stages, self.r) {
+            return Gain::Refused(Refusal::State);
+        }
+        Gain::Value(gain_of(self.stages - 1, self.r))
+    }
+
+    // The least g with 2^g no less than the gain.
+    pub fn gain_bits(self) -> GainBits
+        ensures answer { λ b. ⌜ toldBits b ≡ I.onState self (gainBits (self .stages - 1) (self .r)) ⌝ }
+        ensures least { λ b. ⌜ (toldBits b .number ≡ 0 → Least (gainOf (self .stages - 1) (self .r)) (toldBits b .value)) ⌝ }
+    {
+        if !valid(self.stages, self.r) {
+            return GainBits::Refused(Refusal::State);
+        }
+        GainBits::Value(bits_of(gain_of(self.stages - 1, self.r)))
+    }
+
+    // One sample gives r outputs, in front of out_buf.
+    pub fn process_sample(mut self, input: i32, out_buf: &mut [i32]) -> CicInterpolated
+        ensures answer { λ s. ⌜ I.toldSample s ≡ I.sample self input (now («out_buf» .entry)) ⌝ }
+        ensures span { λ s. ⌜ now («out_buf» .exit) ≡ I.sampleSpan self input (now («out_buf» .entry)) ⌝ }
+    {
+        let r = self.r;
+        if !valid(self.stages, r) {
+            return CicInterpolated {
+                written: Count::Refused(Refusal::State),
+                state: self,
+            };
+        }
+        if out_buf.len() < r {
+            return CicInterpolated {
+                written: Count::Refused(Refusal::Span),
+                state: self,
+            };
+        }
+        let mut combs = self.comb_state;
+        let val = comb(self.stages, &mut combs, input);
+        let mut integrators = self.integrator_state;
+        fill(self.stages, &mut integrators, val, r, out_buf);
+        self.comb_state = combs;
+        self.integrator_state = integrators;
+        CicInterpolated {
+            written: Count::Written(r),
+            state: self,
+        }
+    }
+}
