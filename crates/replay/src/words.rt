@@ -1,7 +1,4 @@
-// Records are lists of words. tests/oracle/README.md has their format.
-
-// A lent slice holds at most so many elements: 01's limit of 65,536, and some more to exceed it.
-pub const LONGEST: usize = 65600;
+// A record's words, and the comparison of answers with them. tests/oracle/README.md has the format.
 
 // Where a comparison stands once a word differed: past the end of every record.
 const LOST: usize = usize::MAX;
@@ -9,6 +6,14 @@ const LOST: usize = usize::MAX;
 // The word at a place, 0 past the end.
 pub fn word(w: &[u32], at: usize) -> u32 {
     if at < w.len() { w[at] } else { 0 }
+}
+
+// The first `count` words.
+pub fn first(w: &[u32], count: usize) -> &[u32] {
+    if count <= w.len() {
+        return &w[0..count];
+    }
+    w
 }
 
 // What follows the first `count` words.
@@ -19,8 +24,8 @@ pub fn rest(w: &[u32], count: usize) -> &[u32] {
     &w[..0]
 }
 
-// The i32 whose two's complement a word is.
-fn signed(x: u32) -> i32 {
+// The i32 whose two's complement x is.
+pub fn signed(x: u32) -> i32 {
     if x < 2147483648 {
         return x as i32;
     }
@@ -39,6 +44,7 @@ pub fn long(w: &[u32], at: usize) -> usize {
     (word(w, at) as usize) + (word(w, at + 1) as usize) * 4294967296
 }
 
+// The first eight words as the places of a state.
 pub fn eight(w: &[u32]) -> [i32; 8] {
     [
         number(w, 0),
@@ -52,7 +58,7 @@ pub fn eight(w: &[u32]) -> [i32; 8] {
     ]
 }
 
-// One more word of a record is as expected: the place after it.
+// Where the comparison stands after x: at the next word, or lost.
 pub fn same(w: &[u32], at: usize, x: u32) -> usize {
     if at < w.len() {
         if w[at] == x {
@@ -69,7 +75,7 @@ pub fn same_number(w: &[u32], at: usize, x: i32) -> usize {
     LOST
 }
 
-pub fn same_long(w: &[u32], at: usize, x: u64) -> usize {
+pub fn same_long(w: &[u32], at: usize, x: usize) -> usize {
     let next = same(w, at, (x % 4294967296) as u32);
     same(w, next, (x / 4294967296) as u32)
 }
