@@ -14,7 +14,7 @@ use text::Read;
 // The most words of a record, with the bytes that these take. 8 MiB of stack have room for both.
 const MOST_WORDS: usize = 200000;
 
-const MOST_BYTES: usize = 1800000;
+const MOST_BYTES: usize = MOST_WORDS * 9;
 
 // No list has so many records: the loop over them is proved to end by it.
 const MOST_RECORDS: u64 = 1099511627776;

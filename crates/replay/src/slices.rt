@@ -1,6 +1,7 @@
 // Slices that a record lends: a word each for length, pattern and count of those listed, then the listed elements. An element behind them is the pattern plus its index, modulo 2^32.
 ghost use mathlib.Core.Path.{_≡_};
 ghost use lib.ListN as ListN;
+use crate::words::LOST;
 use crate::words::number;
 use crate::words::rest;
 use crate::words::same;
@@ -63,20 +64,23 @@ fn same_place(w: &[u32], at: usize, is_listed: bool, x: i32, as_lent: i32) -> us
     if x == as_lent {
         return at;
     }
-    usize::MAX
+    LOST
 }
 
 // A span after the call: a count, so many places, and those behind them as lent.
 pub fn same_span(w: &[u32], at: usize, lent: &[u32], places: &[i32]) -> usize {
-    let changed = word(w, at);
+    let changed = word(w, at) as usize;
+    if places.len() < changed {
+        return LOST;
+    }
     let listed = rest(lent, 3);
     let count = word(lent, 2) as usize;
     let mut pattern = word(lent, 1);
-    let mut next = same(w, at, changed);
+    let mut next = same(w, at, word(w, at));
     let mut i = 0;
     while i < places.len() {
         let as_lent = element(listed, count, i, pattern);
-        next = same_place(w, next, i < (changed as usize), places[i], as_lent);
+        next = same_place(w, next, i < changed, places[i], as_lent);
         pattern = std::num::wrapping_add_u32(pattern, 1);
         i += 1;
     }

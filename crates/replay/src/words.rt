@@ -1,7 +1,7 @@
 // A record's words, and the comparison of answers with them. tests/oracle/README.md has the format.
 
 // Where a comparison stands once a word differed: past the end of every record.
-const LOST: usize = usize::MAX;
+pub const LOST: usize = usize::MAX;
 
 // The word at a place, 0 past the end.
 pub fn word(w: &[u32], at: usize) -> u32 {

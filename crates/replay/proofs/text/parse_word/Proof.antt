@@ -1,11 +1,8 @@
+-- `replay::text::parse_word` is safe and ends: eight digits, of which what is left is the measure, and a value whose top digit is dropped before the next is added.
 use Prim.Native.Nat.{_≤_, _-_}
-use native.Mathlib.Omega.{arith}
 use borrow.Author.Needs.{needs}
 use Rattle.replay.proofs.text.parse_word.Statement.{statement}
 use Rattle.replay.proofs.text.parse_word.Tie as tie
-use Rattle.replay.proofs.text.parse_word.Reads as reads
-use Rattle.replay.proofs.text.parse_word.Lts as lts
-use Rattle.replay.proofs.text.digit.Reads as digit-reads
 
 abbrev Inv-loop : tie.InvT-loop
 Inv-loop text separator value₀ i₀ value i = i ≤ 8
@@ -13,55 +10,42 @@ Inv-loop text separator value₀ i₀ value i = i ≤ 8
 abbrev μ-loop : tie.MeasureT-loop
 μ-loop text separator value₀ i₀ value i = 8 - i
 
--- src/text.rt:38:9
 returns : tie.Need-returns Inv-loop μ-loop
 returns c = search needs
 
--- src/text.rt:40:8
 shared-slice-read-if2 : tie.Need-shared-slice-read-if2 Inv-loop μ-loop
 shared-slice-read-if2 c = search needs
 
--- src/text.rt:41:9
 returns-2 : tie.Need-returns-2 Inv-loop μ-loop
 returns-2 c = search needs
 
--- src/text.rt:45:5
 loop-holds : tie.Need-loop-holds Inv-loop μ-loop
 loop-holds c = search needs
 
--- src/text.rt:46:23
 shared-slice-read-digit : tie.Need-shared-slice-read-digit Inv-loop μ-loop
 shared-slice-read-digit c = search needs
 
--- src/text.rt:46:13
 digit-requires : tie.Need-digit-requires Inv-loop μ-loop
 digit-requires c κs = search needs
 
--- src/text.rt:48:13
 returns-3 : tie.Need-returns-3 Inv-loop μ-loop
 returns-3 c = search needs
 
--- src/text.rt:50:17
 mul-value : tie.Need-mul-value Inv-loop μ-loop
 mul-value c = search needs
 
--- src/text.rt:50:17
 add-value : tie.Need-add-value Inv-loop μ-loop
 add-value c = search needs
 
--- src/text.rt:51:9
 add-i : tie.Need-add-i Inv-loop μ-loop
 add-i c = search needs
 
--- src/text.rt:45:5
 loop-less : tie.Need-loop-less Inv-loop μ-loop
 loop-less c = search needs
 
--- src/text.rt:45:5
 loop-again : tie.Need-loop-again Inv-loop μ-loop
 loop-again c = search needs
 
--- src/text.rt:36:1
 returns-4 : tie.Need-returns-4 Inv-loop μ-loop
 returns-4 c = search needs
 
