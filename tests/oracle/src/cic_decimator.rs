@@ -261,13 +261,13 @@ fn midway(rng: &mut Rng) -> State {
 /// A state that 15 turns back.
 fn damaged(rng: &mut Rng) -> State {
     let mut state = midway(rng);
-    match rng.below(4) {
+    match rng.below(5) {
         0 => state.stages = cic_settings::bad_stages(rng),
         1 => state.r = cic_settings::bad_factor(rng),
         2 => state = State::zeros(0, 0),
         _ => {
-            let past = rng.pick(&[0, 1, 4096, 1 << 32]);
-            state.sample_counter = rng.pick(&[state.r + past, u64::MAX]);
+            let r = state.r;
+            state.sample_counter = rng.pick(&[r, r, r + 1, r + (1 << 32), u64::MAX]);
         }
     }
     state
