@@ -12,3 +12,4 @@ pub mod Blocking
 pub mod Stuffing
 pub mod Filling
 pub mod Interpolating
+pub mod Readings

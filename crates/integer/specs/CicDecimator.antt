@@ -12,10 +12,10 @@ use Rattle.theory.specs.Sections.{Section, state, outs}
 use Rattle.theory.specs.Machines.{Machine, alone}
 use Rattle.theory.specs.Feeds.{Fed, feed, History, Promised}
 use Rattle.refusal.specs.Table.{numberOf}
-use Rattle.refusal.specs.Outcome.{Answer, Outcome, Opened, openingNumber, Moved, countsAnswer}
+use Rattle.refusal.specs.Outcome.{Outcome, Opened, openingNumber, Moved, countsAnswer}
 use Rattle.integer.specs.Limits.{mostStages, stagesOk, factorOk}
 use Rattle.integer.specs.Stages.{integrated, combed}
-use Rattle.integer.specs.Gain.{gainOf, gainBits, mostBits}
+use Rattle.integer.specs.Gain.{gainBits, mostBits}
 use Rattle.integer.specs.MovingSums.{sums, scaledSums}
 use Rattle.integer.specs.declared.cic_decimator.CicDecimator.{CicDecimator}
 use Rattle.integer.specs.declared.cic_decimator.CicOpened.{CicOpened}
@@ -42,13 +42,6 @@ validAt N r counter = stagesOk N && (factorOk r && ltb counter r)
 abbrev pub valid : CicDecimator → Bool
 valid d = validAt (d .stages) (d .r) (d .«sample_counter»)
 
--- rows 1 and 2; "a refused opening's state is all zeros"
-unfoldable pub opening : ℕ → ℕ → Opened CicDecimator
-opening N r =
-    cond (stagesOk N)
-    (cond (factorOk r) (record { number = 0; state = fresh N r }) (record { number = 2; state = fresh 0 0 }))
-    (record { number = 1; state = fresh 0 0 })
-
 -- whether the next sample completes no sum
 abbrev pub waits : CicDecimator → Bool
 waits d = ltb (d .«sample_counter» + 1) (d .r)
@@ -67,12 +60,16 @@ decimator =
           (some (combed (d .stages) (d .«comb_state») (integrated (d .stages) (d .«integrator_state») x .val) .val));
     }
 
+-- a sample that is refused: no sum, and "state stays"
+abbrev pub refusedStep : ℕ → CicDecimator → Outcome (Option ℤ) CicDecimator
+refusedStep n d = record { number = n; value = none; state = d }
+
 -- `process_sample`
 unfoldable pub step : CicDecimator → ℤ → Outcome (Option ℤ) CicDecimator
 step d x =
     cond (valid d)
     (record { number = 0; value = decimator .out d x; state = decimator .next d x })
-    (record { number = 15; value = none; state = d })
+    (refusedStep 15 d)
 
 -- "floor(sum / 2^g)"
 abbrev pub scaledBy : ℕ → Option ℤ → Option ℤ
@@ -89,12 +86,8 @@ scaledStep d x =
     cond (valid d)
     (cond (leb (gainBits (d .stages) (d .r)) mostBits)
     (record { number = 0; value = scaledDecimator .out d x; state = scaledDecimator .next d x })
-    (record { number = 3; value = none; state = d }))
-    (record { number = 15; value = none; state = d })
-
--- `gain` and `gain_bits`: a number on a state
-unfoldable pub onState : CicDecimator → ℕ → Answer ℕ
-onState d n = cond (valid d) (record { number = 0; value = n }) (record { number = 15; value = 0 })
+    (refusedStep 3 d))
+    (refusedStep 15 d)
 
 -- the decimator as a machine with nothing ever due, and a feed of it: a full span stops it, else the next sample is taken (section 6's step)
 abbrev pub machine : Machine CicDecimator ℤ ℤ

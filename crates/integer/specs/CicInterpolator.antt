@@ -8,7 +8,7 @@ use lib.IntN.{ℤ, pos}
 use lib.ListN.{length, drop, getD, replicate}
 use mir.Syntax.{w32}
 use mir.Val.{SFits}
-use Rattle.refusal.specs.Outcome.{Answer, Outcome, Opened, openingNumber, countAnswer}
+use Rattle.refusal.specs.Outcome.{Outcome, Opened, openingNumber, countAnswer}
 use Rattle.integer.specs.Limits.{mostStages, stagesOk, factorOk}
 use Rattle.integer.specs.Stages.{integrated, combed}
 use Rattle.integer.specs.MovingSums.{stuffedSums}
@@ -30,13 +30,6 @@ validAt N r = stagesOk N && factorOk r
 
 abbrev pub valid : CicInterpolator → Bool
 valid d = validAt (d .stages) (d .r)
-
--- rows 1 and 2; "a refused opening's state is all zeros"
-unfoldable pub opening : ℕ → ℕ → Opened CicInterpolator
-opening N r =
-    cond (stagesOk N)
-    (cond (factorOk r) (record { number = 0; state = fresh N r }) (record { number = 2; state = fresh 0 0 }))
-    (record { number = 1; state = fresh 0 0 })
 
 -- the integrators as a run leaves them, and the values that came out
 pub record Filled : Type 0 where
@@ -67,10 +60,6 @@ sample d x span =
 
 unfoldable pub sampleSpan : CicInterpolator → ℤ → List ℤ → List ℤ
 sampleSpan d x span = cond (valid d) (cond (leb (d .r) (length span)) (raised d x .outs ++ drop (d .r) span) span) span
-
--- `gain` and `gain_bits`: a number on a state
-unfoldable pub onState : CicInterpolator → ℕ → Answer ℕ
-onState d n = cond (valid d) (record { number = 0; value = n }) (record { number = 15; value = 0 })
 
 -- what the answers tell
 abbrev pub toldOpening : CicInterpolatorOpened → Opened CicInterpolator

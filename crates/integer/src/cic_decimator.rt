@@ -3,7 +3,9 @@ ghost use mathlib.Core.Path.{_≡_};
 ghost use Prim.Native.Nat.{_+_, _≤_, min};
 ghost use lib.Dec.{ltb};
 ghost use lib.ListN.{length};
+ghost use Rattle.refusal.specs.Table.{numberOf};
 ghost use Rattle.refusal.specs.Outcome.{openingNumber};
+ghost use Rattle.integer.specs.Opening.{opening, onState};
 ghost use Rattle.integer.specs.Gain.{gainOf, gainBits, toldGain, toldBits, Least};
 ghost use Rattle.integer.specs.CicDecimator as D;
 use crate::gain::Gain;
@@ -125,6 +127,15 @@ pub fn sample_at(
     }
 }
 
+fn refused(refusal: Refusal, state: CicDecimator) -> CicStep
+    ensures { λ s. ⌜ D.toldStep s ≡ D.refusedStep (numberOf refusal) state ⌝ }
+{
+    CicStep {
+        output: CicOutput::Refused(refusal),
+        state,
+    }
+}
+
 fn output_of(sum: CicSum) -> CicOutput
     ensures { λ o. ⌜ (D.outputNumber o ≡ 0) × (D.outputSum o ≡ D.sumOf sum) ⌝ }
 {
@@ -170,7 +181,7 @@ fn assembled(
 impl CicDecimator {
     // 01, section 1. The clause `stream` is Hogenauer's theorem, for every list of samples.
     pub fn new(stages: usize, r: usize) -> CicOpened
-        ensures answer { λ o. ⌜ D.toldOpening o ≡ D.opening stages r ⌝ }
+        ensures answer { λ o. ⌜ D.toldOpening o ≡ opening D.fresh stages r ⌝ }
         ensures stream { λ o. ⌜ (openingNumber (o .answer) ≡ 0 → D.Streams stages r (o .state)) ⌝ }
     {
         if !stages_ok(stages) {
@@ -193,7 +204,7 @@ impl CicDecimator {
 
     // r^N, held at 2^64 - 1.
     pub fn gain(self) -> Gain
-        ensures answer { λ g. ⌜ toldGain g ≡ D.onState self (gainOf (self .stages) (self .r)) ⌝ }
+        ensures answer { λ g. ⌜ toldGain g ≡ onState (D.valid self) (gainOf (self .stages) (self .r)) ⌝ }
     {
         if !valid(self.stages, self.r, self.sample_counter) {
             return Gain::Refused(Refusal::State);
@@ -203,7 +214,7 @@ impl CicDecimator {
 
     // The least g with 2^g no less than the gain.
     pub fn gain_bits(self) -> GainBits
-        ensures answer { λ b. ⌜ toldBits b ≡ D.onState self (gainBits (self .stages) (self .r)) ⌝ }
+        ensures answer { λ b. ⌜ toldBits b ≡ onState (D.valid self) (gainBits (self .stages) (self .r)) ⌝ }
         ensures least { λ b. ⌜ (toldBits b .number ≡ 0 → Least (gainOf (self .stages) (self .r)) (toldBits b .value)) ⌝ }
     {
         if !valid(self.stages, self.r, self.sample_counter) {
@@ -216,10 +227,7 @@ impl CicDecimator {
         ensures answer { λ s. ⌜ D.toldStep s ≡ D.step self input ⌝ }
     {
         if !valid(self.stages, self.r, self.sample_counter) {
-            return CicStep {
-                output: CicOutput::Refused(Refusal::State),
-                state: self,
-            };
+            return refused(Refusal::State, self);
         }
         let mut integrators = self.integrator_state;
         let mut combs = self.comb_state;
@@ -247,17 +255,11 @@ impl CicDecimator {
         ensures answer { λ s. ⌜ D.toldStep s ≡ D.scaledStep self input ⌝ }
     {
         if !valid(self.stages, self.r, self.sample_counter) {
-            return CicStep {
-                output: CicOutput::Refused(Refusal::State),
-                state: self,
-            };
+            return refused(Refusal::State, self);
         }
         let bits = bits_of(gain_of(self.stages, self.r));
         if bits > MAX_BITS {
-            return CicStep {
-                output: CicOutput::Refused(Refusal::GainBits),
-                state: self,
-            };
+            return refused(Refusal::GainBits, self);
         }
         let mut integrators = self.integrator_state;
         let mut combs = self.comb_state;

@@ -4,6 +4,7 @@ ghost use mathlib.Core.List.{_++_};
 ghost use Prim.Native.Nat.{_-_, _≤_};
 ghost use lib.ListN.{length, drop};
 ghost use Rattle.refusal.specs.Outcome.{openingNumber};
+ghost use Rattle.integer.specs.Opening.{opening, onState};
 ghost use Rattle.integer.specs.Gain.{gainOf, gainBits, toldGain, toldBits, Least};
 ghost use Rattle.integer.specs.CicInterpolator as I;
 use crate::gain::Gain;
@@ -107,7 +108,7 @@ fn fill(
 impl CicInterpolator {
     // The clause `stream` is the dual of Hogenauer's theorem, for every list of samples.
     pub fn new(stages: usize, r: usize) -> CicInterpolatorOpened
-        ensures answer { λ o. ⌜ I.toldOpening o ≡ I.opening stages r ⌝ }
+        ensures answer { λ o. ⌜ I.toldOpening o ≡ opening I.fresh stages r ⌝ }
         ensures stream { λ o. ⌜ (openingNumber (o .answer) ≡ 0 → I.Streams stages r (o .state)) ⌝ }
     {
         if !stages_ok(stages) {
@@ -130,7 +131,7 @@ impl CicInterpolator {
 
     // r^(N - 1), held at 2^64 - 1.
     pub fn gain(self) -> Gain
-        ensures answer { λ g. ⌜ toldGain g ≡ I.onState self (gainOf (self .stages - 1) (self .r)) ⌝ }
+        ensures answer { λ g. ⌜ toldGain g ≡ onState (I.valid self) (gainOf (self .stages - 1) (self .r)) ⌝ }
     {
         if !valid(self.stages, self.r) {
             return Gain::Refused(Refusal::State);
@@ -140,7 +141,7 @@ impl CicInterpolator {
 
     // The least g with 2^g no less than the gain.
     pub fn gain_bits(self) -> GainBits
-        ensures answer { λ b. ⌜ toldBits b ≡ I.onState self (gainBits (self .stages - 1) (self .r)) ⌝ }
+        ensures answer { λ b. ⌜ toldBits b ≡ onState (I.valid self) (gainBits (self .stages - 1) (self .r)) ⌝ }
         ensures least { λ b. ⌜ (toldBits b .number ≡ 0 → Least (gainOf (self .stages - 1) (self .r)) (toldBits b .value)) ⌝ }
     {
         if !valid(self.stages, self.r) {

@@ -3,7 +3,8 @@ use mathlib.Core.Path.{_≡_, refl, sym, ap, _∙_, subst⁻¹}
 use mathlib.Core.Bool.{true, false}
 use borrow.Author.Needs.{needs}
 use borrow.Author.Tests.{not-true, not-false}
-use Rattle.integer.specs.CicDecimator.{valid, onState}
+use Rattle.integer.specs.Opening.{onState}
+use Rattle.integer.specs.CicDecimator.{valid}
 use Rattle.integer.proofs.cic_decimator.CicDecimator.gain.Statement.{statement}
 use Rattle.integer.proofs.cic_decimator.CicDecimator.gain.Tie as tie
 

@@ -5,7 +5,8 @@ use native.Mathlib.Omega.{arith}
 use borrow.Author.Needs.{needs}
 use borrow.Author.Tests.{not-true, not-false}
 use Rattle.integer.specs.Gain.{bitsOf, gainOf, Least}
-use Rattle.integer.specs.CicDecimator.{valid, onState}
+use Rattle.integer.specs.Opening.{onState}
+use Rattle.integer.specs.CicDecimator.{valid}
 use Rattle.integer.proofs.Bits.{gain-least}
 use Rattle.integer.proofs.cic_decimator.CicDecimator.gain_bits.Statement.{statement}
 use Rattle.integer.proofs.cic_decimator.CicDecimator.gain_bits.Tie as tie

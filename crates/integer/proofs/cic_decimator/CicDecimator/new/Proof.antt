@@ -5,7 +5,8 @@ use native.Mathlib.Omega.{arith}
 use borrow.Author.Needs.{needs}
 use borrow.Author.Tests.{not-true, not-false}
 use Rattle.integer.specs.Limits.{stagesOk, factorOk}
-use Rattle.integer.specs.CicDecimator.{opening, Streams}
+use Rattle.integer.specs.Opening.{opening}
+use Rattle.integer.specs.CicDecimator.{Streams}
 use Rattle.integer.proofs.Streaming.{streams}
 use Rattle.integer.proofs.cic_decimator.CicDecimator.new.Statement.{statement}
 use Rattle.integer.proofs.cic_decimator.CicDecimator.new.Tie as tie

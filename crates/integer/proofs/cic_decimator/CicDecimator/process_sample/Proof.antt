@@ -11,11 +11,14 @@ use Rattle.integer.proofs.cic_decimator.CicDecimator.process_sample.Tie
 valid-requires : tie.Need-valid-requires
 valid-requires c κs = search needs
 
+refused-requires : tie.Need-refused-requires
+refused-requires c κs = search needs
+
 returns : tie.Need-returns
 unfolding step
 returns c =
-    let v : valid (c .before .before .args .self) ≡ false = sym (c .before .valid .ensures) ∙ not-true _ (c .if1 .taken) in
-    rw v
+    let v : valid (c .before .before .before .args .self) ≡ false = sym (c .before .before .valid .ensures) ∙ not-true _ (c .before .if1 .taken) in
+    rw v (c .refused .ensures)
 
 sample-at-requires : tie.Need-sample-at-requires
 sample-at-requires c κs = search needs
@@ -38,4 +41,4 @@ returns-2 c =
 
 pub process-sample-spec : {M : Type 1} → statement M
 process-sample-spec =
-    tie.close (tie.spec valid-requires returns sample-at-requires output-of-requires returns-2)
+    tie.close (tie.spec valid-requires refused-requires returns sample-at-requires output-of-requires returns-2)

@@ -13,11 +13,14 @@ use Rattle.integer.proofs.cic_decimator.CicDecimator.process_sample_sca
 valid-requires : tie.Need-valid-requires
 valid-requires c κs = search needs
 
+refused-requires : tie.Need-refused-requires
+refused-requires c κs = search needs
+
 returns : tie.Need-returns
 unfolding scaledStep
 returns c =
-    let v : valid (c .before .before .args .self) ≡ false = sym (c .before .valid .ensures) ∙ not-true _ (c .if1 .taken) in
-    rw v
+    let v : valid (c .before .before .before .args .self) ≡ false = sym (c .before .before .valid .ensures) ∙ not-true _ (c .before .if1 .taken) in
+    rw v (c .refused .ensures)
 
 gain-of-requires : tie.Need-gain-of-requires
 gain-of-requires c κs = search needs
@@ -25,13 +28,16 @@ gain-of-requires c κs = search needs
 bits-of-requires : tie.Need-bits-of-requires
 bits-of-requires c κs = search needs
 
+refused-requires-2 : tie.Need-refused-requires-2
+refused-requires-2 c κs = search needs
+
 returns-2 : tie.Need-returns-2
 unfolding scaledStep
 returns-2 c =
-    let d = c .before .before .before .before .before .args .self in
-    let v : valid d ≡ true = sym (c .before .before .before .before .valid .ensures) ∙ not-false _ (c .before .before .before .if1 .left) in
-    let e : c .before .bits-of .result ≡ gainBits (d .stages) (d .r) = c .before .bits-of .ensures ∙ ap bitsOf (c .before .before .gain-of .ensures) in
-    rw (v, ← e, lt-leb _ _ (c .if2 .taken))
+    let d = c .before .before .before .before .before .before .args .self in
+    let v : valid d ≡ true = sym (c .before .before .before .before .before .valid .ensures) ∙ not-false _ (c .before .before .before .before .if1 .left) in
+    let e : c .before .before .bits-of .result ≡ gainBits (d .stages) (d .r) = c .before .before .bits-of .ensures ∙ ap bitsOf (c .before .before .before .gain-of .ensures) in
+    rw (v, ← e, lt-leb _ _ (c .before .if2 .taken)) (c .refused2 .ensures)
 
 sample-at-requires : tie.Need-sample-at-requires
 sample-at-requires c κs = search needs
@@ -61,9 +67,11 @@ process-sample-scaled-spec =
     tie.close
     (tie.spec
     valid-requires
+    refused-requires
     returns
     gain-of-requires
     bits-of-requires
+    refused-requires-2
     returns-2
     sample-at-requires
     scaled-output-of-requires

@@ -5,7 +5,8 @@ use Prim.Native.Nat.{_≤_}
 use native.Mathlib.Omega.{arith}
 use borrow.Author.Needs.{needs}
 use borrow.Author.Tests.{not-true, not-false}
-use Rattle.integer.specs.CicInterpolator.{valid, onState}
+use Rattle.integer.specs.Opening.{onState}
+use Rattle.integer.specs.CicInterpolator.{valid}
 use Rattle.integer.proofs.Within.{interpolator-stages}
 use Rattle.integer.proofs.cic_interpolator.CicInterpolator.gain.Statement.{statement}
 use Rattle.integer.proofs.cic_interpolator.CicInterpolator.gain.Tie as tie

@@ -6,7 +6,8 @@ use native.Mathlib.Omega.{arith}
 use borrow.Author.Needs.{needs}
 use borrow.Author.Tests.{not-true, not-false}
 use Rattle.integer.specs.Gain.{bitsOf, gainOf, Least}
-use Rattle.integer.specs.CicInterpolator.{valid, onState}
+use Rattle.integer.specs.Opening.{onState}
+use Rattle.integer.specs.CicInterpolator.{valid}
 use Rattle.integer.proofs.Bits.{gain-least}
 use Rattle.integer.proofs.Within.{interpolator-stages}
 use Rattle.integer.proofs.cic_interpolator.CicInterpolator.gain_bits.Statement.{statement}

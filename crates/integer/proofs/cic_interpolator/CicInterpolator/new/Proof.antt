@@ -5,7 +5,8 @@ use native.Mathlib.Omega.{arith}
 use borrow.Author.Needs.{needs}
 use borrow.Author.Tests.{not-true, not-false}
 use Rattle.integer.specs.Limits.{stagesOk, factorOk}
-use Rattle.integer.specs.CicInterpolator.{opening, Streams}
+use Rattle.integer.specs.Opening.{opening}
+use Rattle.integer.specs.CicInterpolator.{Streams}
 use Rattle.integer.proofs.Interpolating.{streams}
 use Rattle.integer.proofs.cic_interpolator.CicInterpolator.new.Statement.{statement}
 use Rattle.integer.proofs.cic_interpolator.CicInterpolator.new.Tie as tie
