@@ -1,4 +1,3 @@
-
 // Appended by build.sh to a copy of the unchanged resampling.rs: the states' fields are private there.
 // A constructor from parts and a reader of parts for each state.
 

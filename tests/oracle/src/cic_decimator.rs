@@ -194,7 +194,11 @@ fn block_case(state: &mut State, input: &Lent, span: &Lent) -> Record {
         0 => with_stages!(state.stages, block(state, &input.numbers(), &mut places)),
         _ => (0, 0),
     };
-    record.word(refusal).long(taken).long(written).left(span, &places);
+    record
+        .word(refusal)
+        .long(taken)
+        .long(written)
+        .left(span, &places);
     state.write(&mut record);
     record
 }
@@ -273,29 +277,35 @@ fn damaged(rng: &mut Rng) -> State {
     state
 }
 
-/// Where bits of the gain change: around 31 and 32, at powers of 2, at the gain that is held.
+/// Around the gains r^N whose bits matter.
 fn gain_edge(rng: &mut Rng) -> State {
-    let edges = [(8, 14), (8, 15), (8, 255), (8, 256), (8, 257), (7, 21), (7, 22), (6, 35), (6, 36)];
-    let more = [(1, 1), (1, 4096), (2, 4096), (3, 1290), (3, 1291), (5, 73), (5, 74), (8, 1), (8, 4096)];
     let mut state = midway(rng);
-    (state.stages, state.r) = if rng.one_in(2) { rng.pick(&edges) } else { rng.pick(&more) };
+    state.r = cic_settings::gain_edge(rng, state.stages);
     state.sample_counter = rng.pick(&[0, state.r - 1]);
     state
 }
 
 /// From an opening: calls of every kind, each on the state that the one before left.
 fn stream(rng: &mut Rng) -> Vec<Record> {
-    let (stages, r) = (cic_settings::stages(rng), cic_settings::factor_up_to(rng, 64));
+    let stages = cic_settings::stages(rng);
+    let r = cic_settings::factor_up_to(rng, 64);
     let mut state = with_stages!(stages, opened(r));
-    (0..rng.within(4, 24)).map(|_| any_call(rng, &mut state)).collect()
+    (0..rng.within(4, 24))
+        .map(|_| any_call(rng, &mut state))
+        .collect()
 }
 
 /// From an opening: blocks of many samples at one level, past the first wrap of every integrator.
 fn long_run(rng: &mut Rng) -> Vec<Record> {
-    let (stages, r) = (cic_settings::stages(rng), cic_settings::factor(rng));
+    let stages = cic_settings::stages(rng);
+    let r = cic_settings::factor(rng);
     let mut state = with_stages!(stages, opened(r));
     let level = rng.within(1 << 20, 1 << 28) as u32;
-    let pattern = if rng.one_in(2) { level } else { level.wrapping_neg() };
+    let pattern = if rng.one_in(2) {
+        level
+    } else {
+        level.wrapping_neg()
+    };
     let most = (64 * r).min(LONGEST);
     (0..rng.within(3, 6))
         .map(|_| {
@@ -323,7 +333,7 @@ fn longest_block(rng: &mut Rng) -> Record {
 
 pub fn cases(rng: &mut Rng) -> Vec<Record> {
     match rng.below(64) {
-        0..=7 => vec![new_case(rng)],
+        0..=7 => (0..4).map(|_| new_case(rng)).collect(),
         8..=19 => {
             let mut state = damaged(rng);
             vec![any_call(rng, &mut state)]

@@ -32,7 +32,11 @@ impl State {
     }
 
     fn rust<const N: usize>(&self) -> CicInterpolator<N> {
-        CicInterpolator::from_parts(self.r as usize, front(&self.combs), front(&self.integrators))
+        CicInterpolator::from_parts(
+            self.r as usize,
+            front(&self.combs),
+            front(&self.integrators),
+        )
     }
 
     /// The places at and past N stay.
@@ -181,21 +185,21 @@ fn damaged(rng: &mut Rng) -> State {
     state
 }
 
-/// Where bits of the gain r^(N-1) change: at powers of 2, at the gain that is held, at one stage.
+/// Around the gains r^(N-1) whose bits matter.
 fn gain_edge(rng: &mut Rng) -> State {
-    let edges = [(1, 1), (1, 4096), (2, 1), (2, 4096), (8, 564), (8, 565), (8, 14), (8, 15), (7, 1625), (7, 1626), (8, 4096)];
     let mut state = midway(rng, 4096);
-    if rng.one_in(2) {
-        (state.stages, state.r) = rng.pick(&edges);
-    }
+    state.r = cic_settings::gain_edge(rng, state.stages - 1);
     state
 }
 
 /// From an opening: calls of every kind, each on the state that the one before left.
 fn stream(rng: &mut Rng) -> Vec<Record> {
-    let (stages, r) = (cic_settings::stages(rng), cic_settings::factor_up_to(rng, 24));
+    let stages = cic_settings::stages(rng);
+    let r = cic_settings::factor_up_to(rng, 24);
     let mut state = with_stages!(stages, opened(r));
-    (0..rng.within(4, 24)).map(|_| any_call(rng, &mut state)).collect()
+    (0..rng.within(4, 16))
+        .map(|_| any_call(rng, &mut state))
+        .collect()
 }
 
 /// A span past 65,536 places, which limits other calls and not this one.
@@ -209,7 +213,7 @@ fn longest_span(rng: &mut Rng) -> Record {
 
 pub fn cases(rng: &mut Rng) -> Vec<Record> {
     match rng.below(64) {
-        0..=7 => vec![new_case(rng)],
+        0..=7 => (0..4).map(|_| new_case(rng)).collect(),
         8..=17 => {
             let mut state = damaged(rng);
             vec![any_call(rng, &mut state)]

@@ -2,7 +2,7 @@
 
 use crate::rng::Rng;
 
-const LEAST_OUTSIDE: u64 = 4097;
+const MOST: u64 = 4096;
 
 pub fn stages(rng: &mut Rng) -> u64 {
     rng.within(1, 8)
@@ -11,10 +11,10 @@ pub fn stages(rng: &mut Rng) -> u64 {
 /// A factor within the limits, small ones often.
 pub fn factor(rng: &mut Rng) -> u64 {
     match rng.below(16) {
-        0 => rng.within(1, 4096),
+        0 => rng.within(1, MOST),
         1 => rng.within(65, 512),
         2 => (1u64 << rng.within(1, 12)) - rng.below(2),
-        3 => rng.pick(&[4096, 4095]),
+        3 => rng.pick(&[MOST, MOST - 1]),
         4 | 5 => rng.within(13, 16),
         6 | 7 => rng.within(9, 64),
         _ => rng.within(1, 8),
@@ -31,13 +31,36 @@ pub fn factor_up_to(rng: &mut Rng, most: u64) -> u64 {
     }
 }
 
+/// A factor at which the bits of r^power change: from 31 to 32, to a gain that is held, at a power of 2, at 1.
+pub fn gain_edge(rng: &mut Rng, power: u64) -> u64 {
+    let within = |bits: u32| {
+        let fits = |r: &u64| u128::from(*r).pow(power as u32) <= 1 << bits;
+        (1..=MOST).rev().find(fits).unwrap_or(1)
+    };
+    let last = match rng.below(6) {
+        0 | 1 => within(64),
+        2 => 1 << rng.below(13),
+        _ => within(31),
+    };
+    (last + rng.below(3)).saturating_sub(1).clamp(1, MOST)
+}
+
 pub fn bad_stages(rng: &mut Rng) -> u64 {
     rng.pick(&[0, 0, 9, 9, 10, 4096, 1 << 32, (1 << 32) + 1, u64::MAX])
 }
 
 pub fn bad_factor(rng: &mut Rng) -> u64 {
     let far = rng.next() | 1 << 40;
-    rng.pick(&[0, 0, LEAST_OUTSIDE, LEAST_OUTSIDE, 1 << 32, (1 << 32) + 1, u64::MAX, far])
+    rng.pick(&[
+        0,
+        0,
+        MOST + 1,
+        MOST + 1,
+        1 << 32,
+        (1 << 32) + 1,
+        u64::MAX,
+        far,
+    ])
 }
 
 /// Settings of which one or both may be outside the limits.
