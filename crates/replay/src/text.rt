@@ -9,7 +9,7 @@ const BLANK: u8 = 32;
 
 const LINE_END: u8 = 10;
 
-// What standing before a record finds.
+// What reading a record finds.
 pub enum Read {
     End,
     // So many words.
@@ -59,7 +59,7 @@ fn separator(i: usize, count: usize) -> u8
     if i + 1 < count { BLANK } else { LINE_END }
 }
 
-// As many words as there is room for, out of a text of exactly so many.
+// Fills `words` from a text that has exactly so many.
 fn parse(text: &[u8], words: &mut [u32]) -> bool {
     let count = text.len() / WIDTH;
     let mut i = 0;

@@ -58,7 +58,7 @@ pub fn eight(w: &[u32]) -> [i32; 8] {
     ]
 }
 
-// Where the comparison stands after x: at the next word, or lost.
+// Where the comparison stands after x: at the next word, or lost. A record agrees where it ends at the last word.
 pub fn same(w: &[u32], at: usize, x: u32) -> usize {
     if at < w.len() {
         if w[at] == x {
