@@ -37,6 +37,7 @@ module _ (x : ℤ) (f : SFits w32 x) where
       let s = sub-is-ℤ (pos 0) x in
       let n = fits-is (pos 0 -ℤ x) negated in
       whole (pos 0 -ℤ x) (one-sided (pos 0 -ℤ x) (omega arith)) (omega arith)
+
   above : ltZ (toZ w64 (ofZ w64 x)) (toZ w64 (ofZ w64 (pos 0))) ≡ false → T (nonNeg x) × Fits w64 (natAbs x)
   above e =
       let g = fits-is x f in
@@ -56,7 +57,7 @@ sub-print-decimal : tie.Need-sub-print-decimal
 sub-print-decimal c = rw (toZ-ofZ (c .before .before .before .fits .x), toZ-ofZ (wide (c .before .before .before .args .x) (c .before .before .before .fits .x))) (negated (c .before .before .before .args .x) (c .before .before .before .fits .x))
 
 cast-print-decimal : tie.Need-cast-print-decimal
-cast-print-decimal c = 
+cast-print-decimal c =
     let f = c .before .before .before .fits .x in
     let x = c .before .before .before .args .x in
     rw (toZ-ofZ f, toZ-ofZ (wide x f), toZ-ofZ (negated x f)) (below x f (rw (toZ-ofZ f) at (c .before .before .if1 .taken)))
@@ -74,7 +75,7 @@ words-requires-2 : tie.Need-words-requires-2
 words-requires-2 c κs = search needs
 
 cast-print-decimal-2 : tie.Need-cast-print-decimal-2
-cast-print-decimal-2 c = 
+cast-print-decimal-2 c =
     let f = c .before .before .before .fits .x in
     let x = c .before .before .before .args .x in
     rw (toZ-ofZ f, toZ-ofZ (wide x f)) (above x f (rw (toZ-ofZ f) at (c .before .before .if1 .left)))
