@@ -1,0 +1,4 @@
+pub mod Sums
+pub mod Filling
+pub mod Rows
+pub mod Counts
