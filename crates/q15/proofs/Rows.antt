@@ -2,15 +2,18 @@
 use mathlib.Core.Path.{_≡_, refl, sym, ap, _∙_}
 use mathlib.Core.Bool.{Bool, true, false, cond, true≢false}
 use mathlib.Core.List.{List}
-use Prim.Native.Nat.{ℕ, zero, suc, pred, _≤_, _<_}
+use Prim.Native.Nat.{ℕ, zero, suc, pred, _%_, _≤_}
 use native.Mathlib.Omega.{arith}
-use borrow.Author.Tests.{ltb-false}
-use lib.Dec.{ltb}
-use lib.IntN.{ℤ}
+use borrow.Author.Tests.{eqb-true, ltb-false}
+use lib.Dec.{eqb, ltb}
+use lib.IntN.{ℤ, pos}
+use lib.Signed.{ltZ}
 use Rattle.refusal.specs.declared.Refusal.{Refusal}
 use Rattle.refusal.specs.declared.Refusal.the-variants.{Stages, Factor, GainBits, Span, FirFactor, Taps, Samples, TapsMultiple, Ratio, HalfBandTaps, Depth, Phases, Prototype, Step, State}
 use Rattle.refusal.specs.Table.{numberOf}
 use Rattle.refusal.specs.Outcome.{Answer}
+use Rattle.q15.specs.PolyphaseInterpolate.{interpolateNumber}
+use Rattle.q15.specs.ResampleLinear.{linearNumber}
 use Rattle.q15.specs.Block.{mostFactor, mostBlock, outsideOf, firstOf, samplesNumber, blockNumber, blockAnswer, blockSpan}
 
 pub inside : (n low high : ℕ) → outsideOf n low high ≡ false → (low ≤ n) × (n ≤ high)
@@ -82,6 +85,23 @@ module _ (number : ℕ) (q : Refusal) (e : numberOf q ≡ number) where
       rw turned (ap {B = Answer ℕ} (λ (n : ℕ). record { number = n; value = 0 }) (is-suc q), refl)
 
 -- two rows, neither of which applies
-pub first-passed : (upper lower : ℕ) → firstOf upper lower ≡ 0 → (upper ≡ 0) × (lower ≡ 0)
+first-passed : (upper lower : ℕ) → firstOf upper lower ≡ 0 → (upper ≡ 0) × (lower ≡ 0)
 first-passed zero lower e = (refl, e)
 first-passed (suc q) lower e = absurd (omega (arith, e))
+
+kept : (b : Bool) (q : ℕ) → cond b 0 (suc q) ≡ 0 → b ≡ true
+kept true q e = refl
+kept false q e = absurd (omega (arith, e))
+
+-- rows 8 and 9
+pub interpolate-in : (L T n m : ℕ) → interpolateNumber L T n m ≡ 0 → BlockIn L T n m × (T % L ≡ 0)
+unfolding interpolateNumber
+interpolate-in L T n m e =
+    let a = first-passed (blockNumber L T n m) (cond (eqb (T % L) 0) 0 8) e in
+    (block-in L T n m (a .0), eqb-true (T % L) 0 (kept (eqb (T % L) 0) 7 (a .1)))
+
+pub linear-in : (n m : ℕ) (ratio : ℤ) → linearNumber n m ratio ≡ 0 → SamplesIn n m × (ltZ (pos 0) ratio ≡ true)
+unfolding linearNumber
+linear-in n m ratio e =
+    let a = first-passed (samplesNumber n m) (cond (ltZ (pos 0) ratio) 0 9) e in
+    (samples-in n m (a .0), kept (ltZ (pos 0) ratio) 8 (a .1))
