@@ -76,10 +76,13 @@ filled-written n g d = elim (decLe (length d) n) [
 
 -- the answer and the span of a block that no row turned back
 pub block-filled :
-    (number n k : ℕ) (g : ℕ → ℤ) (d e : List ℤ) → number ≡ 0 → k ≡ min (length d) n → e ≡ listed k g ++ drop k d
-    → (_≡_ {A = Answer ℕ} (record { number = 0; value = k }) (blockAnswer number (min (length d) n))) × (e ≡ blockSpan number (listed n g) d)
-block-filled number n k g d e z h f =
-    rw z (ap {B = Answer ℕ} (λ (m : ℕ). record { number = 0; value = m }) h, f ∙ ap (λ (m : ℕ). listed m g ++ drop m d) h ∙ filled-written n g d)
+    (number n count k : ℕ) (g : ℕ → ℤ) (d e : List ℤ) → number ≡ 0 → count ≡ min (length d) n → k ≡ count → e ≡ listed k g ++ drop k d
+    → (_≡_ {A = Answer ℕ} (record { number = 0; value = k }) (blockAnswer number count)) × (e ≡ blockSpan number (listed n g) d)
+block-filled number n count k g d e z m h f =
+    rw z (
+      ap {B = Answer ℕ} (λ (i : ℕ). record { number = 0; value = i }) h,
+      f ∙ ap (λ (i : ℕ). listed i g ++ drop i d) (h ∙ m) ∙ filled-written n g d,
+    )
 
 -- the first n of a list, and what is left of zeros
 pub listed-take : {A : Type 0} (z : A) (n : ℕ) (c : List A) → n ≤ length c → listed n (λ k. getD c k z) ≡ take n c

@@ -2,3 +2,4 @@ pub mod Sums
 pub mod Filling
 pub mod Rows
 pub mod Counts
+pub mod Between

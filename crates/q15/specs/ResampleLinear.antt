@@ -19,15 +19,15 @@ partOf d frac = floorDiv (d *ℤ pos frac) 65536
 unfoldable pub between : ℤ → ℤ → ℕ → ℤ
 between s0 s1 frac = s0 +ℤ partOf (s1 -ℤ s0) frac
 
--- the index of s1: "s1 = s0 at the last"
-abbrev pub nextIndex : List ℤ → ℕ → ℕ
-nextIndex s i = cond (ltb (i + 1) (length s)) (i + 1) i
+-- the index of s1, of n samples: "s1 = s0 at the last"
+abbrev pub nextIndex : ℕ → ℕ → ℕ
+nextIndex n i = cond (ltb (i + 1) n) (i + 1) i
 
 -- the value at a position in 1/65536ths of a sample: "past the end the last sample", else between the samples at its whole part and after
 unfoldable pub linearAt : List ℤ → ℕ → ℤ
 linearAt s position =
     cond (leb (length s) (position / 65536)) (at s (length s - 1))
-    (between (at s (position / 65536)) (at s (nextIndex s (position / 65536))) (position % 65536))
+    (between (at s (position / 65536)) (at s (nextIndex (length s) (position / 65536))) (position % 65536))
 
 -- "output i at position i × ratio / 65536", for a span of m places
 unfoldable pub resampled : List ℤ → ℕ → ℕ → List ℤ

@@ -1,12 +1,13 @@
 // 01, section 7: linear resampling of a block.
 ghost use mathlib.Core.Path.{_≡_};
-ghost use Prim.Native.Nat.{_^_, _≤_, _<_};
-ghost use lib.IntN.{natAbs};
-ghost use lib.ListN.{length};
+ghost use mathlib.Core.List.{_++_};
+ghost use Prim.Native.Nat.{_*_, _^_, _≤_, _<_};
+ghost use lib.ListN.{length, drop};
 ghost use Rattle.refusal.specs.Outcome.{countAnswer};
+ghost use Rattle.theory.specs.Lists.{listed};
 ghost use Rattle.theory.proofs.Integers.{up, dn};
 ghost use Rattle.q15.specs.Block.{rowsNumber};
-ghost use Rattle.q15.specs.ResampleLinear.{partOf, between, linearAt, resampled, linearNumber, linearAnswer, linearSpan};
+ghost use Rattle.q15.specs.ResampleLinear.{partOf, between, nextIndex, linearAt, linearNumber, linearAnswer, linearSpan};
 use crate::block::Rows;
 use crate::block::samples_row;
 use crate::fixed::Q15;
@@ -56,28 +57,35 @@ fn between_samples(a: i16, b: i16, frac: usize) -> Q15
     Q15((x + part) as i16)
 }
 
+// The index of the sample after i, or i at the last.
+fn next_index(n: usize, i: usize) -> usize
+    requires { ⌜ (i < n) × (n ≤ 65536) ⌝ }
+    ensures { λ r. ⌜ (r ≡ nextIndex n i) × (r < n) ⌝ }
+{
+    if i + 1 < n {
+        return i + 1;
+    }
+    i
+}
+
 // The value at a position in 65536ths of a sample.
 fn linear_at(src: &[i16], position: usize) -> Q15
     requires { ⌜ (0 < length (now src)) × (length (now src) ≤ 65536) ⌝ }
     ensures { λ r. ⌜ r .0 ≡ linearAt (now (src .entry)) position ⌝ }
 {
     let n = src.len();
-    let last = n - 1;
     let i = position / 65536;
-    let frac = position % 65536;
     if n <= i {
-        return Q15(src[last]);
+        return Q15(src[n - 1]);
     }
-    if i + 1 < n {
-        return between_samples(src[i], src[i + 1], frac);
-    }
-    between_samples(src[i], src[i], frac)
+    let next = next_index(n, i);
+    between_samples(src[i], src[next], position % 65536)
 }
 
 // The whole span.
 fn resample(src: &[i16], ratio: usize, dst: &mut [i16])
     requires { ⌜ (0 < length (now src)) × (length (now src) ≤ 65536) × (ratio < 2 ^ 31) × (length (now dst) ≤ 65536) ⌝ }
-    ensures { λ _. ⌜ now (dst .exit) ≡ resampled (now (src .entry)) ratio (length (now (dst .entry))) ⌝ }
+    ensures { λ _. ⌜ now (dst .exit) ≡ listed (length (now (dst .entry))) (λ i. linearAt (now (src .entry)) (i * ratio)) ++ drop (length (now (dst .entry))) (now (dst .entry)) ⌝ }
 {
     let m = dst.len();
     let mut position = 0;

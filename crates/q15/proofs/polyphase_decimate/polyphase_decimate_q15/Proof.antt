@@ -1,6 +1,6 @@
 -- `polyphase_decimate::polyphase_decimate_q15` meets its contract: where no row applies, the limits keep every output inside the samples; where one does,
 -- its number is not 0.
-use mathlib.Core.Path.{_≡_, sym, ap, _∙_}
+use mathlib.Core.Path.{_≡_, refl, sym, ap, _∙_}
 use native.Mathlib.Omega.{arith}
 use borrow.Author.Needs.{needs}
 use lib.ListN.{length}
@@ -55,7 +55,7 @@ same-length c = search needs
 
 returns-2 : tie.Need-returns-2
 unfolding decimated
-returns-2 c = block-filled _ _ _ _ _ _ (none (c .before .before .before .before)) (c .before .before .before .decimated-count .ensures) (c .before .decimate .ensures)
+returns-2 c = block-filled _ _ _ _ _ _ _ (none (c .before .before .before .before)) refl (c .before .before .before .decimated-count .ensures) (c .before .decimate .ensures)
 
 pub polyphase-decimate-q15-spec : {M : Type 1} → statement M
 polyphase-decimate-q15-spec =

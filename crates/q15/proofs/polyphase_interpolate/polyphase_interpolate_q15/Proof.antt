@@ -1,6 +1,6 @@
 -- `polyphase_interpolate::polyphase_interpolate_q15` meets its contract: where no row applies, the limits keep every output inside the samples and the taps;
 -- where one does, its number is not 0.
-use mathlib.Core.Path.{_≡_, sym, ap, _∙_}
+use mathlib.Core.Path.{_≡_, refl, sym, ap, _∙_}
 use Prim.Native.Nat.{ℕ, _+_, _*_, _/_, _%_, _≤_, _<_}
 use native.Mathlib.Decide.{decLe}
 use native.Mathlib.Nat.{div-add-mod', div-mul-le-self, div-le-self, zero-mul}
@@ -86,7 +86,7 @@ same-length c = search needs
 returns-2 : tie.Need-returns-2
 unfolding interpolated
 returns-2 c =
-    block-filled _ _ _ _ _ _ (none (c .before .before .before .before)) (c .before .before .before .interpolated-count .ensures) (c .before .interpolate .ensures)
+    block-filled _ _ _ _ _ _ _ (none (c .before .before .before .before)) refl (c .before .before .before .interpolated-count .ensures) (c .before .interpolate .ensures)
 
 pub polyphase-interpolate-q15-spec : {M : Type 1} → statement M
 polyphase-interpolate-q15-spec =

@@ -1,102 +1,75 @@
+-- `resample_linear::linear_at` meets its contract: its test is that of `linearAt`, and both samples are inside.
+use mathlib.Core.Path.{_≡_, sym, ap, _∙_}
+use Prim.Native.Nat.{ℕ, _-_, _/_, _%_}
 use native.Mathlib.Omega.{arith}
 use borrow.Author.Needs.{needs}
+use borrow.Author.Tests.{le-leb, lt-leb}
+use lib.ListN.{length}
+use mir.Syntax.{w16}
+use mir.Facts.{toZ-ofZ}
+use Rattle.q15.specs.Fixed.{at}
+use Rattle.q15.specs.ResampleLinear.{between, nextIndex, linearAt}
 use Rattle.q15.proofs.resample_linear.linear_at.Statement.{statement}
 use Rattle.q15.proofs.resample_linear.linear_at.Tie as tie
-use Rattle.q15.proofs.resample_linear.linear_at.Reads as reads
-use Rattle.q15.proofs.resample_linear.linear_at.Lts as lts
-use Rattle.q15.proofs.resample_linear.between_samples.Reads as between-samples-reads
 
--- src/resample_linear.rt:65:16
-sub-last : tie.Need-sub-last
-sub-last c = search needs
+sub-t7 : tie.Need-sub-t7
+sub-t7 c = search needs
 
--- src/resample_linear.rt:69:20
 mul-t8 : tie.Need-mul-t8
 mul-t8 c = search needs
 
--- src/resample_linear.rt:69:20
 shared-slice-copy-out-t10 : tie.Need-shared-slice-copy-out-t10
 shared-slice-copy-out-t10 c = search needs
 
--- src/resample_linear.rt:69:9
 returns : tie.Need-returns
-returns c = search needs
+unfolding linearAt
+returns c =
+    let a = c .before .before .args in
+    let s = a .src .now in
+    rw (le-leb (length s) (a .position / 65536) (c .before .if1 .taken), toZ-ofZ {w = w16} {z = at s (length s - 1)} (record { sfits = c .t10 .given }))
 
--- src/resample_linear.rt:71:8
-add-if2 : tie.Need-add-if2
-add-if2 c = search needs
+next-index-requires : tie.Need-next-index-requires
+next-index-requires c κs = search needs
 
--- src/resample_linear.rt:72:32
 mul-between-samples : tie.Need-mul-between-samples
 mul-between-samples c = search needs
 
--- src/resample_linear.rt:72:32
 shared-slice-copy-out-between-samples : tie.Need-shared-slice-copy-out-between-samples
 shared-slice-copy-out-between-samples c = search needs
 
--- src/resample_linear.rt:72:44
-add-between-samples : tie.Need-add-between-samples
-add-between-samples c = search needs
-
--- src/resample_linear.rt:72:40
 mul-between-samples-2 : tie.Need-mul-between-samples-2
-mul-between-samples-2 c = search needs
+mul-between-samples-2 c = omega (arith, c .before .next-index .ensures .1)
 
--- src/resample_linear.rt:72:40
 shared-slice-copy-out-between-samples-2 : tie.Need-shared-slice-copy-out-between-samples-2
-shared-slice-copy-out-between-samples-2 c = search needs
+shared-slice-copy-out-between-samples-2 c = c .before .next-index .ensures .1
 
--- src/resample_linear.rt:72:9
 between-samples-requires : tie.Need-between-samples-requires
 between-samples-requires c κs = search needs
 
--- src/resample_linear.rt:72:9
 returns-2 : tie.Need-returns-2
-returns-2 c = search needs
-
--- src/resample_linear.rt:74:21
-mul-between-samples-3 : tie.Need-mul-between-samples-3
-mul-between-samples-3 c = search needs
-
--- src/resample_linear.rt:74:21
-shared-slice-copy-out-between-samples-3 : tie.Need-shared-slice-copy-out-between-samples-3
-shared-slice-copy-out-between-samples-3 c = search needs
-
--- src/resample_linear.rt:74:29
-mul-between-samples-4 : tie.Need-mul-between-samples-4
-mul-between-samples-4 c = search needs
-
--- src/resample_linear.rt:74:29
-shared-slice-copy-out-between-samples-4 : tie.Need-shared-slice-copy-out-between-samples-4
-shared-slice-copy-out-between-samples-4 c = search needs
-
--- src/resample_linear.rt:74:5
-between-samples-requires-2 : tie.Need-between-samples-requires-2
-between-samples-requires-2 c κs = search needs
-
--- src/resample_linear.rt:60:1
-returns-3 : tie.Need-returns-3
-returns-3 c = search needs
+unfolding linearAt
+returns-2 c =
+    let a = c .before .before .before .before .before .args in
+    let s = a .src .now in
+    let i = a .position / 65536 in
+    let n = c .before .before .before .next-index in
+    rw (lt-leb (length s) i (c .before .before .before .before .if1 .left))
+    (c .between-samples .ensures
+    ∙ rw (toZ-ofZ {w = w16} {z = at s i} (record { sfits = c .before .before .between-samples-arg .given }), toZ-ofZ {w = w16} {z = at s (n .result)} (record { sfits = c .before .between-samples-arg2 .given }))
+    (ap (λ (k : ℕ). between (at s i) (at s k) (a .position % 65536)) (n .ensures .0)))
 
 pub linear-at-spec : {M : Type 1} → statement M
 linear-at-spec =
     tie.close
     (tie.spec
-    sub-last
+    sub-t7
     mul-t8
     shared-slice-copy-out-t10
     returns
-    add-if2
+    next-index-requires
     mul-between-samples
     shared-slice-copy-out-between-samples
-    add-between-samples
     mul-between-samples-2
     shared-slice-copy-out-between-samples-2
     between-samples-requires
-    returns-2
-    mul-between-samples-3
-    shared-slice-copy-out-between-samples-3
-    mul-between-samples-4
-    shared-slice-copy-out-between-samples-4
-    between-samples-requires-2
-    returns-3)
+    returns-2)
