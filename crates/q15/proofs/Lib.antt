@@ -3,3 +3,4 @@ pub mod Filling
 pub mod Rows
 pub mod Counts
 pub mod Between
+pub mod Windows

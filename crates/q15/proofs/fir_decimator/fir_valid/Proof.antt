@@ -1,39 +1,43 @@
-use native.Mathlib.Omega.{arith}
+-- `fir_decimator::fir_valid` meets its contract: its tests are those of `firValid`, and settings that are refused have a number other than 0.
+use mathlib.Core.Path.{_≡_, sym, ap, _∙_}
+use mathlib.Core.Bool.{not}
 use borrow.Author.Needs.{needs}
+use borrow.Author.Tests.{eq-eqb, ne-eqb}
+use Rattle.refusal.specs.Outcome.{openingNumber}
+use Rattle.q15.specs.FirDecimator.{settingsNumber, firValid}
+use Rattle.q15.proofs.Rows.{not-zero}
 use Rattle.q15.proofs.fir_decimator.fir_valid.Statement.{statement}
 use Rattle.q15.proofs.fir_decimator.fir_valid.Tie as tie
-use Rattle.q15.proofs.fir_decimator.fir_valid.Reads as reads
-use Rattle.q15.proofs.fir_decimator.fir_valid.Lts as lts
-use Rattle.q15.proofs.fir_decimator.settings_answer.Reads as settings-answer-reads
-use Rattle.q15.proofs.fir_decimator.wait_is_bad.Reads as wait-is-bad-reads
 
--- src/fir_decimator.rt:173:9
 returns : tie.Need-returns
-returns c = search needs
+unfolding firValid
+returns c = rw (eq-eqb (c .before .args .t) 0 (c .if1 .taken))
 
--- src/fir_decimator.rt:175:9
 settings-answer-requires : tie.Need-settings-answer-requires
-settings-answer-requires c κs = search needs
+settings-answer-requires c κs = tt
 
--- src/fir_decimator.rt:177:32
 enum-told : tie.Need-enum-told
 enum-told c = search needs
 
--- src/fir_decimator.rt:178:29
 enum-told-2 : tie.Need-enum-told-2
 enum-told-2 c = search needs
 
--- src/fir_decimator.rt:178:29
 wait-is-bad-requires : tie.Need-wait-is-bad-requires
-wait-is-bad-requires c κs = search needs
+wait-is-bad-requires c κs = tt
 
--- src/fir_decimator.rt:169:1
 returns-2 : tie.Need-returns-2
-returns-2 c = search needs
+unfolding firValid
+returns-2 c =
+    let s = c .before .before .before .before in
+    let e = sym (ap openingNumber (c .enum-told .given .1)) ∙ c .before .before .settings-answer .ensures in
+    rw (ne-eqb (s .args .t) 0 (c .before .before .before .if1 .left), ne-eqb (settingsNumber (s .args .t) (s .args .factor)) 0 (not-zero _ (c .enum-told .given .0 .0) e))
 
--- src/fir_decimator.rt:169:1
 returns-3 : tie.Need-returns-3
-returns-3 c = search needs
+unfolding firValid
+returns-3 c =
+    let s = c .before .before .before .before .before in
+    let e = sym (c .before .before .before .settings-answer .ensures) ∙ ap openingNumber (c .before .enum-told2 .given .1) in
+    rw (ne-eqb (s .args .t) 0 (c .before .before .before .before .if1 .left), eq-eqb (settingsNumber (s .args .t) (s .args .factor)) 0 e) (ap not (c .wait-is-bad .ensures))
 
 pub fir-valid-spec : {M : Type 1} → statement M
 fir-valid-spec =

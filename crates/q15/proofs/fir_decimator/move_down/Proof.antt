@@ -1,64 +1,72 @@
+-- `fir_decimator::move_down` meets its contract: the invariant says that k places have moved.
+use mathlib.Core.Path.{_≡_, refl, ap, _∙_}
+use mathlib.Core.List.{List}
+use Prim.Native.Nat.{ℕ, _+_, _-_, _≤_, _<_}
 use native.Mathlib.Omega.{arith}
 use borrow.Author.Needs.{needs}
+use lib.IntN.{ℤ, pos}
+use lib.ListN.{length, set}
+use mir.Syntax.{w16}
+use mir.Val.{toZ, ofZ}
+use mir.Facts.{toZ-ofZ}
+use Rattle.q15.specs.Fixed.{at}
+use Rattle.q15.specs.FirDecimator.{moved}
+use Rattle.q15.proofs.Windows.{movedBy, one-moved}
 use Rattle.q15.proofs.fir_decimator.move_down.Statement.{statement}
 use Rattle.q15.proofs.fir_decimator.move_down.Tie as tie
-use Rattle.q15.proofs.fir_decimator.move_down.Reads as reads
-use Rattle.q15.proofs.fir_decimator.move_down.Lts as lts
-use Rattle.q15.proofs.fir_decimator.array_length.Reads as array-length-reads
 
 abbrev Inv-loop : tie.InvT-loop
-Inv-loop delay₀ t factor k₀ delay k = ?
+Inv-loop delay₀ t factor k₀ delay k = (delay ≡ movedBy (pos 0) delay₀ factor k) × (k ≤ t - factor)
 
 abbrev μ-loop : tie.MeasureT-loop
-μ-loop delay₀ t factor k₀ delay k = ?
+μ-loop delay₀ t factor k₀ delay k = t - k
 
--- src/fir_decimator.rt:81:5
 array-length-requires : tie.Need-array-length-requires Inv-loop μ-loop
-array-length-requires c κs = search needs
+array-length-requires c κs = tt
 
--- src/fir_decimator.rt:83:5
 loop-holds : tie.Need-loop-holds Inv-loop μ-loop
-loop-holds c = search needs
+loop-holds c = (refl, omega arith)
 
--- src/fir_decimator.rt:83:11
 add-loop : tie.Need-add-loop Inv-loop μ-loop
 add-loop c = search needs
 
--- src/fir_decimator.rt:84:26
 add-delay : tie.Need-add-delay Inv-loop μ-loop
 add-delay c = search needs
 
--- src/fir_decimator.rt:84:20
 mul-delay : tie.Need-mul-delay Inv-loop μ-loop
 mul-delay c = search needs
 
--- src/fir_decimator.rt:84:20
 element-copy-out-delay : tie.Need-element-copy-out-delay Inv-loop μ-loop
 element-copy-out-delay c = search needs
 
--- src/fir_decimator.rt:84:9
 mul-t13 : tie.Need-mul-t13 Inv-loop μ-loop
 mul-t13 c = search needs
 
--- src/fir_decimator.rt:84:9
 element-set-from-delay : tie.Need-element-set-from-delay Inv-loop μ-loop
 element-set-from-delay c = search needs
 
--- src/fir_decimator.rt:85:9
 add-k : tie.Need-add-k Inv-loop μ-loop
 add-k c = search needs
 
--- src/fir_decimator.rt:83:5
 loop-less : tie.Need-loop-less Inv-loop μ-loop
 loop-less c = search needs
 
--- src/fir_decimator.rt:83:5
 loop-again : tie.Need-loop-again Inv-loop μ-loop
-loop-again c = search needs
+loop-again c =
+    let v = c .before .before .loop in
+    let s = c .before .before .before .before .before in
+    let a = s .args in
+    let from = v .k + a .factor in
+    let e : toZ w16 (ofZ w16 (at (v .delay) from)) ≡ at (v .delay) from = toZ-ofZ {w = w16} {z = at (v .delay) from} (record { sfits = c .delay .given }) in
+    let l : from < length (a .delay .now) = omega (arith, c .before .loop-test .taken, c .before .before .before .array-length .ensures, s .pre) in
+    (rw e (ap (λ (x : List ℤ). set x (v .k) (at x from)) (v .inv .0) ∙ one-moved (pos 0) (a .delay .now) (a .factor) (v .k) l), omega arith)
 
--- src/fir_decimator.rt:77:1
 returns : tie.Need-returns Inv-loop μ-loop
-returns c = search needs
+unfolding moved
+returns c =
+    let a = c .before .before .before .before .args in
+    let e : c .before .loop .k ≡ a .t - a .factor = omega (arith, c .before .loop .inv .1, c .loop-test .left) in
+    c .before .loop .inv .0 ∙ ap (movedBy (pos 0) (a .delay .now) (a .factor)) e
 
 pub move-down-spec : {M : Type 1} → statement M
 move-down-spec =

@@ -1,30 +1,34 @@
-use native.Mathlib.Omega.{arith}
-use borrow.Author.Needs.{needs}
+-- `fir_decimator::settings_answer` meets its contract: its tests are those of `settingsNumber`, one after the other.
+use mathlib.Core.Path.{_≡_, sym, _∙_}
+use borrow.Author.Tests.{eq-eqb, ne-eqb, lt-ltb, le-ltb}
+use Rattle.q15.specs.FirDecimator.{mostTaps, settingsNumber}
 use Rattle.q15.proofs.fir_decimator.settings_answer.Statement.{statement}
 use Rattle.q15.proofs.fir_decimator.settings_answer.Tie as tie
-use Rattle.q15.proofs.fir_decimator.settings_answer.Reads as reads
-use Rattle.q15.proofs.fir_decimator.settings_answer.Lts as lts
-use Rattle.q15.proofs.block.outside.Reads as outside-reads
 
--- src/fir_decimator.rt:144:9
 returns : tie.Need-returns
-returns c = search needs
+unfolding settingsNumber
+returns c = rw (eq-eqb (c .before .args .t) 0 (c .if1 .taken))
 
--- src/fir_decimator.rt:146:8
 outside-requires : tie.Need-outside-requires
-outside-requires c κs = search needs
+outside-requires c κs = tt
 
--- src/fir_decimator.rt:147:9
 returns-2 : tie.Need-returns-2
-returns-2 c = search needs
+unfolding settingsNumber
+returns-2 c = rw (ne-eqb (c .before .before .before .args .t) 0 (c .before .before .if1 .left), sym (c .before .outside .ensures) ∙ c .if2 .taken)
 
--- src/fir_decimator.rt:150:9
 returns-3 : tie.Need-returns-3
-returns-3 c = search needs
+unfolding settingsNumber
+returns-3 c =
+    let e = c .before in
+    let t = e .before .before .before .args .t in
+    rw (ne-eqb t 0 (e .before .before .if1 .left), sym (e .before .outside .ensures) ∙ e .if2 .left, lt-ltb mostTaps t (c .if3 .taken))
 
--- src/fir_decimator.rt:140:1
 returns-4 : tie.Need-returns-4
-returns-4 c = search needs
+unfolding settingsNumber
+returns-4 c =
+    let e = c .before in
+    let t = e .before .before .before .args .t in
+    rw (ne-eqb t 0 (e .before .before .if1 .left), sym (e .before .outside .ensures) ∙ e .if2 .left, le-ltb mostTaps t (c .if3 .left))
 
 pub settings-answer-spec : {M : Type 1} → statement M
 settings-answer-spec = tie.close (tie.spec returns outside-requires returns-2 returns-3 returns-4)

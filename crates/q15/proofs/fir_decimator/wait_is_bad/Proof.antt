@@ -1,21 +1,20 @@
-use native.Mathlib.Omega.{arith}
-use borrow.Author.Needs.{needs}
+-- `fir_decimator::wait_is_bad` meets its contract: its tests are those of `badWait`.
+use borrow.Author.Tests.{le-leb, lt-leb, eq-eqb, ne-eqb}
+use Rattle.q15.specs.FirDecimator.{badWait}
 use Rattle.q15.proofs.fir_decimator.wait_is_bad.Statement.{statement}
 use Rattle.q15.proofs.fir_decimator.wait_is_bad.Tie as tie
-use Rattle.q15.proofs.fir_decimator.wait_is_bad.Reads as reads
-use Rattle.q15.proofs.fir_decimator.wait_is_bad.Lts as lts
 
--- src/fir_decimator.rt:160:9
 returns : tie.Need-returns
-returns c = search needs
+unfolding badWait
+returns c = rw (eq-eqb (c .before .args .wait) 0 (c .if1 .taken))
 
--- src/fir_decimator.rt:163:9
 returns-2 : tie.Need-returns-2
-returns-2 c = search needs
+unfolding badWait
+returns-2 c = let a = c .before .before .args in rw (ne-eqb (a .wait) 0 (c .before .if1 .left), le-leb (a .wait) (a .t) (c .if2 .taken))
 
--- src/fir_decimator.rt:156:1
 returns-3 : tie.Need-returns-3
-returns-3 c = search needs
+unfolding badWait
+returns-3 c = let a = c .before .before .args in rw (ne-eqb (a .wait) 0 (c .before .if1 .left), lt-leb (a .wait) (a .t) (c .if2 .left))
 
 pub wait-is-bad-spec : {M : Type 1} → statement M
 wait-is-bad-spec = tie.close (tie.spec returns returns-2 returns-3)
