@@ -4,3 +4,5 @@ pub mod Rows
 pub mod Counts
 pub mod Between
 pub mod Windows
+pub mod FirSteps
+pub mod FirStream

@@ -1,7 +1,7 @@
 -- 01, section 3, the line's streaming form: "makes output i when sample iD+T−1 arrives; its wait is the number of samples up to and with the one that makes
 -- the next output, T at opening and D after each output; T is at most 64, D may exceed T. In the line no taps means off, and D is not looked at."
 use mathlib.Core.Path.{_≡_}
-use mathlib.Core.Bool.{Bool, true, false, not, cond}
+use mathlib.Core.Bool.{Bool, true, false, not, _&&_, cond}
 use mathlib.Core.List.{List, [], _++_}
 use mathlib.Core.Option.{Option, none, some}
 use Prim.Native.Nat.{ℕ, zero, suc, _-_}
@@ -68,7 +68,7 @@ settingsNumber T D = cond (eqb T 0) 0 (cond (outsideOf D 1 mostFactor) 5 (cond (
 
 -- row 15: "FIR wait 0 or above both T and D"
 unfoldable pub badWait : ℕ → ℕ → ℕ → Bool
-badWait T D w = cond (eqb w 0) true (cond (leb w T) false (ltb D w))
+badWait T D w = cond (eqb w 0) true (ltb T w && ltb D w)
 
 -- row 15: "settings that its opening refuses; FIR wait ..; a part that is off is not checked"
 unfoldable pub firValid : ℕ → ℕ → ℕ → Bool

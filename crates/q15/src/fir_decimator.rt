@@ -209,7 +209,7 @@ fn pad(taps: &[i16]) -> [i16; MOST_TAPS]
 }
 
 // A decimator before its first sample.
-fn open(taps: &[i16], factor: usize) -> FirDecimator
+fn fresh_state(taps: &[i16], factor: usize) -> FirDecimator
     requires { ⌜ length (now taps) ≤ 64 ⌝ }
     ensures { λ r. ⌜ r ≡ fresh (now (taps .entry)) factor ⌝ }
 {
@@ -254,7 +254,7 @@ impl FirDecimator {
                 }
             }
             Opening::Opened => {
-                let state = open(taps, factor);
+                let state = fresh_state(taps, factor);
                 FirOpening {
                     answer: Opening::Opened,
                     state: state,
