@@ -6,3 +6,5 @@ pub mod Between
 pub mod Windows
 pub mod FirSteps
 pub mod FirStream
+pub mod FirOpening
+pub mod Readings

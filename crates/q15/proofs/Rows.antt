@@ -74,7 +74,7 @@ module _ (number : ℕ) (q : Refusal) (e : numberOf q ≡ number) where
   pub not-zero : number ≡ 0 → ⊥
   not-zero z = let s = is-suc q in omega (arith, e)
 
-  turned : number ≡ suc (pred (numberOf q))
+  pub turned : number ≡ suc (pred (numberOf q))
   turned = sym e ∙ is-suc q
 
   pub first-refused : (lower : ℕ) → firstOf number lower ≡ number
