@@ -6,6 +6,7 @@ use crate::record::Record;
 use crate::refusals;
 use crate::rng::Rng;
 use crate::samples;
+use crate::settings;
 use embedded_dsp::resampling::CicDecimator;
 
 const NEW: u32 = 0x11;
@@ -57,8 +58,8 @@ impl State {
         record
             .long(self.stages)
             .long(self.r)
-            .numbers(&self.integrators)
-            .numbers(&self.combs)
+            .words(&self.integrators)
+            .words(&self.combs)
             .long(self.sample_counter);
     }
 
@@ -188,17 +189,21 @@ fn block_case(state: &mut State, input: &Lent, span: &Lent) -> Record {
     let mut record = Record::of(PROCESS_BLOCK);
     state.write(&mut record);
     record.lent(input).lent(span);
-    let mut places = span.numbers();
+    let lent: Vec<i32> = span.elements();
+    let mut places = lent.clone();
     let refusal = state.refusal();
     let (taken, written) = match refusal {
-        0 => with_stages!(state.stages, block(state, &input.numbers(), &mut places)),
+        0 => with_stages!(
+            state.stages,
+            block(state, &input.elements::<i32>(), &mut places)
+        ),
         _ => (0, 0),
     };
     record
         .word(refusal)
         .long(taken)
         .long(written)
-        .left(span, &places);
+        .left(&lent, &places);
     state.write(&mut record);
     record
 }
@@ -267,7 +272,7 @@ fn damaged(rng: &mut Rng) -> State {
     let mut state = midway(rng);
     match rng.below(5) {
         0 => state.stages = cic_settings::bad_stages(rng),
-        1 => state.r = cic_settings::bad_factor(rng),
+        1 => state.r = settings::bad_factor(rng),
         2 => state = State::zeros(0, 0),
         _ => {
             let r = state.r;
@@ -309,11 +314,8 @@ fn long_run(rng: &mut Rng) -> Vec<Record> {
     let most = (64 * r).min(LONGEST);
     (0..rng.within(3, 6))
         .map(|_| {
-            let input = Lent {
-                length: rng.within(most / 2, most) as usize,
-                pattern,
-                listed: Vec::new(),
-            };
+            let length = rng.within(most / 2, most);
+            let input = Lent::pattern(length, pattern, 1);
             let span = samples::span(rng, 70);
             block_case(&mut state, &input, &span)
         })

@@ -6,6 +6,7 @@ use crate::record::Record;
 use crate::refusals;
 use crate::rng::Rng;
 use crate::samples;
+use crate::settings;
 use embedded_dsp::resampling::CicInterpolator;
 
 const NEW: u32 = 0x21;
@@ -51,8 +52,8 @@ impl State {
         record
             .long(self.stages)
             .long(self.r)
-            .numbers(&self.combs)
-            .numbers(&self.integrators);
+            .words(&self.combs)
+            .words(&self.integrators);
     }
 
     fn refusal(&self) -> u32 {
@@ -97,7 +98,8 @@ fn sample_case(state: &mut State, input: i32, span: &Lent) -> Record {
     let mut record = Record::of(PROCESS_SAMPLE);
     state.write(&mut record);
     record.number(input).lent(span);
-    let mut places = span.numbers();
+    let lent: Vec<i32> = span.elements();
+    let mut places = lent.clone();
     let refusal = refusals::cic_up(state.stages, state.r, span.length);
     let written = match refusal {
         0 => {
@@ -106,7 +108,7 @@ fn sample_case(state: &mut State, input: i32, span: &Lent) -> Record {
         }
         _ => 0,
     };
-    record.word(refusal).long(written).left(span, &places);
+    record.word(refusal).long(written).left(&lent, &places);
     state.write(&mut record);
     record
 }
@@ -179,7 +181,7 @@ fn damaged(rng: &mut Rng) -> State {
     let mut state = midway(rng, 4096);
     match rng.below(3) {
         0 => state.stages = cic_settings::bad_stages(rng),
-        1 => state.r = cic_settings::bad_factor(rng),
+        1 => state.r = settings::bad_factor(rng),
         _ => state = State::zeros(0, 0),
     }
     state

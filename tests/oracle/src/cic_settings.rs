@@ -1,6 +1,7 @@
 //! The settings of a CIC converter, N and r: within 01's limits, at their ends and outside.
 
 use crate::rng::Rng;
+use crate::settings::bad_factor;
 
 const MOST: u64 = 4096;
 
@@ -47,20 +48,6 @@ pub fn gain_edge(rng: &mut Rng, power: u64) -> u64 {
 
 pub fn bad_stages(rng: &mut Rng) -> u64 {
     rng.pick(&[0, 0, 9, 9, 10, 4096, 1 << 32, (1 << 32) + 1, u64::MAX])
-}
-
-pub fn bad_factor(rng: &mut Rng) -> u64 {
-    let far = rng.next() | 1 << 40;
-    rng.pick(&[
-        0,
-        0,
-        MOST + 1,
-        MOST + 1,
-        1 << 32,
-        (1 << 32) + 1,
-        u64::MAX,
-        far,
-    ])
 }
 
 /// Settings of which one or both may be outside the limits.

@@ -3,11 +3,19 @@
 mod cic_decimator;
 mod cic_interpolator;
 mod cic_settings;
+mod cut_q15;
+mod differences;
+mod fir_decimator;
 mod lent;
+mod linear_q15;
+mod polyphase_q15;
+mod q15_samples;
 mod record;
 mod refusals;
 mod rng;
 mod samples;
+mod settings;
+mod word;
 
 use record::Record;
 use rng::Rng;
@@ -16,9 +24,13 @@ use std::process::ExitCode;
 
 type Cases = fn(&mut Rng) -> Vec<Record>;
 
-const CONVERTERS: [(&str, Cases); 2] = [
+const CONVERTERS: [(&str, Cases); 6] = [
     ("cic_decimator", cic_decimator::cases),
     ("cic_interpolator", cic_interpolator::cases),
+    ("cut_q15", cut_q15::cases),
+    ("polyphase_q15", polyphase_q15::cases),
+    ("linear_q15", linear_q15::cases),
+    ("fir_decimator", fir_decimator::cases),
 ];
 
 const USAGE: &str = "usage: oracle list --seed S --cases N [--only NAME]";

@@ -1,22 +1,22 @@
 // The operations of CicInterpolator. Each takes the words behind its code: its inputs, then the answers.
-use crate::answers::same_count;
-use crate::answers::same_gain;
-use crate::answers::same_gain_bits;
-use crate::answers::same_opening;
-use crate::slices::behind;
-use crate::slices::front;
-use crate::slices::lend;
-use crate::slices::length;
-use crate::slices::no_numbers;
-use crate::slices::same_span;
-use crate::words::eight;
-use crate::words::long;
-use crate::words::number;
-use crate::words::rest;
-use crate::words::same_long;
-use crate::words::same_numbers;
+use crate::gain::same_gain;
+use crate::gain::same_gain_bits;
 use integer::CicInterpolator;
 use integer::cic_interpolator::CicInterpolated;
+use records::answers::same_count;
+use records::answers::same_opening;
+use records::slices::behind;
+use records::slices::front;
+use records::slices::lend;
+use records::slices::length;
+use records::slices::no_numbers;
+use records::slices::same_span;
+use records::words::eight;
+use records::words::long;
+use records::words::number;
+use records::words::rest;
+use records::words::same_long;
+use records::words::same_numbers;
 
 // Words of a state.
 const STATE: usize = 20;

@@ -1,9 +1,9 @@
--- `replay::slices::no_numbers` meets its contract: a repeat is as long as its count, by the law and not by counting.
+-- `records::slices::no_numbers` meets its contract: a repeat is as long as its count, by the law and not by counting.
 use mathlib.Core.Path.{sym}
 use lib.IntN.{ℤ, pos}
 use lib.ListN.{length-replicate}
-use Rattle.replay.proofs.slices.no_numbers.Statement.{statement}
-use Rattle.replay.proofs.slices.no_numbers.Tie as tie
+use Rattle.records.proofs.slices.no_numbers.Statement.{statement}
+use Rattle.records.proofs.slices.no_numbers.Tie as tie
 
 returns : tie.Need-returns
 returns c = sym (length-replicate {A = ℤ} 65600 (pos 0))

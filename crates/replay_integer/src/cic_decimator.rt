@@ -1,27 +1,27 @@
 // The operations of CicDecimator. Each takes the words behind its code: its inputs, then the answers.
-use crate::answers::same_counts;
-use crate::answers::same_gain;
-use crate::answers::same_gain_bits;
-use crate::answers::same_opening;
-use crate::answers::same_refusal;
-use crate::slices::behind;
-use crate::slices::front;
-use crate::slices::lend;
-use crate::slices::length;
-use crate::slices::no_numbers;
-use crate::slices::same_span;
-use crate::words::eight;
-use crate::words::long;
-use crate::words::number;
-use crate::words::rest;
-use crate::words::same;
-use crate::words::same_long;
-use crate::words::same_number;
-use crate::words::same_numbers;
+use crate::gain::same_gain;
+use crate::gain::same_gain_bits;
 use integer::CicDecimator;
 use integer::cic_decimator::CicBlock;
 use integer::cic_decimator::CicOutput;
 use integer::cic_decimator::CicStep;
+use records::answers::same_counts;
+use records::answers::same_opening;
+use records::answers::same_refusal;
+use records::slices::behind;
+use records::slices::front;
+use records::slices::lend;
+use records::slices::length;
+use records::slices::no_numbers;
+use records::slices::same_span;
+use records::words::eight;
+use records::words::long;
+use records::words::number;
+use records::words::rest;
+use records::words::same;
+use records::words::same_long;
+use records::words::same_number;
+use records::words::same_numbers;
 
 // Words of a state.
 const STATE: usize = 22;

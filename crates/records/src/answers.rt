@@ -1,8 +1,6 @@
 // The comparison of answers that converters share: 01's number first, then the values, 0 where the call was refused.
 use crate::words::same;
 use crate::words::same_long;
-use integer::gain::Gain;
-use integer::gain::GainBits;
 use refusal::Count;
 use refusal::Counts;
 use refusal::Opening;
@@ -36,19 +34,5 @@ pub fn same_counts(w: &[u32], at: usize, answer: Counts) -> usize {
             let next = same_long(w, same_refusal(w, at, refusal), 0);
             same_long(w, next, 0)
         }
-    }
-}
-
-pub fn same_gain(w: &[u32], at: usize, answer: Gain) -> usize {
-    match answer {
-        Gain::Value(g) => same_long(w, same(w, at, 0), g as usize),
-        Gain::Refused(refusal) => same_long(w, same_refusal(w, at, refusal), 0),
-    }
-}
-
-pub fn same_gain_bits(w: &[u32], at: usize, answer: GainBits) -> usize {
-    match answer {
-        GainBits::Value(g) => same(w, same(w, at, 0), g),
-        GainBits::Refused(refusal) => same(w, same_refusal(w, at, refusal), 0),
     }
 }

@@ -32,6 +32,23 @@ pub fn signed(x: u32) -> i32 {
     !((4294967295 - x) as i32)
 }
 
+// The i64 whose two's complement x is.
+pub fn signed_long(x: usize) -> i64 {
+    if x < 9223372036854775808 {
+        return x as i64;
+    }
+    !((18446744073709551615 - x) as i64)
+}
+
+// The i16 whose two's complement the low 16 bits are.
+pub fn short(x: u32) -> i16 {
+    let low = x % 65536;
+    if low < 32768 {
+        return low as i16;
+    }
+    !((65535 - low) as i16)
+}
+
 pub fn number(w: &[u32], at: usize) -> i32 {
     signed(word(w, at))
 }
@@ -70,6 +87,13 @@ pub fn same(w: &[u32], at: usize, x: u32) -> usize {
 
 pub fn same_number(w: &[u32], at: usize, x: i32) -> usize {
     if number(w, at) == x {
+        return same(w, at, word(w, at));
+    }
+    LOST
+}
+
+pub fn same_short(w: &[u32], at: usize, x: i16) -> usize {
+    if short(word(w, at)) == x {
         return same(w, at, word(w, at));
     }
     LOST

@@ -1,0 +1,12 @@
+-- `records::slices::no_shorts` meets its contract: a repeat is as long as its count, by the law and not by counting.
+use mathlib.Core.Path.{sym}
+use lib.IntN.{ℤ, pos}
+use lib.ListN.{length-replicate}
+use Rattle.records.proofs.slices.no_shorts.Statement.{statement}
+use Rattle.records.proofs.slices.no_shorts.Tie as tie
+
+returns : tie.Need-returns
+returns c = sym (length-replicate {A = ℤ} 65600 (pos 0))
+
+pub no-shorts-spec : {M : Type 1} → statement M
+no-shorts-spec = tie.close (tie.spec returns)
