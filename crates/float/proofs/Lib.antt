@@ -1,0 +1,5 @@
+pub mod Decimals
+pub mod Moving
+pub mod Folding
+pub mod Earlier
+pub mod WholeLists

@@ -1,0 +1,3 @@
+pub mod HbfTaps
+pub mod HalfBand
+pub mod Windows

@@ -1,0 +1,66 @@
+// What the half-band filters do to a window of the last samples, the newest at its end.
+ghost use mathlib.Core.Path.{_≡_};
+ghost use mathlib.Core.List.{[], _∷_, _++_};
+ghost use Prim.Native.Nat.{_≤_, _-_, _*_};
+ghost use lib.ListN.{length, drop};
+ghost use Rattle.float.specs.Windows.{slid, folded, decValue, intValue};
+
+// The window moves down by so many places; the last so many stay.
+fn move_down(window: &mut [f32], by: usize)
+    requires { ⌜ by ≤ length (now window) ⌝ }
+    ensures { λ _. ⌜ now (window .exit) ≡ drop by (now (window .entry)) ++ drop (length (now (window .entry)) - by) (now (window .entry)) ⌝ }
+{
+    let n = window.len();
+    let mut i = 0;
+    while i + by < n {
+        window[i] = window[i + by];
+        i += 1;
+    }
+}
+
+// From start, tap × (sum of two places as far from the window's two ends), tap 0 first.
+fn folded_sum(window: &[f32], taps: &[f32], step: usize, start: f32) -> f32
+    requires { ⌜ (1 ≤ step) × (length (now window) ≡ 2 * step * length (now taps)) ⌝ }
+    ensures { λ r. ⌜ r ≡ folded step (now (taps .entry)) (now (window .entry)) start (length (now (taps .entry))) ⌝ }
+{
+    let n = window.len();
+    let mut acc = start;
+    let mut t = 0;
+    while t < taps.len() {
+        acc = acc + taps[t] * (window[step * t] + window[n - step - step * t]);
+        t += 1;
+    }
+    acc
+}
+
+// The decimator takes a pair in, and gives its output.
+pub fn take_pair(window: &mut [f32], taps: &[f32], a: f32, b: f32) -> f32
+    requires { ⌜ (1 ≤ length (now taps)) × (length (now window) ≡ 4 * length (now taps)) ⌝ }
+    ensures { λ r. ⌜ (now (window .exit) ≡ slid (now (window .entry)) (a ∷ b ∷ [])) × (r ≡ decValue (now (taps .entry)) (slid (now (window .entry)) (a ∷ b ∷ []))) ⌝ }
+{
+    let n = window.len();
+    move_down(window, 2);
+    window[n - 2] = a;
+    window[n - 1] = b;
+    let centre = window[2 * taps.len() - 1];
+    0.5 * folded_sum(window, taps, 2, centre)
+}
+
+// The two outputs that the interpolator makes of a sample.
+pub struct Both {
+    pub even: f32,
+    pub odd: f32,
+}
+
+// The interpolator takes a sample in, and gives its outputs.
+pub fn take_sample(window: &mut [f32], taps: &[f32], x: f32) -> Both
+    requires { ⌜ (1 ≤ length (now taps)) × (length (now window) ≡ 2 * length (now taps)) ⌝ }
+    ensures { λ r. ⌜ (now (window .exit) ≡ slid (now (window .entry)) (x ∷ [])) × ((r .even, r .odd) ≡ intValue (now (taps .entry)) (slid (now (window .entry)) (x ∷ []))) ⌝ }
+{
+    let n = window.len();
+    move_down(window, 1);
+    window[n - 1] = x;
+    let even = window[taps.len()];
+    let odd = folded_sum(window, taps, 1, 0.0);
+    Both { even, odd }
+}
