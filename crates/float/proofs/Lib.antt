@@ -1,5 +1,10 @@
 pub mod Decimals
+pub mod Bounds
+pub mod Filling
 pub mod Moving
 pub mod Folding
 pub mod Earlier
 pub mod WholeLists
+pub mod Blocks
+pub mod Along
+pub mod Decimators

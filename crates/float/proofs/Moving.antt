@@ -2,37 +2,29 @@
 use mathlib.Core.Path.{_≡_, refl, sym, ap, _∙_, subst}
 use mathlib.Core.List.{List, [], _∷_, _++_}
 use Prim.Native.Nat.{ℕ, suc, _+_, _-_, _≤_, _<_}
-use native.Mathlib.Numerals.{add-one}
+use native.Mathlib.Nat.{add-comm}
 use native.Mathlib.Omega.{arith}
 use lib.ListN.{length, getD, set, take, drop, length-drop, length-append, drop-of-length-le}
-use lib.Seq.{getD-append-add, getD-drop, length-take-le, take-suc, take-all, drop-cons, set-at, append-snoc}
+use lib.Seq.{getD-append-add, getD-drop, length-take-le, take-all, drop-cons, set-at, append-snoc}
 use lib.Ieee.{Float, nan}
 use Rattle.float.specs.Windows.{slid}
+use Rattle.float.proofs.Filling.{filled, fill-next}
 
 -- after j turns
 abbrev pub moved : List Float → ℕ → ℕ → List Float
-moved w by j = take j (drop by w) ++ drop j w
-
-front-length : (w : List Float) (by j : ℕ) → j + by ≤ length w → length (take j (drop by w)) ≡ j
-front-length w by j h = length-take-le j (drop by w) (simp length-drop (omega arith))
+moved w by j = filled w (drop by w) j
 
 -- one turn
 pub turn : (w : List Float) (by j : ℕ) → j + by < length w → set (moved w by j) j (getD (moved w by j) (j + by) nan) ≡ moved w by (j + 1)
 turn w by j h =
-    let p : List Float = take j (drop by w) in
-    let e : length (take j (drop by w)) ≡ j = front-length w by j (omega arith) in
+    let e : length (take j (drop by w)) ≡ j = length-take-le j (drop by w) (simp length-drop (omega arith)) in
     let read : getD (moved w by j) (j + by) nan ≡ getD (drop by w) j nan =
     ap (λ (z : ℕ). getD (moved w by j) (z + by) nan) (sym e)
-    ∙ getD-append-add p (drop j w) by nan
+    ∙ getD-append-add (take j (drop by w)) (drop j w) by nan
     ∙ getD-drop j w by nan
-    ∙ ap (λ (z : ℕ). getD w z nan) (omega arith)
+    ∙ ap (λ (z : ℕ). getD w z nan) (add-comm j by)
     ∙ sym (getD-drop by w j nan) in
-    ap (λ (v : Float). set (moved w by j) j v) read
-    ∙ ap (λ (t : List Float). set (p ++ t) j (getD (drop by w) j nan)) (drop-cons w j nan (omega arith))
-    ∙ set-at p (getD w j nan) (drop (suc j) w) (getD (drop by w) j nan) j e
-    ∙ sym (append-snoc p (getD (drop by w) j nan) (drop (suc j) w))
-    ∙ ap (λ (t : List Float). t ++ drop (suc j) w) (sym (take-suc (drop by w) j nan (simp length-drop (omega arith))))
-    ∙ ap (λ (z : ℕ). moved w by z) (sym (add-one j))
+    ap (λ (v : Float). set (moved w by j) j v) read ∙ fill-next w (drop by w) j nan (omega arith) (simp length-drop (omega arith))
 
 -- all turns
 pub all-moved : (w : List Float) (by : ℕ) → moved w by (length w - by) ≡ drop by w ++ drop (length w - by) w

@@ -54,6 +54,10 @@ dec-value : (c w : List Float) (j : ℕ) → 1 ≤ length c → 2 * j + 2 ≤ le
 unfolding decValue decOutput
 dec-value c w j p l = ap (mul binary32 half32) (dec-acc c w j (length c) p (le-refl (length c)) l)
 
+-- what a pair makes
+abbrev pub dec-made : List Float → List Float → Float × Float → Float
+dec-made c w p = decValue c (slid w (p .0 ∷ p .1 ∷ []))
+
 -- ---- pairs
 flat-snoc : (v : List (Float × Float)) (p : Float × Float) → flat (v ++ (p ∷ [])) ≡ flat v ++ (p .0 ∷ p .1 ∷ [])
 flat-snoc [] p = refl
@@ -66,6 +70,21 @@ length-pairs (a ∷ b ∷ w) = ap suc (length-pairs w) ∙ more (length w)
   where
     more : (n : ℕ) → suc (n / 2) ≡ suc (suc n) / 2
     more n = omega arith
+
+pub pair-at : (w : List Float) (i : ℕ) → 2 * i + 1 < length w → getD (pairs w) i (nan, nan) ≡ (getD w (2 * i) nan, getD w (2 * i + 1) nan)
+pair-at [] i h = absurd (omega arith)
+pair-at (a ∷ []) i h = absurd (omega arith)
+pair-at (a ∷ b ∷ w) zero h = refl
+pair-at (a ∷ b ∷ w) (suc i) h =
+    pair-at w i (omega arith)
+    ∙ ap {B = Float × Float} (λ (n : ℕ). (getD (a ∷ b ∷ w) n nan, getD w (2 * i + 1) nan)) (even i)
+    ∙ ap {B = Float × Float} (λ (n : ℕ). (getD (a ∷ b ∷ w) (2 * suc i) nan, getD (a ∷ b ∷ w) n nan)) (odd i)
+  where
+    even : (i : ℕ) → suc (suc (2 * i)) ≡ 2 * suc i
+    even i = omega arith
+
+    odd : (i : ℕ) → suc (suc (2 * i + 1)) ≡ 2 * suc i + 1
+    odd i = omega arith
 
 flat-pairs : (k : ℕ) (w : List Float) → 2 * k ≤ length w → flat (take k (pairs w)) ≡ take (2 * k) w
 flat-pairs zero w h = refl

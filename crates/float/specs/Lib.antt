@@ -1,3 +1,6 @@
 pub mod HbfTaps
 pub mod HalfBand
 pub mod Windows
+pub mod Limits
+pub mod Answers
+pub mod HbfDec

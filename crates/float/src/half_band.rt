@@ -2,8 +2,10 @@
 ghost use mathlib.Core.Path.{_≡_};
 ghost use mathlib.Core.List.{[], _∷_, _++_};
 ghost use Prim.Native.Nat.{_≤_, _-_, _*_};
-ghost use lib.ListN.{length, drop};
-ghost use Rattle.float.specs.Windows.{slid, folded, decValue, intValue};
+ghost use lib.ListN.{length, take, drop, replicate};
+ghost use Rattle.theory.specs.Sections.{state, outs};
+ghost use Rattle.float.specs.HalfBand.{zero32};
+ghost use Rattle.float.specs.Windows.{slid, folded, decValue, intValue, pairs, decimator};
 
 // The window moves down by so many places; the last so many stay.
 fn move_down(window: &mut [f32], by: usize)
@@ -46,6 +48,19 @@ pub fn take_pair(window: &mut [f32], taps: &[f32], a: f32, b: f32) -> f32
     0.5 * folded_sum(window, taps, 2, centre)
 }
 
+// The decimator takes n pairs of src in, and their outputs stand in front of dst.
+pub fn decimate(window: &mut [f32], taps: &[f32], src: &[f32], dst: &mut [f32], n: usize)
+    requires { ⌜ (1 ≤ length (now taps)) × (length (now window) ≡ 4 * length (now taps)) × (2 * n ≤ length (now src)) × (n ≤ length (now dst)) ⌝ }
+    ensures { λ _. ⌜ (now (window .exit) ≡ state (decimator (now (taps .entry))) (now (window .entry)) (take n (pairs (now (src .entry))))) × (now (dst .exit) ≡ outs (decimator (now (taps .entry))) (now (window .entry)) (take n (pairs (now (src .entry)))) ++ drop n (now (dst .entry))) ⌝ }
+{
+    let mut i = 0;
+    while i < n {
+        let y = take_pair(window, taps, src[2 * i], src[2 * i + 1]);
+        dst[i] = y;
+        i += 1;
+    }
+}
+
 // The two outputs that the interpolator makes of a sample.
 pub struct Both {
     pub even: f32,
@@ -63,4 +78,18 @@ pub fn take_sample(window: &mut [f32], taps: &[f32], x: f32) -> Both
     let even = window[taps.len()];
     let odd = folded_sum(window, taps, 1, 0.0);
     Both { even, odd }
+}
+
+// The taps in front, and zeros behind them.
+pub fn padded(taps: &[f32]) -> [f32; 23]
+    requires { ⌜ length (now taps) ≤ 23 ⌝ }
+    ensures { λ r. ⌜ r ≡ now (taps .entry) ++ replicate (23 - length (now (taps .entry))) zero32 ⌝ }
+{
+    let mut coeffs = [0.0f32; 23];
+    let mut i = 0;
+    while i < taps.len() {
+        coeffs[i] = taps[i];
+        i += 1;
+    }
+    coeffs
 }

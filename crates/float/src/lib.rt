@@ -2,5 +2,6 @@
 mod half_band;
 pub mod hbf_dec;
 pub mod hbf_taps;
+mod limits;
 
 pub use crate::hbf_dec::HbfDec;
