@@ -1,4 +1,5 @@
 pub mod Decimals
+pub mod StageTables
 pub mod Bounds
 pub mod Filling
 pub mod Moving
@@ -8,3 +9,5 @@ pub mod WholeLists
 pub mod Blocks
 pub mod Along
 pub mod Decimators
+pub mod Splicing
+pub mod Passing

@@ -4,3 +4,4 @@ pub mod Windows
 pub mod Limits
 pub mod Answers
 pub mod HbfDec
+pub mod HbfStream

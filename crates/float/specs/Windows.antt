@@ -3,7 +3,7 @@
 use mathlib.Core.List.{List, [], _∷_, _++_}
 use mathlib.Core.Option.{some}
 use Prim.Native.Nat.{ℕ, zero, suc, _-_, _*_}
-use lib.ListN.{length, getD, drop}
+use lib.ListN.{length, getD, take, drop}
 use lib.Ieee.{Float, nan, binary32, add, mul}
 use Rattle.theory.specs.Sections.{Section}
 use Rattle.float.specs.HalfBand.{zero32, half32}
@@ -38,3 +38,7 @@ decimator c = record { next = λ w p. slid w (p .0 ∷ p .1 ∷ []); out = λ w 
 -- a window that takes samples and makes two outputs of each
 unfoldable pub interpolator : List Float → Section (List Float) Float (Float × Float)
 interpolator c = record { next = λ w x. slid w (x ∷ []); out = λ w x. some (intValue c (slid w (x ∷ []))) }
+
+-- the list d with w in place of the n places from `from` on
+abbrev pub spliced : ℕ → ℕ → List Float → List Float → List Float
+spliced from n w d = take from d ++ (w ++ drop n (drop from d))

@@ -50,6 +50,11 @@ pub const HBF_TAPS: [f32; 45] = [
     0.58622005,
 ];
 
+// Where the taps of each stage of a decimation begin, and how many they are, from the highest rate on.
+pub const DECIMATION_STARTS: [usize; 5] = [42, 38, 33, 23, 0];
+
+pub const DECIMATION_LENGTHS: [usize; 5] = [3, 4, 5, 10, 23];
+
 // The table, each entry the f32 nearest to its printed decimal.
 pub fn hbf_taps() -> [f32; 45]
     ensures { λ r. ⌜ r ≡ hbfTaps ⌝ }
