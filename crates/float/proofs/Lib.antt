@@ -11,3 +11,6 @@ pub mod Along
 pub mod Decimators
 pub mod Splicing
 pub mod Passing
+pub mod Stages
+pub mod Streaming
+pub mod HeldOnes

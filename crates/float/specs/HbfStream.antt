@@ -112,6 +112,10 @@ abbrev pub valueOf : HbfOut → Option Float
 valueOf made.Nothing = none
 valueOf (made.Value y) = some y
 
+abbrev pub answered : HbfOut → HbfStreamOut
+answered made.Nothing = Nothing
+answered (made.Value y) = Value y
+
 abbrev pub toldStreamOut : HbfStreamOut → HbfStream → Outcome (Option Float) HbfStream
 toldStreamOut Nothing s = record { number = 0; value = none; state = s }
 toldStreamOut (Value y) s = record { number = 0; value = some y; state = s }

@@ -7,7 +7,7 @@ ghost use Rattle.refusal.specs.Outcome.{openingNumber};
 ghost use Rattle.float.specs.Answers.{toldOpening};
 ghost use Rattle.float.specs.HbfTaps.{stageTaps, decimation};
 ghost use Rattle.float.specs.Windows.{slid, decValue, spliced};
-ghost use Rattle.float.specs.HbfStream.{streamOf, hbfStream, valueOf, streamOpening, streamReset, streamStep, streamRefused, toldStreamStep, StreamMeets};
+ghost use Rattle.float.specs.HbfStream.{streamOf, streamFresh, hbfStream, valueOf, answered, streamOpening, streamReset, streamStep, streamRefused, toldStreamStep, StreamMeets};
 use crate::half_band::take_pair;
 use crate::hbf_taps::DECIMATION_LENGTHS;
 use crate::hbf_taps::DECIMATION_STARTS;
@@ -93,4 +93,103 @@ pub fn hbf_stream_at(
         k += 1;
     }
     HbfOut::Value(v)
+}
+
+// Refusal 15 of a state: too many stages, or more than one held sample at a stage that is run.
+pub fn hbf_stream_refused(depth: usize, counts: [usize; 5]) -> bool
+    ensures { λ r. ⌜ r ≡ streamRefused depth counts ⌝ }
+{
+    if MOST_STAGES < depth {
+        return true;
+    }
+    let mut k = 0;
+    while k < depth {
+        if 1 < counts[k] {
+            return true;
+        }
+        k += 1;
+    }
+    false
+}
+
+fn fresh(depth: usize) -> HbfStream
+    ensures { λ r. ⌜ r ≡ streamFresh depth ⌝ }
+{
+    let delays = [0.0f32; 480];
+    let held = [0.0f32; 5];
+    let counts = [0usize; 5];
+    HbfStream {
+        depth,
+        delays,
+        held,
+        counts,
+    }
+}
+
+// The method's answer where it is not refused.
+fn answer(o: HbfOut) -> HbfStreamOut
+    ensures { λ r. ⌜ r ≡ answered o ⌝ }
+{
+    match o {
+        HbfOut::Nothing => HbfStreamOut::Nothing,
+        HbfOut::Value(y) => HbfStreamOut::Value(y),
+    }
+}
+
+impl HbfStream {
+    // A cascade of so many stages; of none, which hands its samples on. Refusal 11: over five.
+    pub fn new(depth: usize) -> HbfStreamOpening
+        ensures answer { λ r. ⌜ toldOpening (r .answer) (r .state) ≡ streamOpening depth ⌝ }
+        ensures meets { λ r. ⌜ (openingNumber (r .answer) ≡ 0 → StreamMeets depth (r .state)) ⌝ }
+    {
+        if MOST_STAGES < depth {
+            let state = fresh(0);
+            return HbfStreamOpening {
+                answer: Opening::Refused(Refusal::Depth),
+                state,
+            };
+        }
+        let state = fresh(depth);
+        HbfStreamOpening {
+            answer: Opening::Opened,
+            state,
+        }
+    }
+
+    // One sample. Refusal 15.
+    pub fn process_sample(mut self, x: f32) -> HbfStreamStep
+        ensures answer { λ r. ⌜ toldStreamStep r ≡ streamStep self x ⌝ }
+    {
+        let depth = self.depth;
+        let mut counts = self.counts;
+        if hbf_stream_refused(depth, counts) {
+            return HbfStreamStep {
+                out: HbfStreamOut::Refused(Refusal::State),
+                state: self,
+            };
+        }
+        let mut delays = self.delays;
+        let mut held = self.held;
+        let o = hbf_stream_at(depth, &mut delays, &mut held, &mut counts, x);
+        self.delays = delays;
+        self.held = held;
+        self.counts = counts;
+        let out = answer(o);
+        HbfStreamStep { out, state: self }
+    }
+
+    // A fresh opening of the same depth. Refusal 15.
+    pub fn reset(self) -> HbfStreamOpening
+        ensures answer { λ r. ⌜ toldOpening (r .answer) (r .state) ≡ streamReset self ⌝ }
+    {
+        let depth = self.depth;
+        let counts = self.counts;
+        if hbf_stream_refused(depth, counts) {
+            return HbfStreamOpening {
+                answer: Opening::Refused(Refusal::State),
+                state: self,
+            };
+        }
+        HbfStream::new(depth)
+    }
 }
