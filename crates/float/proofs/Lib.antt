@@ -14,3 +14,4 @@ pub mod Passing
 pub mod Stages
 pub mod Streaming
 pub mod HeldOnes
+pub mod Frames

@@ -26,7 +26,7 @@ abbrev pub empty : List Float → Half
 empty w = record { window = w; held = zero32; count = 0 }
 
 -- its outputs are the decimator's of the pairs; whatever is in the place of the held sample
-half-pairs : (c w : List Float) (h : Float) (v : List Float) → outs (half c) (record { window = w; held = h; count = 0 }) v ≡ outs (decimator c) w (pairs v)
+pub half-pairs : (c w : List Float) (h : Float) (v : List Float) → outs (half c) (record { window = w; held = h; count = 0 }) v ≡ outs (decimator c) w (pairs v)
 unfolding half decimator
 half-pairs c w h [] = refl
 half-pairs c w h (a ∷ []) = refl
