@@ -15,3 +15,4 @@ pub mod Stages
 pub mod Streaming
 pub mod HeldOnes
 pub mod Frames
+pub mod DecCascades

@@ -1,7 +1,7 @@
 -- The stages of a table: each has 1 to 23 taps, which lie in the table; and the code's constants are section 4's.
 use mathlib.Core.Path.{_≡_, refl, sym, ap, _∙_}
 use mathlib.Core.List.{List, [], _∷_}
-use Prim.Native.Nat.{ℕ, zero, suc, _+_, _-_, _≤_, _<_}
+use Prim.Native.Nat.{ℕ, zero, suc, _+_, _^_, _≤_, _<_}
 use native.Mathlib.Omega.{arith}
 use lib.Dec.{lit≤}
 use lib.ListN.{length, getD, take, drop, length-drop}
@@ -52,3 +52,13 @@ dec-stages =
       least = λ k h. let e = dec-length k h in omega (arith, dec-placed k h .least);
       most = λ k h. let e = dec-length k h in omega (arith, dec-placed k h .most);
     }
+
+-- the rate changes by 2^d
+pub rate : (d : ℕ) → d ≤ 5 → getD (1 ∷ 2 ∷ 4 ∷ 8 ∷ 16 ∷ 32 ∷ []) d 0 ≡ 2 ^ d
+rate zero h = refl
+rate (suc zero) h = refl
+rate (suc (suc zero)) h = refl
+rate (suc (suc (suc zero))) h = refl
+rate (suc (suc (suc (suc zero)))) h = refl
+rate (suc (suc (suc (suc (suc zero))))) h = refl
+rate (suc (suc (suc (suc (suc (suc d)))))) h = absurd (omega arith)

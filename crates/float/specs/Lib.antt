@@ -5,3 +5,4 @@ pub mod Limits
 pub mod Answers
 pub mod HbfDec
 pub mod HbfStream
+pub mod HbfDecCascade

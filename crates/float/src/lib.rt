@@ -1,9 +1,11 @@
 // 01, sections 4 and 5 and the float part of section 7: f32 rate converters.
 mod half_band;
 pub mod hbf_dec;
+pub mod hbf_dec_cascade;
 pub mod hbf_stream;
 pub mod hbf_taps;
 mod limits;
 
 pub use crate::hbf_dec::HbfDec;
+pub use crate::hbf_dec_cascade::HbfDecCascade;
 pub use crate::hbf_stream::HbfStream;

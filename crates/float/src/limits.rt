@@ -1,6 +1,6 @@
 // 01's limits of the float converters.
 ghost use mathlib.Core.Path.{_≡_};
-ghost use Prim.Native.Nat.{min};
+ghost use Prim.Native.Nat.{min, _^_, _≤_};
 ghost use Rattle.float.specs.Limits as L;
 
 pub const MOST_HALF_BAND_TAPS: usize = 23;
@@ -36,4 +36,14 @@ pub fn smaller(a: usize, b: usize) -> usize
         return a;
     }
     b
+}
+
+const RATE_CHANGES: [usize; 6] = [1, 2, 4, 8, 16, 32];
+
+// What a cascade of so many stages multiplies or divides the rate by.
+pub fn rate_change(depth: usize) -> usize
+    requires { ⌜ depth ≤ 5 ⌝ }
+    ensures { λ r. ⌜ r ≡ 2 ^ depth ⌝ }
+{
+    RATE_CHANGES[depth]
 }

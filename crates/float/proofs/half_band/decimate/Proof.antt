@@ -1,22 +1,23 @@
 -- `float::half_band::decimate` meets its contract: after i turns the window and the span are those of the first i pairs.
 use mathlib.Core.Path.{_≡_, refl, sym, ap, _∙_, subst}
 use mathlib.Core.List.{List, [], _∷_}
+use mathlib.Core.Option.{some}
 use Prim.Native.Nat.{ℕ, _+_, _*_, _-_, _≤_, _<_}
 use native.Mathlib.Nat.{le-antisymm}
 use lib.ListN.{length, getD, take}
 use lib.Ieee.{Float, nan}
 use denote.Ref.{now}
 use Rattle.float.specs.Windows.{slid, decValue, pairs, decimator}
-use Rattle.float.proofs.Blocks.{SoFar, so-far-none, so-far-next}
+use Rattle.float.proofs.Blocks.{Emitted, emitted-start, emitted-one}
 use Rattle.float.proofs.Moving.{length-slid}
-use Rattle.float.proofs.WholeLists.{length-pairs, pair-at, dec-made}
+use Rattle.float.proofs.WholeLists.{length-pairs, pair-at}
 use native.Mathlib.Omega.{arith}
 use borrow.Author.Needs.{needs}
 use Rattle.float.proofs.half_band.decimate.Statement.{statement}
 use Rattle.float.proofs.half_band.decimate.Tie as tie
 
 abbrev Inv-loop : tie.InvT-loop
-Inv-loop window₀ taps src dst₀ n i₀ window dst i = (i ≤ n) × (length window ≡ length window₀) × SoFar (decimator taps) window₀ (pairs src) dst₀ window dst i
+Inv-loop window₀ taps src dst₀ n i₀ window dst i = (i ≤ n) × (length window ≡ length window₀) × Emitted (decimator taps) window₀ (pairs src) dst₀ window dst i i
 
 abbrev μ-loop : tie.MeasureT-loop
 μ-loop window₀ taps src dst₀ n i₀ window dst i = n - i
@@ -25,7 +26,7 @@ abbrev begun : tie.At-loop Inv-loop μ-loop → tie.Start Inv-loop μ-loop
 begun c = c .before .before .before .before .before
 
 loop-holds : tie.Need-loop-holds Inv-loop μ-loop
-loop-holds c = (search needs, refl, so-far-none _ _ _ _)
+loop-holds c = (search needs, refl, emitted-start _ _ _ _)
 
 mul-take-pair : tie.Need-mul-take-pair Inv-loop μ-loop
 mul-take-pair c = search needs
@@ -72,10 +73,11 @@ loop-again c = let l = c .before .before .before .before .before .before .before
     let q : getD (pairs src) (l .i) (nan, nan) ≡ (getD src (2 * l .i) nan, getD src (2 * l .i + 1) nan) = pair-at src (l .i) (omega arith) in (
       omega arith,
       ap length (t .ensures .0) ∙ length-slid (l .window) (getD src (2 * l .i) nan ∷ getD src (2 * l .i + 1) nan ∷ []) (omega arith) ∙ l .inv .1,
-      so-far-next (decimator (now (a .taps))) (dec-made (now (a .taps))) (λ w p. refl) (now (a .window)) (pairs src) (now (a .dst)) (l .window) (l .dst) (l .i) (nan, nan) (l .inv .2)
-          (omega (arith, length-pairs src)) (omega arith) (t .last .0) (t .result)
+      emitted-one (decimator (now (a .taps))) (now (a .window)) (pairs src) (now (a .dst)) (l .window) (l .dst) (l .i) (l .i) (nan, nan) (l .inv .2) (omega (arith, length-pairs src)) (t .last .0)
           (t .ensures .0 ∙ ap (λ (p : Float × Float). slid (l .window) (p .0 ∷ p .1 ∷ [])) (sym q))
-          (t .ensures .1 ∙ ap (λ (p : Float × Float). decValue (now (a .taps)) (slid (l .window) (p .0 ∷ p .1 ∷ []))) (sym q)),
+          (t .result)
+          (ap (λ (p : Float × Float). some (decValue (now (a .taps)) (slid (l .window) (p .0 ∷ p .1 ∷ [])))) q ∙ ap some (sym (t .ensures .1)))
+          (omega arith),
     )
 
 same-length : tie.Need-same-length Inv-loop μ-loop
@@ -87,7 +89,7 @@ same-length-2 c = c .before .loop .inv .2 .same
 returns : tie.Need-returns Inv-loop μ-loop
 returns c = let l = c .before .loop in
     let a = begun (c .before) .args in
-    let all = subst (λ (k : ℕ). SoFar (decimator (now (a .taps))) (now (a .window)) (pairs (now (a .src))) (now (a .dst)) (l .window) (l .dst) k) (le-antisymm (l .inv .0) (c .loop-test .left)) (l .inv .2) in
+    let all = subst (λ (k : ℕ). Emitted (decimator (now (a .taps))) (now (a .window)) (pairs (now (a .src))) (now (a .dst)) (l .window) (l .dst) k k) (le-antisymm (l .inv .0) (c .loop-test .left)) (l .inv .2) in
     (all .state-is, all .span-is)
 
 pub decimate-spec : {M : Type 1} → statement M
