@@ -7,7 +7,9 @@ pub mod Folding
 pub mod Earlier
 pub mod WholeLists
 pub mod Blocks
+pub mod Expanding
 pub mod Along
+pub mod Stored
 pub mod Decimators
 pub mod Splicing
 pub mod Passing

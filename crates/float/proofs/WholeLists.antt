@@ -59,7 +59,7 @@ abbrev pub dec-made : List Float → List Float → Float × Float → Float
 dec-made c w p = decValue c (slid w (p .0 ∷ p .1 ∷ []))
 
 -- ---- pairs
-flat-snoc : (v : List (Float × Float)) (p : Float × Float) → flat (v ++ (p ∷ [])) ≡ flat v ++ (p .0 ∷ p .1 ∷ [])
+pub flat-snoc : (v : List (Float × Float)) (p : Float × Float) → flat (v ++ (p ∷ [])) ≡ flat v ++ (p .0 ∷ p .1 ∷ [])
 flat-snoc [] p = refl
 flat-snoc (q ∷ v) p = ap (λ (l : List Float). q .0 ∷ q .1 ∷ l) (flat-snoc v p)
 

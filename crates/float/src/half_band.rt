@@ -4,8 +4,8 @@ ghost use mathlib.Core.List.{[], _∷_, _++_};
 ghost use Prim.Native.Nat.{_≤_, _-_, _*_};
 ghost use lib.ListN.{length, take, drop, replicate};
 ghost use Rattle.theory.specs.Sections.{state, outs};
-ghost use Rattle.float.specs.HalfBand.{zero32};
-ghost use Rattle.float.specs.Windows.{slid, folded, decValue, intValue, pairs, decimator};
+ghost use Rattle.float.specs.HalfBand.{zero32, flat};
+ghost use Rattle.float.specs.Windows.{slid, folded, decValue, intValue, pairs, decimator, interpolator};
 
 // The window moves down by so many places; the last so many stay.
 fn move_down(window: &mut [f32], by: usize)
@@ -78,6 +78,37 @@ pub fn take_sample(window: &mut [f32], taps: &[f32], x: f32) -> Both
     let even = window[taps.len()];
     let odd = folded_sum(window, taps, 1, 0.0);
     Both { even, odd }
+}
+
+// The samples stand at the span's end.
+pub fn put_at_end(span: &mut [f32], src: &[f32])
+    requires { ⌜ length (now src) ≤ length (now span) ⌝ }
+    ensures { λ _. ⌜ now (span .exit) ≡ take (length (now (span .entry)) - length (now (src .entry))) (now (span .entry)) ++ now (src .entry) ⌝ }
+{
+    let from = span.len() - src.len();
+    let mut i = 0;
+    while i < src.len() {
+        span[from + i] = src[i];
+        i += 1;
+    }
+}
+
+// The last n samples of the span go through the interpolator, and their 2n outputs stand at its end. An output is never written over a sample that is
+// still to be read: output 2i + 1 stands n - 1 - i places before sample i.
+pub fn expand(window: &mut [f32], taps: &[f32], span: &mut [f32], n: usize)
+    requires { ⌜ (1 ≤ length (now taps)) × (length (now window) ≡ 2 * length (now taps)) × (2 * n ≤ length (now span)) ⌝ }
+    ensures { λ _. ⌜ (now (window .exit) ≡ state (interpolator (now (taps .entry))) (now (window .entry)) (drop (length (now (span .entry)) - n) (now (span .entry)))) × (now (span .exit) ≡ take (length (now (span .entry)) - 2 * n) (now (span .entry)) ++ flat (outs (interpolator (now (taps .entry))) (now (window .entry)) (drop (length (now (span .entry)) - n) (now (span .entry))))) ⌝ }
+{
+    let from = span.len() - n;
+    let to = from - n;
+    let mut i = 0;
+    while i < n {
+        let x = span[from + i];
+        let y = take_sample(window, taps, x);
+        span[to + 2 * i] = y.even;
+        span[to + 2 * i + 1] = y.odd;
+        i += 1;
+    }
 }
 
 // The taps in front, and zeros behind them.
