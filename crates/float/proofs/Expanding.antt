@@ -7,7 +7,7 @@ use native.Mathlib.Nat.{add-zero}
 use native.Mathlib.Numerals.{add-one}
 use native.Mathlib.Omega.{arith}
 use lib.ListN.{length, getD, set, take, drop, length-set, length-drop, length-append, take-append-drop}
-use lib.Seq.{take-suc-set, drop-set-lt, drop-drop, getD-drop, take-all, take-length, length-take-le}
+use lib.Seq.{take-suc-set, drop-set-lt, drop-drop, getD-drop, take-all, length-take-le, drop-append-seam}
 use lib.Ieee.{Float, nan}
 use Rattle.theory.specs.Sections.{Section, state, outs}
 use Rattle.float.specs.HalfBand.{flat}
@@ -103,3 +103,18 @@ module _ {S : Type 0} (f : Section S Float (Float × Float)) (s : S) (span₀ : 
               ∙ ap (λ (l : List Float). take to span₀ ++ flat (outs f s l)) e
               ∙ ap (λ (m : ℕ). take m span₀ ++ flat (outs f s w)) j,
         )
+
+-- samples put at the end of a span of twice their number, and expanded, fill it
+pub ends : (p q : List Float) → length p ≡ 2 * length q → drop (length (take (length p - length q) p ++ q) - length q) (take (length p - length q) p ++ q) ≡ q
+ends p q e =
+    ap (λ (n : ℕ). drop n (take (length p - length q) p ++ q)) (less ∙ sym (length-take-le (length p - length q) p (omega arith)))
+    ∙ drop-append-seam (take (length p - length q) p) q
+  where
+    less : length (take (length p - length q) p ++ q) - length q ≡ length p - length q
+    less = simp (length-append, length-take-le (length p - length q) p (omega arith)) (omega arith)
+
+pub long : (p q : List Float) → length p ≡ 2 * length q → length (take (length p - length q) p ++ q) ≡ 2 * length q
+long p q e = length-append (take (length p - length q) p) q ∙ ap (λ (n : ℕ). n + length q) (length-take-le (length p - length q) p (omega arith)) ∙ sum
+  where
+    sum : length p - length q + length q ≡ 2 * length q
+    sum = omega arith

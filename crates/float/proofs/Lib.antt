@@ -11,6 +11,7 @@ pub mod Expanding
 pub mod Along
 pub mod Stored
 pub mod Decimators
+pub mod Interpolators
 pub mod Splicing
 pub mod Passing
 pub mod Stages

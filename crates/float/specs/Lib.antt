@@ -6,3 +6,4 @@ pub mod Answers
 pub mod HbfDec
 pub mod HbfStream
 pub mod HbfDecCascade
+pub mod HbfInt

@@ -111,6 +111,15 @@ pub fn expand(window: &mut [f32], taps: &[f32], span: &mut [f32], n: usize)
     }
 }
 
+// The interpolator takes src in, and its outputs fill the span.
+pub fn interpolate(window: &mut [f32], taps: &[f32], src: &[f32], span: &mut [f32])
+    requires { ⌜ (1 ≤ length (now taps)) × (length (now window) ≡ 2 * length (now taps)) × (length (now span) ≡ 2 * length (now src)) ⌝ }
+    ensures { λ _. ⌜ (now (window .exit) ≡ state (interpolator (now (taps .entry))) (now (window .entry)) (now (src .entry))) × (now (span .exit) ≡ flat (outs (interpolator (now (taps .entry))) (now (window .entry)) (now (src .entry)))) ⌝ }
+{
+    put_at_end(span, src);
+    expand(window, taps, span, src.len());
+}
+
 // The taps in front, and zeros behind them.
 pub fn padded(taps: &[f32]) -> [f32; 23]
     requires { ⌜ length (now taps) ≤ 23 ⌝ }

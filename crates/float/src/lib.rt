@@ -2,10 +2,12 @@
 mod half_band;
 pub mod hbf_dec;
 pub mod hbf_dec_cascade;
+pub mod hbf_int;
 pub mod hbf_stream;
 pub mod hbf_taps;
 mod limits;
 
 pub use crate::hbf_dec::HbfDec;
 pub use crate::hbf_dec_cascade::HbfDecCascade;
+pub use crate::hbf_int::HbfInt;
 pub use crate::hbf_stream::HbfStream;
