@@ -13,9 +13,11 @@ pub mod Stored
 pub mod Decimators
 pub mod Interpolators
 pub mod Splicing
+pub mod Parts
 pub mod Passing
 pub mod Stages
 pub mod Streaming
 pub mod HeldOnes
 pub mod Frames
 pub mod DecCascades
+pub mod IntCascades

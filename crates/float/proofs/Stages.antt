@@ -6,19 +6,18 @@ use mathlib.Core.List.{List, [], _∷_, _++_}
 use mathlib.Core.Option.{Option, none, some}
 use Prim.Native.Nat.{ℕ, zero, suc, _+_, _-_, _*_, _≤_, _<_}
 use native.Mathlib.Omega.{arith}
-use native.Mathlib.Decide.{decLt}
 use lib.Dec.{eqb}
-use lib.ListN.{length, getD, set, take, drop, length-set, length-drop}
-use lib.Seq.{length-take-le, getD-set-same, getD-set-other}
+use lib.ListN.{length, getD, set, take, drop, length-set}
+use lib.Seq.{getD-set-same, getD-set-other}
 use lib.Ieee.{Float, nan}
 use Rattle.theory.specs.Sections.{Section}
 use Rattle.theory.specs.Cascades.{stay, cascadeNext, cascadeOut}
 use Rattle.float.specs.HalfBand.{zero32}
-use Rattle.float.specs.Windows.{slid, decValue, spliced}
+use Rattle.float.specs.Windows.{slid}
 use Rattle.float.specs.HbfStream.{Half, half, Passed, stageIn, withStage, through}
 use Rattle.float.specs.declared.hbf_stream.HbfStream.{HbfStream}
 use Rattle.float.proofs.Moving.{length-slid}
-use Rattle.float.proofs.Splicing.{splice-found, splice-before, splice-after, length-splice}
+use Rattle.float.proofs.Parts.{part-long, part-found, part-elsewhere, length-with}
 use Rattle.float.proofs.StageTables.{FiveStages}
 use Rattle.float.proofs.Passing.{none-through}
 
@@ -45,20 +44,21 @@ module _ (taps : ℕ → List Float) (five : FiveStages taps) where
   stagesFrom zero k s = []
   stagesFrom (suc n) k s = stageIn taps k s ∷ stagesFrom n (suc k) s
 
+  -- a window lies in its 96 places
+  fits : (k : ℕ) → k < 5 → 4 * length (taps k) ≤ 96
+  fits k h = omega (arith, five .most k h)
+
   window-long : (k : ℕ) (s : HbfStream) → k < 5 → Sized s → length (stageIn taps k s .window) ≡ 4 * length (taps k)
   unfolding stageIn
-  window-long k s h z = let m = five .most k h in length-take-le (4 * length (taps k)) (drop (96 * k) (s .delays)) (simp length-drop (omega (arith, z .delays)))
+  window-long k s h z = part-long 96 (λ j. 4 * length (taps j)) fits (s .delays) (z .delays) k h
 
   -- stage k put in
   module _ (k : ℕ) (h : Half) (s : HbfStream) (in-range : k < 5) (z : Sized s) (long : length (h .window) ≡ 4 * length (taps k)) where
-    room : 96 * k + 4 * length (taps k) ≤ length (s .delays)
-    room = omega (arith, z .delays, five .most k in-range)
-
     pub found : stageIn taps k (withStage taps k h s) ≡ h
     unfolding stageIn withStage
     found =
         ap {B = Half} (λ (w : List Float). record { window = w; held = getD (set (s .held) k (h .held)) k nan; count = getD (set (s .counts) k (h .count)) k 0 })
-        (splice-found (96 * k) (4 * length (taps k)) (h .window) (s .delays) long room)
+        (part-found 96 (λ j. 4 * length (taps j)) fits (s .delays) (z .delays) k in-range (h .window) long)
         ∙ ap {B = Half} (λ (v : Float). record { window = h .window; held = v; count = getD (set (s .counts) k (h .count)) k 0 }) (getD-set-same (s .held) k (h .held) nan (omega (arith, z .held)))
         ∙ ap {B = Half} (λ (n : ℕ). record { window = h .window; held = h .held; count = n }) (getD-set-same (s .counts) k (h .count) 0 (omega (arith, z .counts)))
 
@@ -66,7 +66,7 @@ module _ (taps : ℕ → List Float) (five : FiveStages taps) where
     unfolding withStage
     sized-with =
         record {
-          delays = length-splice (96 * k) (4 * length (taps k)) (h .window) (s .delays) long room ∙ z .delays;
+          delays = length-with 96 (λ j. 4 * length (taps j)) fits (s .delays) (z .delays) k in-range (h .window) long ∙ z .delays;
           held = length-set (s .held) k (h .held) ∙ z .held;
           counts = length-set (s .counts) k (h .count) ∙ z .counts;
         }
@@ -74,17 +74,11 @@ module _ (taps : ℕ → List Float) (five : FiveStages taps) where
     pub elsewhere : (j : ℕ) → j < 5 → (j ≡ k → ⊥) → stageIn taps j (withStage taps k h s) ≡ stageIn taps j s
     unfolding stageIn withStage
     elsewhere j l q =
-        ap {B = Half} (λ (w : List Float). record { window = w; held = getD (set (s .held) k (h .held)) j nan; count = getD (set (s .counts) k (h .count)) j 0 }) (window (decLt j k))
+        ap {B = Half} (λ (w : List Float). record { window = w; held = getD (set (s .held) k (h .held)) j nan; count = getD (set (s .counts) k (h .count)) j 0 })
+        (part-elsewhere 96 (λ i. 4 * length (taps i)) fits (s .delays) (z .delays) k in-range (h .window) long j l q)
         ∙ ap {B = Half} (λ (v : Float). record { window = take (4 * length (taps j)) (drop (96 * j) (s .delays)); held = v; count = getD (set (s .counts) k (h .count)) j 0 })
         (getD-set-other (s .held) k j (h .held) nan q)
         ∙ ap {B = Half} (λ (n : ℕ). record { window = take (4 * length (taps j)) (drop (96 * j) (s .delays)); held = getD (s .held) j nan; count = n }) (getD-set-other (s .counts) k j (h .count) 0 q)
-      where
-        window : Dec (j < k) → take (4 * length (taps j)) (drop (96 * j) (spliced (96 * k) (4 * length (taps k)) (h .window) (s .delays))) ≡ take (4 * length (taps j)) (drop (96 * j) (s .delays))
-        window (yes p) = splice-before (96 * k) (4 * length (taps k)) (h .window) (s .delays) long room (96 * j) (4 * length (taps j)) (omega (arith, five .most j l))
-        window (no p) = ap (take (4 * length (taps j))) (splice-after (96 * k) (4 * length (taps k)) (h .window) (s .delays) long room (96 * j) (behind j k p q (five .most k in-range)))
-          where
-            behind : (j k : ℕ) → (j < k → ⊥) → (j ≡ k → ⊥) → length (taps k) ≤ 23 → 96 * k + 4 * length (taps k) ≤ 96 * j
-            behind j k p q m = omega arith
 
   -- the same stages
   same-stages : (n k : ℕ) (s t : HbfStream) → ((j : ℕ) → k ≤ j → j < k + n → stageIn taps j s ≡ stageIn taps j t) → stagesFrom n k s ≡ stagesFrom n k t

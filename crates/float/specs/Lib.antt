@@ -7,3 +7,4 @@ pub mod HbfDec
 pub mod HbfStream
 pub mod HbfDecCascade
 pub mod HbfInt
+pub mod HbfIntCascade

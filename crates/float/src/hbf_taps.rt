@@ -55,6 +55,11 @@ pub const DECIMATION_STARTS: [usize; 5] = [42, 38, 33, 23, 0];
 
 pub const DECIMATION_LENGTHS: [usize; 5] = [3, 4, 5, 10, 23];
 
+// The same of an interpolation, from the lowest rate on.
+pub const INTERPOLATION_STARTS: [usize; 5] = [0, 23, 33, 38, 42];
+
+pub const INTERPOLATION_LENGTHS: [usize; 5] = [23, 10, 5, 4, 3];
+
 // The table, each entry the f32 nearest to its printed decimal.
 pub fn hbf_taps() -> [f32; 45]
     ensures { λ r. ⌜ r ≡ hbfTaps ⌝ }

@@ -1,35 +1,23 @@
 -- `float::hbf_stream::stage_pair` meets its contract: the parts lent are the window and the taps of stage k.
-use mathlib.Core.Path.{_≡_, sym, ap, _∙_}
+use mathlib.Core.Path.{_≡_, ap, _∙_}
 use mathlib.Core.List.{List, [], _∷_}
 use Prim.Native.Nat.{ℕ, _+_, _*_, _-_, _≤_, _<_}
-use lib.ListN.{length, getD, take, drop, length-drop}
-use lib.Seq.{length-take-le}
+use lib.ListN.{length, getD, take, drop}
 use lib.Ieee.{Float}
 use denote.Ref.{now}
 use Rattle.float.specs.HbfTaps.{stageTaps, decimation}
 use Rattle.float.specs.Windows.{slid, decValue, spliced}
-use Rattle.float.proofs.Decimals.{patterns}
-use Rattle.float.proofs.StageTables.{decStarts, decLengths, dec-placed, dec-taps, dec-length}
+use Rattle.float.proofs.Parts.{part-long}
+use Rattle.float.proofs.StageTables.{decLengths, dec-placed, dec-length, dec-count, dec-part-taps, dec-stages}
 use native.Mathlib.Omega.{arith}
 use borrow.Author.Needs.{needs}
 use Rattle.float.proofs.hbf_stream.stage_pair.Statement.{statement}
 use Rattle.float.proofs.hbf_stream.stage_pair.Tie as tie
 
--- the parts' lengths, as the code computes them
-taps-of : (k : ℕ) → take (getD decStarts k 0 + getD decLengths k 0 - getD decStarts k 0) (drop (getD decStarts k 0) patterns) ≡ stageTaps decimation k
-taps-of k = ap (λ (n : ℕ). take n (drop (getD decStarts k 0) patterns)) (less (getD decStarts k 0) (getD decLengths k 0)) ∙ dec-taps k
-  where
-    less : (a b : ℕ) → a + b - a ≡ b
-    less a b = omega arith
-
-count-of : (k : ℕ) → k < 5 → 96 * k + 4 * getD decLengths k 0 - 96 * k ≡ 4 * length (stageTaps decimation k)
-count-of k h = let e = dec-length k h in omega arith
-
-long-of : (k : ℕ) (d : List Float) → k < 5 → length d ≡ 480 → length (take (96 * k + 4 * getD decLengths k 0 - 96 * k) (drop (96 * k) d)) ≡ 4 * getD decLengths k 0
-long-of k d h e = let p = dec-placed k h in length-take-le _ (drop (96 * k) d) (simp length-drop (omega arith)) ∙ less (96 * k) (4 * getD decLengths k 0)
-  where
-    less : (a b : ℕ) → a + b - a ≡ b
-    less a b = omega arith
+-- the part of the delays, as long as the code computes it
+window-long : (k : ℕ) (d : List Float) → k < 5 → length d ≡ 480 → length (take (96 * k + 4 * getD decLengths k 0 - 96 * k) (drop (96 * k) d)) ≡ 4 * length (stageTaps decimation k)
+window-long k d h e =
+    ap (λ (n : ℕ). length (take n (drop (96 * k) d))) (dec-count k h) ∙ part-long 96 (λ j. 4 * length (stageTaps decimation j)) (λ j l. omega (arith, dec-stages .most j l)) d e k h
 
 mul-first : tie.Need-mul-first
 mul-first c = search needs
@@ -82,9 +70,10 @@ part-take-pair-end-2 c = dec-placed (c .before .before .before .args .k) (c .bef
 take-pair-requires : tie.Need-take-pair-requires
 take-pair-requires c κs = let s = c .before .before .before .before in
     let k = s .args .k in
-    let t = ap length (taps-of k) ∙ dec-length k (s .pre .0) in
-    let w = long-of k (now (s .args .delays)) (s .pre .0) (s .pre .1) in
-    (omega (arith, dec-placed k (s .pre .0)), omega arith)
+    let l = dec-stages .least k (s .pre .0) in
+    let t = ap length (dec-part-taps k) in
+    let w = window-long k (now (s .args .delays)) (s .pre .0) (s .pre .1) in
+    (omega arith, omega arith)
 
 same-length : tie.Need-same-length
 same-length c = search needs
@@ -96,11 +85,11 @@ returns c = let s = c .before .before .before .before .before .before .before in
     let b = s .args .b in
     let d = now (s .args .delays) in
     let o = c .before .before .take-pair in
-    let e = count-of k (s .pre .0) in (
+    let e = dec-count k (s .pre .0) in (
       ap (λ (w : List Float). spliced (96 * k) (96 * k + 4 * getD decLengths k 0 - 96 * k) w d) (o .ensures .0)
           ∙ ap (λ (n : ℕ). spliced (96 * k) n (slid (take n (drop (96 * k) d)) (a ∷ b ∷ [])) d) e,
       o .ensures .1
-          ∙ ap (λ (t : List Float). decValue t (slid (take (96 * k + 4 * getD decLengths k 0 - 96 * k) (drop (96 * k) d)) (a ∷ b ∷ []))) (taps-of k)
+          ∙ ap (λ (t : List Float). decValue t (slid (take (96 * k + 4 * getD decLengths k 0 - 96 * k) (drop (96 * k) d)) (a ∷ b ∷ []))) (dec-part-taps k)
           ∙ ap (λ (n : ℕ). decValue (stageTaps decimation k) (slid (take n (drop (96 * k) d)) (a ∷ b ∷ []))) e,
     )
 
