@@ -1,3 +1,4 @@
+pub mod Levels
 pub mod Decimals
 pub mod StageTables
 pub mod Bounds

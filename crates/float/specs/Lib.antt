@@ -1,3 +1,4 @@
+pub mod Level
 pub mod HbfTaps
 pub mod HalfBand
 pub mod Windows
@@ -8,3 +9,4 @@ pub mod HbfStream
 pub mod HbfDecCascade
 pub mod HbfInt
 pub mod HbfIntCascade
+pub mod ResponseLength

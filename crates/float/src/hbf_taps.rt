@@ -61,7 +61,7 @@ pub const INTERPOLATION_STARTS: [usize; 5] = [0, 23, 33, 38, 42];
 pub const INTERPOLATION_LENGTHS: [usize; 5] = [23, 10, 5, 4, 3];
 
 // The table, each entry the f32 nearest to its printed decimal.
-pub fn hbf_taps() -> [f32; 45]
+pub fn hbf_tap_table() -> [f32; 45]
     ensures { λ r. ⌜ r ≡ hbfTaps ⌝ }
 {
     HBF_TAPS
