@@ -1,0 +1,90 @@
+-- `float::hbf_dec::HbfDec::process` meets its contract: the tests are those of the definition, and past them the leaf runs the pairs.
+use mathlib.Core.Path.{_≡_, sym, _∙_}
+use mathlib.Core.Bool.{false}
+use denote.Ref.{now}
+use Rattle.float.specs.HbfDec.{decRefused}
+use Rattle.float.proofs.Bounds.{within, chosen, second}
+use Rattle.float.proofs.Decimators.{Usable, taps-long, window-long, block-answer, block-span}
+use native.Mathlib.Omega.{arith}
+use borrow.Author.Needs.{needs}
+use Rattle.float.proofs.hbf_dec.HbfDec.process.Statement.{statement}
+use Rattle.float.proofs.hbf_dec.HbfDec.process.Tie as tie
+
+abbrev begun : tie.Else1 → tie.Start
+begun c = c .before .before .before .before
+
+fine : (c : tie.Else1) → decRefused (begun c .args .self) ≡ false
+fine c = sym (c .before .outside .ensures) ∙ c .if1 .left
+
+usable : (c : tie.Else1) → Usable (begun c .args .self)
+usable c = let b = within _ _ _ (fine c) in record { least = b .least; most = b .most; coeffs-long = search needs; delay-long = search needs }
+
+outside-requires : tie.Need-outside-requires
+outside-requires c κs = search needs
+
+returns : tie.Need-returns
+returns c = let e = sym (c .before .outside .ensures) ∙ c .if1 .taken in (chosen _ _ _ e, chosen _ _ _ e)
+
+lengths-refused-requires : tie.Need-lengths-refused-requires
+lengths-refused-requires c κs = search needs
+
+returns-2 : tie.Need-returns-2
+returns-2 c = let e = fine (c .before .before) in
+    let f = sym (c .before .lengths-refused .ensures) ∙ c .if2 .taken in
+    (second _ _ _ _ _ e f, second _ _ _ _ _ e f)
+
+smaller-requires : tie.Need-smaller-requires
+smaller-requires c κs = search needs
+
+mul-delay : tie.Need-mul-delay
+mul-delay c = omega (arith, usable (c .before .before .before .before .before))
+
+array-borrow-prefix-delay : tie.Need-array-borrow-prefix-delay
+array-borrow-prefix-delay c = omega (arith, usable (c .before .before .before .before .before))
+
+slice-aggregate-decimate : tie.Need-slice-aggregate-decimate
+slice-aggregate-decimate c = sym (window-long _ (usable (c .before .before .before .before .before .before)))
+
+array-share-prefix-coeffs : tie.Need-array-share-prefix-coeffs
+array-share-prefix-coeffs c = omega (arith, usable (c .before .before .before .before .before .before))
+
+slice-aggregate-decimate-2 : tie.Need-slice-aggregate-decimate-2
+slice-aggregate-decimate-2 c = sym (taps-long _ (usable (c .before .before .before .before .before .before .before)))
+
+decimate-requires : tie.Need-decimate-requires
+decimate-requires c κs = let u = usable (c .before .before .before .before .before .before .before .before) in
+    let t = taps-long _ u in
+    let w = window-long _ u in
+    let n = c .before .before .before .before .before .smaller .ensures in
+    (omega (arith, u .least), omega arith, omega arith, omega arith)
+
+same-length : tie.Need-same-length
+same-length c = search needs
+
+returns-3 : tie.Need-returns-3
+returns-3 c = let o = c .before .before .before .decimate in
+    let k = c .before .before .before .before .before .before .before .before .before .before .before .before in
+    let a = begun k .args in
+    let f = sym (c .before .before .before .before .before .before .before .before .before .before .before .lengths-refused .ensures) ∙ c .before .before .before .before .before .before .before .before .before .before .if2 .left in
+    let n = c .before .before .before .before .before .before .before .before .before .smaller in (
+      block-answer (a .self) (usable k) (now (a .src)) (now (a .dst)) (n .result) (fine k) f (n .ensures) (o .last .0) (o .ensures .0),
+      block-span (a .self) (usable k) (now (a .src)) (now (a .dst)) (n .result) (fine k) f (n .ensures) (o .last .1 .1 .1 .0) (o .ensures .1),
+    )
+
+pub process-spec : {M : Type 1} → statement M
+process-spec =
+    tie.close
+    (tie.spec
+    outside-requires
+    returns
+    lengths-refused-requires
+    returns-2
+    smaller-requires
+    mul-delay
+    array-borrow-prefix-delay
+    slice-aggregate-decimate
+    array-share-prefix-coeffs
+    slice-aggregate-decimate-2
+    decimate-requires
+    same-length
+    returns-3)
