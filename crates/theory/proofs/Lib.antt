@@ -9,3 +9,6 @@ pub mod Runs
 pub mod Feeds
 pub mod Kept
 pub mod FeedLoop
+pub mod FloatOrder
+pub mod MuInLine
+pub mod MuBeside
