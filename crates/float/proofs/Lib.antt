@@ -1,3 +1,5 @@
 pub mod Saturate
 pub mod PolyphaseOutput
 pub mod DelayLine
+pub mod PolyphaseRange
+pub mod PolyphaseWhole

@@ -1,3 +1,4 @@
 pub mod F32
 pub mod PolyphaseOutput
 pub mod PolyphaseResamp
+pub mod PolyphaseWhole

@@ -205,3 +205,41 @@ pub fn shift_in(delay: &mut [f32; MOST_TAPS], taps: usize, x: f32)
         t += 1;
     }
 }
+
+// While dst has a place: an output that is due is written, else a sample is consumed, else the run stops.
+fn run(
+    prototype: &[f32; MOST_CELLS],
+    delay: &mut [f32; MOST_TAPS],
+    phases: usize,
+    taps: usize,
+    step: f32,
+    mu: f32,
+    src: &[f32],
+    dst: &mut [f32],
+) -> Ran
+    requires { ⌜ R.inLimits phases taps ≡ true ⌝ }
+    ensures { λ r. ⌜ R.RanTo phases taps step mu (now (prototype .entry)) (now (delay .entry)) (now (src .entry)) (now (dst .entry)) r (now (delay .exit)) (now (dst .exit)) ⌝ }
+{
+    let mut at = mu;
+    let mut taken = 0usize;
+    let mut written = 0usize;
+    while written < dst.len() {
+        if at < 1.0 {
+            dst[written] = interpolate(prototype, delay, phases, taps, at);
+            written += 1;
+            at = at + step;
+        } else {
+            if src.len() <= taken {
+                break;
+            }
+            shift_in(delay, taps, src[taken]);
+            taken += 1;
+            at = at - 1.0;
+        }
+    }
+    Ran {
+        mu: at,
+        taken,
+        written,
+    }
+}

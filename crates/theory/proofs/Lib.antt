@@ -12,3 +12,5 @@ pub mod FeedLoop
 pub mod FloatOrder
 pub mod MuInLine
 pub mod MuBeside
+pub mod FeedRules
+pub mod RunsSeen
