@@ -20,7 +20,7 @@ use Rattle.theory.proofs.MuBeside.{loF, maxF, StepPos, InWide, limit-in, wide-i
 use Rattle.float.specs.F32.{zero32, one32, largest32, aboveZero}
 use Rattle.float.specs.PolyphaseResamp.{inLimits, muFrom, lowestMu, validAt, stepInLine, validInLineAt, valid, validInLine, consumed, passed, isOn, resampler, inLine, fresh}
 use Rattle.float.specs.declared.polyphase_resamp.PolyphaseResampF32.{PolyphaseResampF32}
-use Rattle.float.proofs.PolyphaseOutput.{both-true}
+use Rattle.float.proofs.PolyphaseOutput.{Limits, limits-say, both-true}
 
 is : (b : Bool) → b ≡ true → T b
 is b e = subst⁻¹ T e tt
@@ -80,6 +80,12 @@ unfolding valid validAt
 valid-so s v =
     both-so (inLimits (s .phases) (s .taps)) (aboveZero (s .step) && muFrom lowestMu (s .step) (s .mu)) (v .limits)
     (both-so (aboveZero (s .step)) (muFrom lowestMu (s .step) (s .mu)) (v .above) (wide-so (s .step) (s .mu) (v .range)))
+
+pub valid-in-limits : (s : PolyphaseResampF32) → valid s ≡ true → inLimits (s .phases) (s .taps) ≡ true
+valid-in-limits s h = valid-says s h .limits
+
+pub valid-limits : (s : PolyphaseResampF32) → valid s ≡ true → Limits (s .phases) (s .taps)
+valid-limits s h = limits-say (s .phases) (s .taps) (valid-in-limits s h)
 
 -- a consumed sample, whatever mu is
 pub valid-consumed : (s : PolyphaseResampF32) (x : Float) → valid s ≡ true → valid (consumed s x) ≡ true

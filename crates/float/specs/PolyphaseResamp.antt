@@ -140,14 +140,17 @@ zeros =
       prototype = replicate mostCells zero32;
     }
 
+abbrev pub refusedOpening : ℕ → Opened PolyphaseResampF32
+refusedOpening number = record { number = number; state = zeros }
+
 -- `from_taps`: 12, 13 ("prototype not P × T long") and 14, downward
 unfoldable pub opening : ℕ → ℕ → List Float → Float → Opened PolyphaseResampF32
 opening P T h step =
     cond (inLimits P T)
     (cond (eqb (length h) (P * T))
-    (cond (aboveZero step) (record { number = 0; state = fresh P T h step }) (record { number = 14; state = zeros }))
-    (record { number = 13; state = zeros }))
-    (record { number = 12; state = zeros })
+    (cond (aboveZero step) (record { number = 0; state = fresh P T h step }) (refusedOpening 14))
+    (refusedOpening 13))
+    (refusedOpening 12)
 
 -- what an opening or a reset answered
 abbrev pub toldOpened : PolyphaseOpened → Opened PolyphaseResampF32

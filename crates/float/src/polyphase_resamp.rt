@@ -7,6 +7,8 @@ ghost use lib.Ieee.{Float, nan, binary32, ofBits, add, sub};
 ghost use Rattle.float.specs.F32.{zero32, aboveZero, blend};
 ghost use Rattle.float.specs.PolyphaseOutput.{cutUnit, output};
 ghost use Rattle.float.specs.PolyphaseResamp as R;
+ghost use Rattle.float.specs.PolyphaseWhole as W;
+ghost use Rattle.refusal.specs.Table.{numberOf};
 use crate::cast::f32_to_usize_saturating;
 use refusal::Count;
 use refusal::Opening;
@@ -241,5 +243,167 @@ fn run(
         mu: at,
         taken,
         written,
+    }
+}
+
+// The prototype in front, zeros behind; what is past the last place is not read.
+fn packed(prototype: &[f32]) -> [f32; MOST_CELLS]
+    ensures { λ r. ⌜ r ≡ R.packed (now (prototype .entry)) ⌝ }
+{
+    let mut cells = [0.0f32; MOST_CELLS];
+    let mut i = 0usize;
+    while i < MOST_CELLS && i < prototype.len() {
+        cells[i] = prototype[i];
+        i += 1;
+    }
+    cells
+}
+
+impl PolyphaseResampF32 {
+    // The state of a refused opening, and in the line of a resampler that is off.
+    pub fn zeros() -> Self
+        ensures { λ r. ⌜ r ≡ R.zeros ⌝ }
+    {
+        PolyphaseResampF32 {
+            phases: 0,
+            taps: 0,
+            mu: 0.0,
+            step: 0.0,
+            delay: [0.0f32; MOST_TAPS],
+            prototype: [0.0f32; MOST_CELLS],
+        }
+    }
+
+    // The state of an opening: mu is 1.0 and every delay zero.
+    pub fn fresh(phases: usize, taps: usize, prototype: &[f32], step: f32) -> Self
+        ensures { λ r. ⌜ r ≡ R.fresh phases taps (now (prototype .entry)) step ⌝ }
+    {
+        PolyphaseResampF32 {
+            phases,
+            taps,
+            mu: 1.0,
+            step,
+            delay: [0.0f32; MOST_TAPS],
+            prototype: packed(prototype),
+        }
+    }
+
+    // A resampler of P phases and T taps, whose prototype has tap t of phase p at t × P + p. Refused by 12, 13, 14.
+    pub fn from_taps(phases: usize, taps: usize, prototype: &[f32], step: f32) -> PolyphaseOpened
+        ensures answer { λ r. ⌜ R.toldOpened r ≡ R.opening phases taps (now (prototype .entry)) step ⌝ }
+        ensures whole { λ r. ⌜ W.Opens phases taps (now (prototype .entry)) step (R.toldOpened r) ⌝ }
+    {
+        if !in_limits(phases, taps) {
+            return refused_opening(Refusal::Phases);
+        }
+        if prototype.len() != phases * taps {
+            return refused_opening(Refusal::Prototype);
+        }
+        if !above_zero(step) {
+            return refused_opening(Refusal::Step);
+        }
+        PolyphaseOpened {
+            answer: Opening::Opened,
+            state: PolyphaseResampF32::fresh(phases, taps, prototype, step),
+        }
+    }
+
+    // Samples of src become outputs in dst, as long as dst has a place. Refused by 15.
+    pub fn process_block(mut self, src: &[f32], dst: &mut [f32]) -> PolyphaseBlock
+        ensures answer { λ r. ⌜ R.toldBlock r ≡ R.blockOutcome self (now (src .entry)) (now (dst .entry)) ⌝ }
+        ensures span { λ r. ⌜ now (dst .exit) ≡ R.blockSpan self (now (src .entry)) (now (dst .entry)) ⌝ }
+        ensures kept { λ r. ⌜ W.BlockKept self (now (src .entry)) (now (dst .exit)) (R.toldBlock r) ⌝ }
+    {
+        if !is_valid(self.phases, self.taps, self.step, self.mu) {
+            return PolyphaseBlock {
+                answer: Count::Refused(Refusal::State),
+                taken: 0,
+                state: self,
+            };
+        }
+        let mut delay = self.delay;
+        let ran = run(
+            &self.prototype,
+            &mut delay,
+            self.phases,
+            self.taps,
+            self.step,
+            self.mu,
+            src,
+            dst,
+        );
+        self.mu = ran.mu;
+        self.delay = delay;
+        PolyphaseBlock {
+            answer: Count::Written(ran.written),
+            taken: ran.taken,
+            state: self,
+        }
+    }
+
+    // The sample x is consumed whatever mu is, and then what is due is written, as long as out has a place. Refused by 15.
+    pub fn push(mut self, x: f32, out: &mut [f32]) -> PolyphasePush
+        ensures answer { λ r. ⌜ R.toldPush r ≡ R.pushOutcome self x (now (out .entry)) ⌝ }
+        ensures span { λ r. ⌜ now (out .exit) ≡ R.pushSpan self x (now (out .entry)) ⌝ }
+        ensures kept { λ r. ⌜ W.PushKept self x (now (out .exit)) (R.toldPush r) ⌝ }
+    {
+        if !is_valid(self.phases, self.taps, self.step, self.mu) {
+            return PolyphasePush {
+                answer: Count::Refused(Refusal::State),
+                state: self,
+            };
+        }
+        let mut delay = self.delay;
+        shift_in(&mut delay, self.taps, x);
+        let none = [0.0f32; 0];
+        let ran = run(
+            &self.prototype,
+            &mut delay,
+            self.phases,
+            self.taps,
+            self.step,
+            self.mu - 1.0,
+            &none,
+            out,
+        );
+        self.mu = ran.mu;
+        self.delay = delay;
+        PolyphasePush {
+            answer: Count::Written(ran.written),
+            state: self,
+        }
+    }
+
+    // The fresh opening with the state's own settings and prototype. Refused by 15.
+    pub fn reset(self) -> PolyphaseOpened
+        ensures { λ r. ⌜ R.toldOpened r ≡ R.reset self ⌝ }
+    {
+        if !is_valid(self.phases, self.taps, self.step, self.mu) {
+            return PolyphaseOpened {
+                answer: Opening::Refused(Refusal::State),
+                state: self,
+            };
+        }
+        let prototype = self.prototype;
+        let cells = self.phases * self.taps;
+        PolyphaseOpened {
+            answer: Opening::Opened,
+            state: PolyphaseResampF32::fresh(
+                self.phases,
+                self.taps,
+                &prototype[..cells],
+                self.step,
+            ),
+        }
+    }
+}
+
+// What a refused opening answers: the refusal, and a state of zeros.
+fn refused_opening(why: Refusal) -> PolyphaseOpened
+    ensures { λ r. ⌜ R.toldOpened r ≡ R.refusedOpening (numberOf why) ⌝ }
+{
+    PolyphaseOpened {
+        answer: Opening::Refused(why),
+        state: PolyphaseResampF32::zeros(),
     }
 }
