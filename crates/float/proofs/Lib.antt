@@ -5,3 +5,4 @@ pub mod Packing
 pub mod PolyphaseRange
 pub mod PolyphaseWhole
 pub mod PolyphaseCalls
+pub mod ResampleLinear

@@ -2,3 +2,4 @@ pub mod F32
 pub mod PolyphaseOutput
 pub mod PolyphaseResamp
 pub mod PolyphaseWhole
+pub mod ResampleLinear
