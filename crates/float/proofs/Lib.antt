@@ -1,3 +1,4 @@
+pub mod Flags
 pub mod Saturate
 pub mod PolyphaseOutput
 pub mod DelayLine

@@ -1,25 +1,25 @@
 -- What the contracts of the opening, `process_block` and `push` claim follows from the equations they state: an opened state is valid and its runs are
 -- the whole list's, and a feed of the machine keeps validity and conserves its run.
-use mathlib.Core.Path.{_≡_, refl, sym, ap, _∙_, subst, subst⁻¹}
-use mathlib.Core.Bool.{Bool, true, false, cond}
-use mathlib.Core.List.{List, [], _∷_, _++_}
+use mathlib.Core.Path.{_≡_, refl, sym, _∙_, subst, subst⁻¹}
+use mathlib.Core.Bool.{Bool, true, false, cond, true≢false}
+use mathlib.Core.List.{List, []}
 use Prim.Native.Nat.{ℕ, _*_}
 use native.Mathlib.Omega.{arith}
-use borrow.Author.Tests.{eqb-true}
+use borrow.Author.Tests.{eq-eqb, eqb-true}
 use lib.Dec.{eqb}
 use lib.ListN.{length, take, drop}
 use lib.Seq.{take-append-seam, drop-nil}
-use lib.Ieee.{Float, binary32, sub, lt}
+use lib.Ieee.{Float, binary32, sub}
 use Rattle.theory.specs.Feeds.{Fed, feed}
 use Rattle.theory.specs.Runs.{Runs}
 use Rattle.theory.proofs.FeedRules.{feed-keeps, feed-conserves}
 use Rattle.refusal.specs.Outcome.{Outcome, Opened}
 use Rattle.float.specs.F32.{one32, aboveZero}
-use Rattle.float.specs.PolyphaseResamp.{inLimits, valid, consumed, resampler, fresh, refusedOpening, opening, Counts, laid, together, RanTo, shiftedIn, block, blockOutcome, blockSpan, push, pushOutcome, pushSpan}
-use Rattle.float.specs.PolyphaseWhole.{Opens, Conserves, BlockKept, PushKept}
+use Rattle.float.specs.PolyphaseResamp.{inLimits, valid, consumed, resampler, fresh, refusedOpening, opening, ownTaps, reset, Counts, laid, together, RanTo, shiftedIn, block, blockOutcome, blockSpan, push, pushOutcome, pushSpan}
+use Rattle.float.specs.PolyphaseWhole.{Opens, Resets, Conserves, BlockKept, PushKept}
 use Rattle.float.specs.declared.polyphase_resamp.PolyphaseResampF32.{PolyphaseResampF32}
 use Rattle.float.specs.declared.polyphase_resamp.Ran.{Ran}
-use Rattle.float.proofs.PolyphaseRange.{valid-consumed, valid-passed, valid-fresh}
+use Rattle.float.proofs.PolyphaseRange.{valid-in-limits, valid-above, valid-consumed, valid-passed, valid-fresh}
 use Rattle.float.proofs.PolyphaseWhole.{fresh-becomes, becomes-fresh, becomes-all}
 
 -- ---- the opening
@@ -51,10 +51,32 @@ opens P T h step r e = rw e (go (inLimits P T) refl (eqb (length h) (P * T)) ref
           some = λ z k xs. (_, becomes-all P T h l n step k xs);
         }
 
+-- an opening with nothing to refuse
+pub opens-fresh :
+    (P T : ℕ) (h : List Float) (step : Float) → inLimits P T ≡ true → length h ≡ P * T → aboveZero step ≡ true
+    → opening P T h step ≡ record { number = 0; state = fresh P T h step }
+unfolding opening
+opens-fresh P T h step l n a = rw (l, eq-eqb (length h) (P * T) n, a)
+
 -- both clauses of the opening's contract
 pub opening-answer :
     {P T : ℕ} {h : List Float} {step : Float} {r : Opened PolyphaseResampF32} → r ≡ opening P T h step → (r ≡ opening P T h step) × Opens P T h step r
 opening-answer {P} {T} {h} {step} {r} e = (e, opens P T h step r e)
+
+-- both clauses of a reset's contract, of a state that is refused and of one that is not
+pub reset-refused : (s : PolyphaseResampF32) → valid s ≡ false → (record { number = 15; state = s } ≡ reset s) × Resets s (record { number = 15; state = s })
+unfolding reset Resets
+reset-refused s v = (rw v, λ t. absurd (true≢false (sym t ∙ v)))
+
+pub reset-fresh :
+    (s : PolyphaseResampF32) (r : Opened PolyphaseResampF32) → valid s ≡ true → length (ownTaps s) ≡ s .phases * s .taps
+    → r ≡ record { number = 0; state = fresh (s .phases) (s .taps) (ownTaps s) (s .step) } → (r ≡ reset s) × Resets s r
+unfolding reset Resets
+reset-fresh s r v n e =
+    let o : r ≡ opening (s .phases) (s .taps) (ownTaps s) (s .step) =
+    e ∙ sym (opens-fresh (s .phases) (s .taps) (ownTaps s) (s .step) (valid-in-limits s v) n (valid-above s v))
+    in
+    (rw v o, λ t. (rw e, opens (s .phases) (s .taps) (ownTaps s) (s .step) r o))
 
 -- ---- a feed of the machine
 fed-valid : (s : PolyphaseResampF32) (xs : List Float) (n : ℕ) → valid s ≡ true → valid (feed resampler s xs n .line) ≡ true

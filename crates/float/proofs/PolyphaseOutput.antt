@@ -1,7 +1,7 @@
 -- The resampler's output from its parts: what the limits of P and T say, that each index lies in the prototype and each phase is a float exactly.
-use mathlib.Core.Path.{_≡_, refl, sym, ap, _∙_}
+use mathlib.Core.Path.{_≡_, ap, _∙_}
 use mathlib.Core.List.{List}
-use mathlib.Core.Bool.{Bool, true, false, _&&_}
+use mathlib.Core.Bool.{true}
 use Prim.Native.Nat.{ℕ, _+_, _*_, _%_, _≤_, _<_}
 use native.Mathlib.Nat.{le-trans, le-antisymm, mul-le-mul-right}
 use native.Mathlib.Omega.{arith}
@@ -12,10 +12,7 @@ use lib.Ieee.{Float, binary32, ofInt, toUnsigned, inFloat, sub, mul}
 use Rattle.float.specs.F32.{one32, blend}
 use Rattle.float.specs.PolyphaseOutput.{cutUnit, place, phase0, phase1, fraction, phaseSum, output}
 use Rattle.float.specs.PolyphaseResamp.{within, inLimits}
-
-pub both-true : (a b : Bool) → (a && b) ≡ true → (a ≡ true) × (b ≡ true)
-both-true true b h = (refl, h)
-both-true false b h = (h, absurd (mathlib.Core.Bool.false≢true h))
+use Rattle.float.proofs.Flags.{both-true}
 
 within-says : (least most n : ℕ) → within least most n ≡ true → (least ≤ n) × (n ≤ most)
 unfolding within

@@ -1,40 +1,24 @@
 -- mu stays in its range from every valid state, beside the line and in it, so that no later call is refused; and in the line 64 outputs between two
 -- values suffice. What the tests say is turned into the ranges of theory's `MuBeside` and `MuInLine`.
-use mathlib.Core.Path.{_≡_, refl, sym, ap, _∙_, subst, subst⁻¹}
-use mathlib.Core.Bool.{Bool, true, false, not, _&&_, _||_, cond, true≢false, false≢true}
-use mathlib.Core.List.{List, []}
-use mathlib.Core.Option.{none, some}
-use Prim.Native.Nat.{ℕ, suc, _*_, _<_, _≤_}
-use native.Mathlib.Nat.{zero-mul, one-mul, mul-one, eq-zero-or-pos, lt-irrefl}
+use mathlib.Core.Path.{_≡_, refl}
+use mathlib.Core.Bool.{Bool, true, false, not, _&&_, _||_, cond, false≢true}
+use mathlib.Core.List.{List}
+use Prim.Native.Nat.{ℕ, suc, _*_, _<_}
+use native.Mathlib.Nat.{zero-mul}
 use native.Mathlib.Omega.{arith}
 use lib.Dec.{T, ltb, eqb, ltb→lt, lt→ltb}
-use lib.IntN.{ℤ, pos}
-use lib.Ieee.{Float, nan, inf, fin, binary32, ofBits, up, down, add, sub, lt, le}
+use lib.Ieee.{Float, nan, inf, fin, binary32, ofBits, up, down, add, lt, le}
 use lib.Ieee.Positive.{positive, first-pos}
-use Rattle.theory.specs.Machines.{Machine}
 use Rattle.theory.proofs.Machines.{Lawful, enough-by-rank}
 use Rattle.theory.proofs.FloatOrder.{zeroF, le-trans-nonneg, positive-nonneg}
-use Rattle.theory.proofs.MuInLine.{oneF, mostStep, StepOk, InRange, AtLeast, step-positive, in-nonneg, at-start, reached, grows}
+use Rattle.theory.proofs.MuInLine.{mostStep, StepOk, InRange, AtLeast, step-positive, in-nonneg, at-start, reached, grows}
 use Rattle.theory.proofs.MuInLine as line
-use Rattle.theory.proofs.MuBeside.{loF, maxF, StepPos, InWide, limit-in, wide-input, wide-output}
+use Rattle.theory.proofs.MuBeside.{maxF, StepPos, InWide, limit-in, wide-input, wide-output}
 use Rattle.float.specs.F32.{zero32, one32, largest32, aboveZero}
-use Rattle.float.specs.PolyphaseResamp.{inLimits, muFrom, lowestMu, validAt, stepInLine, validInLineAt, valid, validInLine, consumed, passed, isOn, resampler, inLine, fresh}
+use Rattle.float.specs.PolyphaseResamp.{inLimits, muFrom, lowestMu, validAt, leastLineStep, mostLineStep, stepInLine, validInLineAt, valid, validInLine, consumed, passed, isOn, inLine, fresh}
 use Rattle.float.specs.declared.polyphase_resamp.PolyphaseResampF32.{PolyphaseResampF32}
-use Rattle.float.proofs.PolyphaseOutput.{Limits, limits-say, both-true}
-
-is : (b : Bool) → b ≡ true → T b
-is b e = subst⁻¹ T e tt
-
-so : (b : Bool) → T b → b ≡ true
-so true t = refl
-so false t = absurd t
-
-not-so : (b : Bool) → T (not b) → b ≡ false
-not-so true t = absurd t
-not-so false t = refl
-
-both-so : (a b : Bool) → a ≡ true → b ≡ true → (a && b) ≡ true
-both-so a b e f = rw (e, f)
+use Rattle.float.proofs.PolyphaseOutput.{Limits, limits-say}
+use Rattle.float.proofs.Flags.{both-true, both-so, or-right, is, is-not, so, not-so}
 
 -- ---- what the tests say
 -- finite and above zero
@@ -84,6 +68,9 @@ valid-so s v =
 pub valid-in-limits : (s : PolyphaseResampF32) → valid s ≡ true → inLimits (s .phases) (s .taps) ≡ true
 valid-in-limits s h = valid-says s h .limits
 
+pub valid-above : (s : PolyphaseResampF32) → valid s ≡ true → aboveZero (s .step) ≡ true
+valid-above s h = valid-says s h .above
+
 pub valid-limits : (s : PolyphaseResampF32) → valid s ≡ true → Limits (s .phases) (s .taps)
 valid-limits s h = limits-say (s .phases) (s .taps) (valid-in-limits s h)
 
@@ -112,8 +99,8 @@ valid-fresh P T h step l a =
 step-says : (step : Float) → stepInLine step ≡ true → StepOk step
 unfolding stepInLine ofBits
 step-says step h =
-    let b = both-true (le (ofBits binary32 0x3c80_0000) step) (le step (ofBits binary32 0x4280_0000)) h in
-    (is (le (ofBits binary32 0x3c80_0000) step) (b .0), is (le step (ofBits binary32 0x4280_0000)) (b .1))
+    let b = both-true (le leastLineStep step) (le step mostLineStep) h in
+    (is (le leastLineStep step) (b .0), is (le step mostLineStep) (b .1))
 
 range-says : (step mu : Float) → muFrom zero32 step mu ≡ true → InRange step mu
 unfolding muFrom ofBits
@@ -141,10 +128,6 @@ on-says s o h = go (eqb (s .phases) 0) o h
         let b = both-true (stepInLine (s .step)) (muFrom zero32 (s .step) (s .mu)) (a .1) in
         record { limits = a .0; steps = b .0; range = range-says (s .step) (s .mu) (b .1) }
 
-or-right : (a b : Bool) → b ≡ true → (a || b) ≡ true
-or-right true b e = refl
-or-right false b e = e
-
 on-so : (s : PolyphaseResampF32) → ValidOn s → validInLine s ≡ true
 unfolding validInLine validInLineAt
 on-so s v =
@@ -164,12 +147,8 @@ on-consumed s x v d =
     record {
       limits = v .limits;
       steps = v .steps;
-      range = line.after-input (s .step) (s .mu) (step-says (s .step) (v .steps)) (v .range) (subst⁻¹ (λ (b : Bool). T (not b)) d tt);
+      range = line.after-input (s .step) (s .mu) (step-says (s .step) (v .steps)) (v .range) (is-not (lt (s .mu) one32) d);
     }
-
-passed-on : (s : PolyphaseResampF32) → isOn (passed s) ≡ isOn s
-unfolding isOn passed
-passed-on s = refl
 
 -- the mu of a state that is on is k / 64 at least
 Rank : ℕ → PolyphaseResampF32 → Type 0

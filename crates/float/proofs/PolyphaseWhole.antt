@@ -1,18 +1,16 @@
 -- The opened state's runs are the whole list's: mu and the values consumed so far are seen as a state whose delay is the last T of them, zeros before the
 -- start, and whose prototype is the lent one with zeros behind, which no tap reads.
 use mathlib.Core.Path.{_≡_, refl, sym, ap, ap₂, _∙_, subst, subst⁻¹}
-use mathlib.Core.Bool.{Bool, true, false, not, _&&_, cond}
+use mathlib.Core.Bool.{true}
 use mathlib.Core.List.{List, [], _∷_, _++_, append-assoc}
-use Prim.Native.Nat.{ℕ, zero, suc, _+_, _-_, _*_, _%_, _≤_, _<_}
+use Prim.Native.Nat.{ℕ, zero, suc, _+_, _-_, _*_, _≤_, _<_}
 use native.Mathlib.Nat.{mod-lt, mul-le-mul-right, mul-le-mul, suc-mul, mul-comm}
 use native.Mathlib.Omega.{arith}
 use borrow.Author.Tests.{le-leb, ne-eqb}
-use lib.Dec.{leb}
-use lib.ListN.{length, getD, take, drop, replicate, List·getD-append}
+use lib.ListN.{length, getD, take, replicate, List·getD-append}
 use lib.Seq.{take-at, drop-at, take-append-le, take-all}
-use lib.Ieee.{Float, nan, binary32, add, sub, mul, lt}
+use lib.Ieee.{Float, nan, binary32, add, sub}
 use Rattle.theory.specs.Lists.{listed}
-use Rattle.theory.specs.Machines.{Machine}
 use Rattle.theory.specs.Runs.{Runs}
 use Rattle.theory.proofs.Listed.{length-listed}
 use Rattle.theory.proofs.Machines.{Lawful, Seen, all, all-seen, all-off}

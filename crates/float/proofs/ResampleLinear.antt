@@ -1,8 +1,8 @@
 -- The linear resampler: what the tests of a block say, an output from its parts, and a span that a loop fills with one output for each place.
 use mathlib.Core.Path.{_≡_, refl, sym, ap, _∙_}
 use mathlib.Core.List.{List, [], _∷_, _++_}
-use mathlib.Core.Bool.{Bool, true, false, not, _&&_, cond}
-use Prim.Native.Nat.{ℕ, suc, _+_, _-_, _≤_, _<_, min}
+use mathlib.Core.Bool.{true, not, _&&_}
+use Prim.Native.Nat.{ℕ, _+_, _-_, _≤_, _<_, min}
 use native.Mathlib.Numerals.{add-one}
 use native.Mathlib.Omega.{arith}
 use borrow.Author.Tests.{le-leb, lt-leb, leb-true, eqb-false, not-true}
@@ -14,7 +14,7 @@ use lib.Ieee.{Float, nan, binary32, ofInt, sub}
 use Rattle.theory.specs.Lists.{listed}
 use Rattle.float.specs.F32.{blend}
 use Rattle.float.specs.ResampleLinear.{position, indexOf, linearAt, blockFits}
-use Rattle.float.proofs.PolyphaseOutput.{both-true}
+use Rattle.float.proofs.Flags.{both-true}
 
 -- ---- what 7 leaves
 pub record Sizes (samples places : ℕ) : Type 0 where

@@ -1,20 +1,19 @@
 -- 01, section 5: the resampler's state, its opening and its calls, and as a machine what section 6 says of its whole list.
 use mathlib.Core.Path.{_≡_}
-use mathlib.Core.Bool.{Bool, true, false, not, _&&_, _||_, cond}
+use mathlib.Core.Bool.{Bool, not, _&&_, _||_, cond}
 use mathlib.Core.List.{List, [], _∷_, _++_}
-use mathlib.Core.Option.{Option, none, some}
+use mathlib.Core.Option.{none, some}
 use Prim.Native.Nat.{ℕ, _-_, _*_}
 use lib.Dec.{leb, eqb}
 use lib.ListN.{length, take, drop, replicate}
 use lib.Ieee.{Float, binary32, ofBits, add, sub, lt, le}
 use Rattle.theory.specs.Machines.{Machine}
-use Rattle.theory.specs.Runs.{Runs}
 use Rattle.theory.specs.Feeds.{Fed, feed}
 use Rattle.refusal.specs.Outcome.{Outcome, Opened, openingNumber, countAnswer}
 use Rattle.float.specs.F32.{zero32, one32, aboveZero}
 use Rattle.float.specs.PolyphaseOutput.{output}
 use Rattle.float.specs.declared.polyphase_resamp.PolyphaseResampF32.{PolyphaseResampF32}
-use Rattle.float.specs.declared.polyphase_resamp.PolyphaseOpened.{PolyphaseOpened}
+use Rattle.float.specs.declared.polyphase_resamp.PolyphaseOpening.{PolyphaseOpening}
 use Rattle.float.specs.declared.polyphase_resamp.PolyphaseBlock.{PolyphaseBlock}
 use Rattle.float.specs.declared.polyphase_resamp.PolyphasePush.{PolyphasePush}
 use Rattle.float.specs.declared.polyphase_resamp.Ran.{Ran}
@@ -52,8 +51,14 @@ unfoldable pub validAt : ℕ → ℕ → Float → Float → Bool
 validAt P T step mu = inLimits P T && (aboveZero step && muFrom lowestMu step mu)
 
 -- "step is 1/64 to 64"
+abbrev pub leastLineStep : Float
+leastLineStep = ofBits binary32 0x3c80_0000
+
+abbrev pub mostLineStep : Float
+mostLineStep = ofBits binary32 0x4280_0000
+
 unfoldable pub stepInLine : Float → Bool
-stepInLine step = le (ofBits binary32 0x3c80_0000) step && le step (ofBits binary32 0x4280_0000)
+stepInLine step = le leastLineStep step && le step mostLineStep
 
 -- refusal 15 in the line, where "P = 0 means off" and "a part that is off is not checked"
 unfoldable pub validInLineAt : ℕ → ℕ → Float → Float → Bool
@@ -153,14 +158,16 @@ opening P T h step =
     (refusedOpening 12)
 
 -- what an opening or a reset answered
-abbrev pub toldOpened : PolyphaseOpened → Opened PolyphaseResampF32
-toldOpened r = record { number = openingNumber (r .answer); state = r .state }
+abbrev pub toldOpening : PolyphaseOpening → Opened PolyphaseResampF32
+toldOpening r = record { number = openingNumber (r .answer); state = r .state }
 
--- "Reset equals a fresh opening", with the state's own settings and prototype
+-- the P × T taps in front of the state's prototype
+unfoldable pub ownTaps : PolyphaseResampF32 → List Float
+ownTaps s = take (s .phases * s .taps) (s .prototype)
+
+-- "Reset equals a fresh opening", with the state's own settings and taps
 unfoldable pub reset : PolyphaseResampF32 → Opened PolyphaseResampF32
-reset s =
-    cond (valid s) (record { number = 0; state = fresh (s .phases) (s .taps) (take (s .phases * s .taps) (s .prototype)) (s .step) })
-    (record { number = 15; state = s })
+reset s = cond (valid s) (opening (s .phases) (s .taps) (ownTaps s) (s .step)) (record { number = 15; state = s })
 
 -- the counts of a block
 pub record Counts : Type 0 where

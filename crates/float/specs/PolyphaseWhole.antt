@@ -13,7 +13,7 @@ use Rattle.theory.specs.Runs.{Runs}
 use Rattle.refusal.specs.Outcome.{Outcome, Opened}
 use Rattle.float.specs.F32.{zero32, one32}
 use Rattle.float.specs.PolyphaseOutput.{output}
-use Rattle.float.specs.PolyphaseResamp.{stepInLine, valid, consumed, resampler, Counts}
+use Rattle.float.specs.PolyphaseResamp.{stepInLine, valid, consumed, resampler, ownTaps, Counts}
 use Rattle.float.specs.declared.polyphase_resamp.PolyphaseResampF32.{PolyphaseResampF32}
 
 -- how far a list has come: mu, and the values consumed so far, the newest first
@@ -51,6 +51,10 @@ pub record Opens (P T : ℕ) (h : List Float) (step : Float) (r : Opened Polypha
   pub whole : r .number ≡ 0 → (xs o : List Float) → Runs resampler (r .state) xs o → Becomes P T h step xs o
   pub every : r .number ≡ 0 → (xs o : List Float) → Becomes P T h step xs o → Runs resampler (r .state) xs o
   pub some : r .number ≡ 0 → stepInLine step ≡ true → (xs : List Float) → (o : List Float) × Becomes P T h step xs o
+
+-- What a reset of a valid state claims: what an opening with the state's own settings and taps does
+unfoldable pub Resets : PolyphaseResampF32 → Opened PolyphaseResampF32 → Type 0
+Resets s r = valid s ≡ true → (r .number ≡ 0) × Opens (s .phases) (s .taps) (ownTaps s) (s .step) r
 
 -- What was written, then what the next state t makes of the samples left, is what the state s makes of all of them, and nothing else is
 pub record Conserves (s : PolyphaseResampF32) (xs written : List Float) (taken : ℕ) (t : PolyphaseResampF32) : Type 0 where

@@ -5,7 +5,7 @@ pub mod resample_linear;
 
 pub use crate::cast::f32_to_usize_saturating;
 pub use crate::polyphase_resamp::PolyphaseBlock;
-pub use crate::polyphase_resamp::PolyphaseOpened;
+pub use crate::polyphase_resamp::PolyphaseOpening;
 pub use crate::polyphase_resamp::PolyphasePush;
 pub use crate::polyphase_resamp::PolyphaseResampF32;
 pub use crate::resample_linear::resample_linear_f32;

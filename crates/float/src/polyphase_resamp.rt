@@ -1,10 +1,9 @@
 // 01, section 5: the polyphase resampler of f32 samples.
 ghost use mathlib.Core.Path.{_≡_};
 ghost use mathlib.Core.Bool.{true, cond};
-ghost use Prim.Native.Nat.{_%_, _<_, _≤_};
+ghost use Prim.Native.Nat.{_%_, _<_};
 ghost use lib.ListN.{length};
-ghost use lib.Ieee.{Float, nan, binary32, ofBits, add, sub};
-ghost use Rattle.float.specs.F32.{zero32, aboveZero, blend};
+ghost use Rattle.float.specs.F32.{zero32, aboveZero};
 ghost use Rattle.float.specs.PolyphaseOutput.{cutUnit, output};
 ghost use Rattle.float.specs.PolyphaseResamp as R;
 ghost use Rattle.float.specs.PolyphaseWhole as W;
@@ -22,7 +21,7 @@ pub const LEAST_TAPS: usize = 1;
 
 pub const MOST_TAPS: usize = 16;
 
-const MOST_CELLS: usize = MOST_PHASES * MOST_TAPS;
+pub const MOST_CELLS: usize = MOST_PHASES * MOST_TAPS;
 
 // The largest f32: a step above it is not finite.
 const LARGEST: f32 = 3.40282347e38;
@@ -45,7 +44,7 @@ pub struct PolyphaseResampF32 {
 }
 
 // What an opening or a reset answers, with the state.
-pub struct PolyphaseOpened {
+pub struct PolyphaseOpening {
     pub answer: Opening,
     pub state: PolyphaseResampF32,
 }
@@ -289,9 +288,9 @@ impl PolyphaseResampF32 {
     }
 
     // A resampler of P phases and T taps, whose prototype has tap t of phase p at t × P + p. Refused by 12, 13, 14.
-    pub fn from_taps(phases: usize, taps: usize, prototype: &[f32], step: f32) -> PolyphaseOpened
-        ensures answer { λ r. ⌜ R.toldOpened r ≡ R.opening phases taps (now (prototype .entry)) step ⌝ }
-        ensures whole { λ r. ⌜ W.Opens phases taps (now (prototype .entry)) step (R.toldOpened r) ⌝ }
+    pub fn from_taps(phases: usize, taps: usize, prototype: &[f32], step: f32) -> PolyphaseOpening
+        ensures answer { λ r. ⌜ R.toldOpening r ≡ R.opening phases taps (now (prototype .entry)) step ⌝ }
+        ensures whole { λ r. ⌜ W.Opens phases taps (now (prototype .entry)) step (R.toldOpening r) ⌝ }
     {
         if !in_limits(phases, taps) {
             return refused_opening(Refusal::Phases);
@@ -302,7 +301,7 @@ impl PolyphaseResampF32 {
         if !above_zero(step) {
             return refused_opening(Refusal::Step);
         }
-        PolyphaseOpened {
+        PolyphaseOpening {
             answer: Opening::Opened,
             state: PolyphaseResampF32::fresh(phases, taps, prototype, step),
         }
@@ -375,18 +374,19 @@ impl PolyphaseResampF32 {
     }
 
     // The fresh opening with the state's own settings and prototype. Refused by 15.
-    pub fn reset(self) -> PolyphaseOpened
-        ensures { λ r. ⌜ R.toldOpened r ≡ R.reset self ⌝ }
+    pub fn reset(self) -> PolyphaseOpening
+        ensures answer { λ r. ⌜ R.toldOpening r ≡ R.reset self ⌝ }
+        ensures whole { λ r. ⌜ W.Resets self (R.toldOpening r) ⌝ }
     {
         if !is_valid(self.phases, self.taps, self.step, self.mu) {
-            return PolyphaseOpened {
+            return PolyphaseOpening {
                 answer: Opening::Refused(Refusal::State),
                 state: self,
             };
         }
         let prototype = self.prototype;
         let cells = self.phases * self.taps;
-        PolyphaseOpened {
+        PolyphaseOpening {
             answer: Opening::Opened,
             state: PolyphaseResampF32::fresh(
                 self.phases,
@@ -399,10 +399,10 @@ impl PolyphaseResampF32 {
 }
 
 // What a refused opening answers: the refusal, and a state of zeros.
-fn refused_opening(why: Refusal) -> PolyphaseOpened
-    ensures { λ r. ⌜ R.toldOpened r ≡ R.refusedOpening (numberOf why) ⌝ }
+fn refused_opening(why: Refusal) -> PolyphaseOpening
+    ensures { λ r. ⌜ R.toldOpening r ≡ R.refusedOpening (numberOf why) ⌝ }
 {
-    PolyphaseOpened {
+    PolyphaseOpening {
         answer: Opening::Refused(why),
         state: PolyphaseResampF32::zeros(),
     }

@@ -2,7 +2,6 @@
 ghost use mathlib.Core.Path.{_≡_};
 ghost use Prim.Native.Nat.{_+_, _-_, _<_, _≤_, min};
 ghost use lib.ListN.{length};
-ghost use lib.Ieee.{Float};
 ghost use Rattle.refusal.specs.Outcome.{countAnswer};
 ghost use Rattle.float.specs.ResampleLinear as L;
 use crate::cast::f32_to_usize_saturating;

@@ -1,10 +1,10 @@
 -- A feed by four rules, over any machine, whether or not its outputs between two values are bounded: what it leaves is good where its state was, it
 -- conserves the run of the whole list, and what holds between two turns of a loop that writes or takes one at a time.
 use mathlib.Core.Path.{_≡_, refl, sym, ap, _∙_, subst, subst⁻¹}
-use mathlib.Core.Bool.{Bool, true, false, true≢false, false≢true}
+use mathlib.Core.Bool.{Bool, true, false, true≢false}
 use mathlib.Core.List.{List, [], _∷_, _++_, append-nil, append-assoc}
 use mathlib.Core.Option.{Option, none, some}
-use Prim.Native.Nat.{ℕ, zero, suc, pred, _+_, _-_, _≤_, _<_}
+use Prim.Native.Nat.{ℕ, zero, suc, _+_, _-_, _≤_, _<_}
 use native.Mathlib.Nat.{zero-add, add-zero, sub-zero}
 use native.Mathlib.Numerals.{add-one}
 use native.Mathlib.Omega.{arith}
@@ -13,7 +13,7 @@ use lib.Seq.{length-take-le, take-suc-set, drop-set-lt, drop-cons, drop-drop}
 use Rattle.theory.specs.Sections.{onto}
 use Rattle.theory.specs.Machines.{Machine}
 use Rattle.theory.specs.Runs.{Runs, emits, takes, ends}
-use Rattle.theory.specs.Feeds.{Stepped, Fed, headOf, taking, idle, wroteThen, tookThen, place, less, step, steps, feed}
+use Rattle.theory.specs.Feeds.{Stepped, Fed, headOf, taking, idle, wroteThen, tookThen, less, step, steps, feed}
 use Rattle.theory.proofs.Feeds.{step-due, step-not, steps-due, steps-none, steps-take}
 use Rattle.theory.proofs.FeedLoop.{join, feed-follow}
 

@@ -1,17 +1,17 @@
 -- The resampler's position mu with any finite step above zero (section 5 by itself, where `push` can take mu below zero): it stays from -2 ^ 24 to 1 + step as rounded.
--- At -2 ^ 24 a further 1 is lost to rounding, a tie that goes to the even number. Assumes nothing.
+-- At -2 ^ 24 a further 1 is lost to rounding, a tie that goes to the even number.
 use mathlib.Core.Path.{_≡_, refl, sym, ap, _∙_, subst}
 use Prim.Native.Nat.{ℕ, zero, suc, _+_, _-_, _*_, _^_, _≤_, _<_}
-use native.Mathlib.Nat.{le-trans, le-of-eq, le-of-lt, zero-mul, one-mul, mul-one, mul-comm, mul-assoc, mul-left-comm, mul-right-comm, add-mul, mul-le-mul-right, mul-pos, not-le-of-lt}
+use native.Mathlib.Nat.{le-trans, le-of-eq, le-of-lt, zero-mul, one-mul, mul-one, mul-assoc, add-mul, mul-le-mul-right, mul-pos, not-le-of-lt}
 use native.Mathlib.Omega.{arith}
 use mathlib.Core.Bool.{Bool, true, false, not, _&&_, _||_, cond}
-use lib.IntN.{ℤ, pos, negsuc}
+use lib.IntN.{ℤ, pos}
 use lib.Dec.{T, ltb, eqb, eqb→eq, ltb→lt, lt→ltb, nltb→le}
 use lib.Ieee.{Float, nan, inf, fin, Format, binary32, prec, emax, low, up, down, odd, units, round, sum, add, sub, neg, le, lt}
 use lib.Ieee.Fits.{up-pos, down-pos, and-i, eq→eqb, and-l, add-fits, round-is}
 use lib.Ieee.Order.{round-mono, drop, kept}
-use lib.Ieee.Positive.{num, den, den-pos, positive, through}
-use Rattle.theory.proofs.FloatOrder.{nonneg, positive-nonneg, zeroF, le→cross, cross→le, lt→le, not-lt→le, between, add-is, add-mono, add-mono-r, sub-is, round-zero, round-below}
+use lib.Ieee.Positive.{num, den, den-pos, positive}
+use Rattle.theory.proofs.FloatOrder.{or-l, nonneg, zeroF, le→cross, cross→le, lt→le, between, add-is, add-mono, add-mono-r, round-zero, round-below}
 use Rattle.theory.proofs.MuInLine.{oneF, limit}
 
 -- -2 ^ 24, and the largest finite f32
@@ -44,14 +44,6 @@ round-neg f a c =
     ∙ ap neg (sym (round-is f false a c))
 
 -- ---- the order at the two ends
-or-l : (a b : Bool) → T a → T (a || b)
-or-l true b t = tt
-or-l false b t = absurd t
-
-or-r : (a b : Bool) → T b → T (a || b)
-or-r true b t = tt
-or-r false b t = t
-
 of-le : (a b : ℕ) → a ≤ b → T (ltb a b || (eqb b a && true))
 of-le a b h = go (ltb a b) (nltb→le a b)
   where

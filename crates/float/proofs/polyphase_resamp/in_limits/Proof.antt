@@ -1,5 +1,4 @@
 -- `in_limits` meets its contract: by the two limits.
-use mathlib.Core.Path.{sym, _∙_}
 use Rattle.float.specs.PolyphaseResamp.{inLimits}
 use borrow.Author.Needs.{needs}
 use Rattle.float.proofs.polyphase_resamp.in_limits.Statement.{statement}

@@ -1,6 +1,6 @@
 -- `interpolate` meets its contract: the loop holds the sums of both phases over the taps passed, and `whole` puts the parts together.
-use mathlib.Core.Path.{_≡_, refl, sym, ap, _∙_}
-use mathlib.Core.Bool.{true, cond}
+use mathlib.Core.Path.{_≡_, refl, sym, _∙_}
+use mathlib.Core.Bool.{true}
 use Prim.Native.Nat.{ℕ, _+_, _-_, _*_, _≤_, _<_}
 use native.Mathlib.Nat.{le-trans, le-of-lt, mod-lt}
 use native.Mathlib.Numerals.{add-one}

@@ -1,5 +1,4 @@
 -- `is_valid` meets its contract: by its three tests.
-use mathlib.Core.Path.{sym, _∙_}
 use borrow.Author.Tests.{not-true, not-false}
 use Rattle.float.specs.PolyphaseResamp.{validAt}
 use borrow.Author.Needs.{needs}

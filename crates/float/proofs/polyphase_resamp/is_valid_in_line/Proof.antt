@@ -1,5 +1,4 @@
 -- `is_valid_in_line` meets its contract: by its four tests.
-use mathlib.Core.Path.{sym, _∙_}
 use borrow.Author.Tests.{not-true, not-false, eq-eqb, ne-eqb}
 use Rattle.float.specs.PolyphaseResamp.{validInLineAt}
 use borrow.Author.Needs.{needs}

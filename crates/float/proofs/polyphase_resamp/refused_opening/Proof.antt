@@ -1,5 +1,4 @@
 -- `refused_opening` meets its contract: its state is that of `zeros`.
-use mathlib.Core.Path.{ap}
 use Rattle.float.specs.PolyphaseResamp.{zeros}
 use borrow.Author.Needs.{needs}
 use Rattle.float.proofs.polyphase_resamp.refused_opening.Statement.{statement}

@@ -1,15 +1,13 @@
 -- `run` meets its contract: the loop keeps `Between` of the state put together from its locals, and each turn is one of its laws.
-use mathlib.Core.Path.{_≡_, refl, sym, ap, _∙_, subst, subst⁻¹}
-use mathlib.Core.Bool.{true}
+use mathlib.Core.Path.{_≡_, refl, sym}
 use mathlib.Core.List.{List}
-use Prim.Native.Nat.{ℕ, _+_, _-_, _≤_, _<_}
-use native.Mathlib.Omega.{arith}
+use Prim.Native.Nat.{ℕ, _+_, _-_}
 use borrow.Author.Needs.{needs}
 use denote.Ref.{now}
-use lib.ListN.{length, getD, set}
-use lib.Ieee.{Float, nan, binary32, add, sub}
+use lib.ListN.{length}
+use lib.Ieee.{Float, nan}
 use Rattle.theory.proofs.FeedRules.{Between, between-start, after-output, after-input, Ended, ended-full, ended-dry}
-use Rattle.float.specs.PolyphaseResamp.{inLimits, shiftedIn, consumed, outputOf, passed, resampler, laid, together, RanTo}
+use Rattle.float.specs.PolyphaseResamp.{consumed, outputOf, passed, resampler, together, RanTo}
 use Rattle.float.specs.declared.polyphase_resamp.Ran.{Ran}
 use Rattle.float.specs.PolyphaseOutput.{output}
 use Rattle.float.proofs.polyphase_resamp.run.Statement.{statement}

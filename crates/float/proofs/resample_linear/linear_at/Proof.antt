@@ -1,5 +1,4 @@
 -- `linear_at` meets its contract: past the end the last sample, else the two samples and their fraction (`beyond`, `inside`).
-use Prim.Native.Nat.{_≤_}
 use native.Mathlib.Nat.{le-trans, le-of-lt}
 use Rattle.float.specs.ResampleLinear.{position, indexOf}
 use Rattle.float.proofs.PolyphaseOutput.{exact}

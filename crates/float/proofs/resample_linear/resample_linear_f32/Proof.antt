@@ -1,8 +1,7 @@
 -- `resample_linear_f32` meets its contract: the two tests decide 7 and 9, and the loop fills the span (`Filled`).
-use mathlib.Core.Path.{_≡_, refl, sym, ap, _∙_}
+use mathlib.Core.Path.{_≡_, sym, ap, _∙_}
 use mathlib.Core.Bool.{true, false}
-use mathlib.Core.List.{List}
-use Prim.Native.Nat.{ℕ, _-_, _≤_}
+use Prim.Native.Nat.{ℕ, _-_}
 use native.Mathlib.Omega.{arith}
 use borrow.Author.Needs.{needs}
 use borrow.Author.Tests.{not-true, not-false}
@@ -11,7 +10,7 @@ use lib.ListN.{length}
 use Rattle.refusal.specs.Outcome.{Answer}
 use Rattle.float.specs.F32.{aboveZero}
 use Rattle.float.specs.ResampleLinear.{linearAt, blockFits, linearAnswer, linearSpan}
-use Rattle.float.proofs.ResampleLinear.{Sizes, fits-says, Filled, filled-none, filled-more, filled-all}
+use Rattle.float.proofs.ResampleLinear.{fits-says, Filled, filled-none, filled-more, filled-all}
 use Rattle.float.proofs.resample_linear.resample_linear_f32.Statement.{statement}
 use Rattle.float.proofs.resample_linear.resample_linear_f32.Tie as tie
 

@@ -1,5 +1,4 @@
 -- `fresh` meets its contract: the prototype is what `packed` makes of it.
-use mathlib.Core.Path.{refl}
 use Rattle.float.specs.PolyphaseResamp.{fresh}
 use borrow.Author.Needs.{needs}
 use Rattle.float.proofs.polyphase_resamp.PolyphaseResampF32.fresh.Statement.{statement}

@@ -1,7 +1,7 @@
 -- `from_taps` meets its contract: each test decides one row of the table, and the claims of an opening follow from the equation (`opens`).
-use mathlib.Core.Path.{_≡_, refl, sym, ap, _∙_}
+use mathlib.Core.Path.{_≡_, sym, ap, _∙_}
 use mathlib.Core.Bool.{true, false}
-use Prim.Native.Nat.{ℕ, _*_, _≤_}
+use Prim.Native.Nat.{_*_, _≤_}
 use native.Mathlib.Nat.{mul-le-mul}
 use native.Mathlib.Omega.{arith}
 use borrow.Author.Needs.{needs}
@@ -13,7 +13,7 @@ use Rattle.refusal.specs.Outcome.{Opened}
 use Rattle.float.specs.F32.{aboveZero}
 use Rattle.float.specs.PolyphaseResamp.{inLimits, opening}
 use Rattle.float.specs.declared.polyphase_resamp.PolyphaseResampF32.{PolyphaseResampF32}
-use Rattle.float.proofs.PolyphaseOutput.{Limits, limits-say}
+use Rattle.float.proofs.PolyphaseOutput.{limits-say}
 use Rattle.float.proofs.PolyphaseCalls.{opening-answer}
 use Rattle.float.proofs.polyphase_resamp.PolyphaseResampF32.from_taps.Statement.{statement}
 use Rattle.float.proofs.polyphase_resamp.PolyphaseResampF32.from_taps.Tie as tie

@@ -1,7 +1,7 @@
 -- `push` meets its contract: the sample goes in first, then `run` makes the feed of no samples, and the claims follow from the two equations
 -- (`push-kept`).
-use mathlib.Core.Path.{_≡_, refl, sym, ap, _∙_}
-use mathlib.Core.Bool.{true, false}
+use mathlib.Core.Path.{_≡_, sym, _∙_}
+use mathlib.Core.Bool.{true}
 use borrow.Author.Needs.{needs}
 use borrow.Author.Tests.{not-true, not-false}
 use denote.Ref.{now}

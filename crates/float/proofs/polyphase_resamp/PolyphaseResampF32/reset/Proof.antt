@@ -1,7 +1,7 @@
 -- `reset` meets its contract: the state is the fresh one of its own settings and of the P × T taps in front of its prototype.
-use mathlib.Core.Path.{_≡_, refl, sym, ap, _∙_}
-use mathlib.Core.Bool.{true, false}
-use Prim.Native.Nat.{ℕ, _*_, _≤_}
+use mathlib.Core.Path.{_≡_, sym, ap, _∙_}
+use mathlib.Core.Bool.{true}
+use Prim.Native.Nat.{_*_, _≤_}
 use native.Mathlib.Nat.{mul-le-mul}
 use native.Mathlib.Omega.{arith}
 use borrow.Author.Needs.{needs}
@@ -9,10 +9,10 @@ use borrow.Author.Tests.{not-true, not-false}
 use lib.ListN.{length}
 use lib.Seq.{length-take-le}
 use Rattle.refusal.specs.Outcome.{Opened}
-use Rattle.float.specs.PolyphaseResamp.{valid, reset}
+use Rattle.float.specs.PolyphaseResamp.{valid, ownTaps}
 use Rattle.float.specs.declared.polyphase_resamp.PolyphaseResampF32.{PolyphaseResampF32}
-use Rattle.float.proofs.PolyphaseOutput.{Limits}
 use Rattle.float.proofs.PolyphaseRange.{valid-limits}
+use Rattle.float.proofs.PolyphaseCalls.{reset-refused, reset-fresh}
 use Rattle.float.proofs.polyphase_resamp.PolyphaseResampF32.reset.Statement.{statement}
 use Rattle.float.proofs.polyphase_resamp.PolyphaseResampF32.reset.Tie as tie
 
@@ -20,11 +20,8 @@ is-valid-requires : tie.Need-is-valid-requires
 is-valid-requires c κs = search needs
 
 returns : tie.Need-returns
-unfolding reset valid
-returns c =
-    let s : PolyphaseResampF32 = c .before .before .args .self in
-    let v : valid s ≡ false = sym (c .before .is-valid .ensures) ∙ not-true (c .before .is-valid .result) (c .if1 .taken) in
-    rw v
+unfolding valid
+returns c = reset-refused (c .before .before .args .self) (sym (c .before .is-valid .ensures) ∙ not-true (c .before .is-valid .result) (c .if1 .taken))
 
 is-so : (c : tie.Else1) → valid (c .before .before .args .self) ≡ true
 unfolding valid
@@ -49,9 +46,9 @@ fresh-requires : tie.Need-fresh-requires
 fresh-requires c κs = search needs
 
 returns-2 : tie.Need-returns-2
-unfolding reset
+unfolding ownTaps
 returns-2 c =
-    rw (is-so (c .before .before .before .before))
+    reset-fresh _ _ (is-so (c .before .before .before .before)) (sym (slice-aggregate-fresh (c .before)))
     (ap {B = Opened PolyphaseResampF32} (λ (s : PolyphaseResampF32). record { number = 0; state = s }) (c .fresh .ensures))
 
 pub reset-spec : {M : Type 1} → statement M
