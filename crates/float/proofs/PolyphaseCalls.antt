@@ -12,7 +12,7 @@ use lib.Seq.{take-append-seam, drop-nil}
 use lib.Ieee.{Float, binary32, sub}
 use Rattle.theory.specs.Feeds.{Fed, feed}
 use Rattle.theory.specs.Runs.{Runs}
-use Rattle.theory.proofs.FeedRules.{feed-keeps, feed-conserves}
+use Rattle.theory.proofs.FeedRules.{feed-keeps, feed-short, feed-conserves}
 use Rattle.refusal.specs.Outcome.{Outcome, Opened}
 use Rattle.float.specs.F32.{one32, aboveZero}
 use Rattle.float.specs.PolyphaseResamp.{inLimits, valid, consumed, resampler, fresh, refusedOpening, opening, ownTaps, reset, Counts, laid, together, RanTo, shiftedIn, block, blockOutcome, blockSpan, push, pushOutcome, pushSpan}
@@ -100,18 +100,19 @@ front w o = take-append-seam w (drop (length w) o)
 
 pub block-kept :
     (s : PolyphaseResampF32) (xs before after : List Float) (r : Outcome Counts PolyphaseResampF32) → r ≡ blockOutcome s xs before → after ≡ blockSpan s xs before
-    → BlockKept s xs after r
+    → BlockKept s xs before after r
 unfolding blockOutcome blockSpan block
 block-kept s xs before after r er ea =
     let f : Fed PolyphaseResampF32 Float = feed resampler s xs (length before) in
     record {
       accepted = λ v. rw (er, v) (fed-valid s xs (length before) v);
       conserved = λ v. rw (er, ea, v) (fed-conserves s xs (length before) _ (front (f .written) before));
+      drained = λ v. rw (er, v) (feed-short resampler s xs (length before));
     }
 
 -- the three clauses of `process_block`
 abbrev pub BlockClauses : PolyphaseResampF32 → List Float → List Float → List Float → Outcome Counts PolyphaseResampF32 → Type 0
-BlockClauses s xs before after r = (r ≡ blockOutcome s xs before) × ((after ≡ blockSpan s xs before) × BlockKept s xs after r)
+BlockClauses s xs before after r = (r ≡ blockOutcome s xs before) × ((after ≡ blockSpan s xs before) × BlockKept s xs before after r)
 
 block-clauses : (s : PolyphaseResampF32) (xs before after : List Float) (r : Outcome Counts PolyphaseResampF32) → r ≡ blockOutcome s xs before → after ≡ blockSpan s xs before → BlockClauses s xs before after r
 block-clauses s xs before after r er ea = (er, (ea, block-kept s xs before after r er ea))
@@ -130,18 +131,19 @@ block-ran s xs before r d after v e =
 
 pub push-kept :
     (s : PolyphaseResampF32) (x : Float) (before after : List Float) (r : Outcome ℕ PolyphaseResampF32) → r ≡ pushOutcome s x before → after ≡ pushSpan s x before
-    → PushKept s x after r
+    → PushKept s x before after r
 unfolding pushOutcome pushSpan push
 push-kept s x before after r er ea =
     let f : Fed PolyphaseResampF32 Float = feed resampler (consumed s x) [] (length before) in
     record {
       accepted = λ v. rw (er, v) (fed-valid (consumed s x) [] (length before) (valid-consumed s x v));
       conserved = λ v. rw (er, ea, v) (left-alike (drop-nil (f .taken)) (fed-conserves (consumed s x) [] (length before) _ (front (f .written) before)));
+      drained = λ v. rw (er, v) (λ h. feed-short resampler (consumed s x) [] (length before) h .1);
     }
 
 -- the three clauses of `push`
 abbrev pub PushClauses : PolyphaseResampF32 → Float → List Float → List Float → Outcome ℕ PolyphaseResampF32 → Type 0
-PushClauses s x before after r = (r ≡ pushOutcome s x before) × ((after ≡ pushSpan s x before) × PushKept s x after r)
+PushClauses s x before after r = (r ≡ pushOutcome s x before) × ((after ≡ pushSpan s x before) × PushKept s x before after r)
 
 push-clauses : (s : PolyphaseResampF32) (x : Float) (before after : List Float) (r : Outcome ℕ PolyphaseResampF32) → r ≡ pushOutcome s x before → after ≡ pushSpan s x before → PushClauses s x before after r
 push-clauses s x before after r er ea = (er, (ea, push-kept s x before after r er ea))

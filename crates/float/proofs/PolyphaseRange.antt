@@ -135,6 +135,10 @@ on-so s v =
     (both-so (inLimits (s .phases) (s .taps)) (stepInLine (s .step) && muFrom zero32 (s .step) (s .mu)) (v .limits)
     (both-so (stepInLine (s .step)) (muFrom zero32 (s .step) (s .mu)) (v .steps) (range-so (s .step) (s .mu) (v .range))))
 
+-- a state that is on and accepted is inside 12's limits
+pub on-in-limits : (s : PolyphaseResampF32) → isOn s ≡ true → validInLine s ≡ true → inLimits (s .phases) (s .taps) ≡ true
+on-in-limits s o h = on-says s o h .limits
+
 -- an output that is due, and a consumed value, with the resampler on
 on-passed : (s : PolyphaseResampF32) → ValidOn s → lt (s .mu) one32 ≡ true → ValidOn (passed s)
 unfolding passed ofBits

@@ -15,7 +15,7 @@ use Rattle.theory.specs.Runs.{Runs}
 use Rattle.theory.proofs.Listed.{length-listed}
 use Rattle.theory.proofs.Machines.{Lawful, Seen, all, all-seen, all-off}
 use Rattle.theory.proofs.Runs.{all-runs}
-use Rattle.theory.proofs.RunsSeen.{runs-seen, runs-unseen, lawful-seen}
+use Rattle.theory.proofs.RunsSeen.{runs-unique, runs-seen, runs-unseen, lawful-seen}
 use Rattle.float.specs.F32.{zero32, one32, blend}
 use Rattle.float.specs.PolyphaseOutput.{tap, phase0, phase1, place, fraction, phaseSum, output}
 use Rattle.float.specs.PolyphaseResamp.{inLimits, shiftedIn, consumed, outputOf, passed, resampler, isOn, inLine, validInLine, stepInLine, packed, fresh}
@@ -186,6 +186,11 @@ module _ (P T : ℕ) (h : List Float) (lim : inLimits P T ≡ true) (long : leng
           subst (λ (s : PolyphaseResampF32). Runs (wholeList P T h step) begin xs (all inLine 64 s xs)) view-begin
           (subst (Runs (wholeList P T h step) begin xs) (all-seen (wholeList P T h step) inLine view 64 (λ c. validInLine (view c) ≡ true) whole-lawful seen-in-line begin xs begin-valid)
           (all-runs (wholeList P T h step) 64 (λ c. validInLine (view c) ≡ true) whole-lawful begin xs begin-valid))
+
+-- no list becomes two
+pub becomes-one : (P T : ℕ) (h : List Float) (step : Float) (xs o p : List Float) → Becomes P T h step xs o → Becomes P T h step xs p → o ≡ p
+unfolding Becomes
+becomes-one P T h step xs o p r q = runs-unique r q
 
 -- a resampler that is off hands its list on unchanged
 pub off-hands-on : (s : PolyphaseResampF32) (xs : List Float) → s .phases ≡ 0 → all inLine 64 s xs ≡ xs

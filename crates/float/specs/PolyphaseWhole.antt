@@ -1,10 +1,10 @@
 -- 01, section 6, "In 5": the list that a whole list becomes in the resampler, from the settings, the prototype h and the list alone; and what the
 -- contracts of the opening and the calls claim of it.
 use mathlib.Core.Path.{_≡_}
-use mathlib.Core.Bool.{true}
+use mathlib.Core.Bool.{true, false}
 use mathlib.Core.List.{List, [], _∷_, _++_}
 use mathlib.Core.Option.{none}
-use Prim.Native.Nat.{ℕ}
+use Prim.Native.Nat.{ℕ, _<_}
 use lib.ListN.{length, getD, take, drop}
 use lib.Ieee.{Float, binary32, add, sub, lt}
 use Rattle.theory.specs.Lists.{listed}
@@ -61,12 +61,15 @@ pub record Conserves (s : PolyphaseResampF32) (xs written : List Float) (taken :
   pub onward : (o : List Float) → Runs resampler t (drop taken xs) o → Runs resampler s xs (written ++ o)
   pub only : (o : List Float) → Runs resampler s xs o → (o ≡ written ++ drop (length written) o) × Runs resampler t (drop taken xs) (drop (length written) o)
 
--- What a block that is not refused claims: the next call is not refused either, and no output is lost or made twice
-pub record BlockKept (s : PolyphaseResampF32) (xs after : List Float) (r : Outcome Counts PolyphaseResampF32) : Type 0 where
+-- What a block of a valid state claims: the next call is not refused either, no output is lost or made twice, and where a place is left unwritten every
+-- sample was taken and no output is due
+pub record BlockKept (s : PolyphaseResampF32) (xs before after : List Float) (r : Outcome Counts PolyphaseResampF32) : Type 0 where
   pub accepted : valid s ≡ true → valid (r .state) ≡ true
   pub conserved : valid s ≡ true → Conserves s xs (take (r .value .written) after) (r .value .taken) (r .state)
+  pub drained : valid s ≡ true → r .value .written < length before → (r .value .taken ≡ length xs) × (resampler .due (r .state) ≡ false)
 
--- What a push claims: the same, of the state that has consumed the sample
-pub record PushKept (s : PolyphaseResampF32) (x : Float) (after : List Float) (r : Outcome ℕ PolyphaseResampF32) : Type 0 where
+-- What a push to a valid state claims: the same, of the state that has consumed the sample
+pub record PushKept (s : PolyphaseResampF32) (x : Float) (before after : List Float) (r : Outcome ℕ PolyphaseResampF32) : Type 0 where
   pub accepted : valid s ≡ true → valid (r .state) ≡ true
   pub conserved : valid s ≡ true → Conserves (consumed s x) [] (take (r .value) after) 0 (r .state)
+  pub drained : valid s ≡ true → r .value < length before → resampler .due (r .state) ≡ false

@@ -311,7 +311,7 @@ impl PolyphaseResampF32 {
     pub fn process_block(mut self, src: &[f32], dst: &mut [f32]) -> PolyphaseBlock
         ensures answer { λ r. ⌜ R.toldBlock r ≡ R.blockOutcome self (now (src .entry)) (now (dst .entry)) ⌝ }
         ensures span { λ r. ⌜ now (dst .exit) ≡ R.blockSpan self (now (src .entry)) (now (dst .entry)) ⌝ }
-        ensures kept { λ r. ⌜ W.BlockKept self (now (src .entry)) (now (dst .exit)) (R.toldBlock r) ⌝ }
+        ensures kept { λ r. ⌜ W.BlockKept self (now (src .entry)) (now (dst .entry)) (now (dst .exit)) (R.toldBlock r) ⌝ }
     {
         if !is_valid(self.phases, self.taps, self.step, self.mu) {
             return PolyphaseBlock {
@@ -344,7 +344,7 @@ impl PolyphaseResampF32 {
     pub fn push(mut self, x: f32, out: &mut [f32]) -> PolyphasePush
         ensures answer { λ r. ⌜ R.toldPush r ≡ R.pushOutcome self x (now (out .entry)) ⌝ }
         ensures span { λ r. ⌜ now (out .exit) ≡ R.pushSpan self x (now (out .entry)) ⌝ }
-        ensures kept { λ r. ⌜ W.PushKept self x (now (out .exit)) (R.toldPush r) ⌝ }
+        ensures kept { λ r. ⌜ W.PushKept self x (now (out .entry)) (now (out .exit)) (R.toldPush r) ⌝ }
     {
         if !is_valid(self.phases, self.taps, self.step, self.mu) {
             return PolyphasePush {
