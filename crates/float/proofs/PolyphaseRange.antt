@@ -1,19 +1,20 @@
 -- mu stays in its range from every valid state, beside the line and in it, so that no later call is refused; and in the line 64 outputs between two
 -- values suffice. What the tests say is turned into the ranges of theory's `MuBeside` and `MuInLine`.
-use mathlib.Core.Path.{_≡_, refl}
+use mathlib.Core.Path.{_≡_, refl, ap}
 use mathlib.Core.Bool.{Bool, true, false, not, _&&_, _||_, cond, false≢true}
 use mathlib.Core.List.{List}
-use Prim.Native.Nat.{ℕ, suc, _*_, _<_}
+use Prim.Native.Nat.{ℕ, zero, suc, _*_, _<_}
 use native.Mathlib.Nat.{zero-mul}
 use native.Mathlib.Omega.{arith}
 use lib.Dec.{T, ltb, eqb, ltb→lt, lt→ltb}
-use lib.Ieee.{Float, nan, inf, fin, binary32, ofBits, up, down, add, lt, le}
+use lib.Ieee.{Float, nan, inf, fin, binary32, ofBits, up, down, add, lt, le, fits}
 use lib.Ieee.Positive.{positive, first-pos}
+use lib.Ieee.Scale.{finite}
 use Rattle.theory.proofs.Machines.{Lawful, enough-by-rank}
 use Rattle.theory.proofs.FloatOrder.{zeroF, le-trans-nonneg, positive-nonneg}
 use Rattle.theory.proofs.MuInLine.{mostStep, StepOk, InRange, AtLeast, step-positive, in-nonneg, at-start, reached, grows}
 use Rattle.theory.proofs.MuInLine as line
-use Rattle.theory.proofs.MuBeside.{maxF, StepPos, InWide, limit-in, wide-input, wide-output}
+use Rattle.theory.proofs.MuBeside.{maxF, most-finite, StepPos, InWide, limit-in, wide-input, wide-output}
 use Rattle.float.specs.F32.{zero32, one32, largest32, aboveZero}
 use Rattle.float.specs.PolyphaseResamp.{inLimits, muFrom, lowestMu, validAt, leastLineStep, mostLineStep, stepInLine, validInLineAt, valid, validInLine, consumed, passed, isOn, inLine, fresh}
 use Rattle.float.specs.declared.polyphase_resamp.PolyphaseResampF32.{PolyphaseResampF32}
@@ -35,6 +36,17 @@ unfolding aboveZero ofBits
 above-says step h =
     let b = both-true (lt zero32 step) (le step largest32) h in
     (above-zero step (is (lt zero32 step) (b .0)) (is (le step largest32) (b .1)), is (le step largest32) (b .1))
+
+-- of an f32 the test says what 01 does: above zero and finite
+pub above-zero-is : (x : Float) → fits binary32 x ≡ true → aboveZero x ≡ (lt zero32 x && finite x)
+unfolding aboveZero ofBits lt le
+above-zero-is nan f = refl
+above-zero-is (inf true) f = refl
+above-zero-is (inf false) f = refl
+above-zero-is (fin true m e) f = refl
+above-zero-is (fin false zero e) f = rw (zero-mul (up e), zero-mul (down e))
+above-zero-is (fin false (suc m) e) f =
+    ap (λ (b : Bool). lt zero32 (fin false (suc m) e) && b) (so (le (fin false (suc m) e) maxF) (most-finite (fin false (suc m) e) (lt→ltb 0 (suc m) (omega arith)) (is (fits binary32 (fin false (suc m) e)) f)))
 
 wide-says : (step mu : Float) → muFrom lowestMu step mu ≡ true → InWide step mu
 unfolding muFrom ofBits

@@ -13,7 +13,7 @@ one32 = ofBits binary32 0x3f80_0000
 abbrev pub largest32 : Float
 largest32 = ofBits binary32 0x7f7f_ffff
 
--- refusals 9 and 14, "not above zero or not finite"; a NaN compares with nothing
+-- refusals 9 and 14, "not above zero or not finite": an f32 is finite where it is at most the largest (`above-zero-is`), and a NaN compares with nothing
 unfoldable pub aboveZero : Float → Bool
 aboveZero x = lt zero32 x && le x largest32
 
