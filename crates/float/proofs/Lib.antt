@@ -22,3 +22,12 @@ pub mod HeldOnes
 pub mod Frames
 pub mod DecCascades
 pub mod IntCascades
+pub mod Flags
+pub mod Saturate
+pub mod PolyphaseOutput
+pub mod DelayLine
+pub mod Packing
+pub mod PolyphaseRange
+pub mod PolyphaseWhole
+pub mod PolyphaseCalls
+pub mod ResampleLinear

@@ -10,3 +10,8 @@ pub mod HbfDecCascade
 pub mod HbfInt
 pub mod HbfIntCascade
 pub mod ResponseLength
+pub mod F32
+pub mod PolyphaseOutput
+pub mod PolyphaseResamp
+pub mod PolyphaseWhole
+pub mod ResampleLinear

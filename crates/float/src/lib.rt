@@ -1,4 +1,5 @@
-// 01, sections 4 and 5 and the float part of section 7: f32 rate converters.
+// 01, sections 4 and 5 and the float part of section 7: f32 rate converters, in 01's order of IEEE 754 operations.
+pub mod cast;
 mod half_band;
 pub mod hbf_dec;
 pub mod hbf_dec_cascade;
@@ -8,8 +9,11 @@ pub mod hbf_stream;
 pub mod hbf_taps;
 pub mod level;
 mod limits;
+pub mod polyphase_resamp;
+pub mod resample_linear;
 pub mod response_length;
 
+pub use crate::cast::f32_to_usize_saturating;
 pub use crate::hbf_dec::HbfDec;
 pub use crate::hbf_dec_cascade::HbfDecCascade;
 pub use crate::hbf_int::HbfInt;
@@ -17,5 +21,10 @@ pub use crate::hbf_int_cascade::HbfIntCascade;
 pub use crate::hbf_stream::HbfStream;
 pub use crate::hbf_taps::hbf_tap_table;
 pub use crate::level::q15_to_f32;
+pub use crate::polyphase_resamp::PolyphaseBlock;
+pub use crate::polyphase_resamp::PolyphaseOpening;
+pub use crate::polyphase_resamp::PolyphasePush;
+pub use crate::polyphase_resamp::PolyphaseResampF32;
+pub use crate::resample_linear::resample_linear_f32;
 pub use crate::response_length::hbf_dec_response_length;
 pub use crate::response_length::hbf_int_response_length;

@@ -9,3 +9,8 @@ pub mod Runs
 pub mod Feeds
 pub mod Kept
 pub mod FeedLoop
+pub mod FloatOrder
+pub mod MuInLine
+pub mod MuBeside
+pub mod FeedRules
+pub mod RunsSeen
