@@ -3,6 +3,8 @@
 ghost use mathlib.Core.Path.{_≡_};
 ghost use lib.ListN as ListN;
 use crate::words::LOST;
+use crate::words::bits;
+use crate::words::float;
 use crate::words::number;
 use crate::words::rest;
 use crate::words::same;
@@ -26,6 +28,12 @@ pub fn no_shorts() -> [i16; LONGEST]
     [0; LONGEST]
 }
 
+pub fn no_floats() -> [f32; LONGEST]
+    ensures { λ a. ⌜ 65600 ≡ ListN.length a ⌝ }
+{
+    [0.0; LONGEST]
+}
+
 pub fn length(lent: &[u32]) -> usize {
     word(lent, 0) as usize
 }
@@ -44,6 +52,13 @@ pub fn front(places: &mut [i32], length: usize) -> &mut [i32] {
 }
 
 pub fn front_shorts(places: &mut [i16], length: usize) -> &mut [i16] {
+    if length <= places.len() {
+        return &mut places[0..length];
+    }
+    places
+}
+
+pub fn front_floats(places: &mut [f32], length: usize) -> &mut [f32] {
     if length <= places.len() {
         return &mut places[0..length];
     }
@@ -77,6 +92,17 @@ pub fn lend_shorts(lent: &[u32], places: &mut [i16]) {
     let mut i = 0;
     while i < places.len() {
         places[i] = short(element(lent, i, pattern));
+        pattern = std::num::wrapping_add_u32(pattern, stride);
+        i += 1;
+    }
+}
+
+pub fn lend_floats(lent: &[u32], places: &mut [f32]) {
+    let stride = word(lent, 2);
+    let mut pattern = word(lent, 1);
+    let mut i = 0;
+    while i < places.len() {
+        places[i] = float(element(lent, i, pattern));
         pattern = std::num::wrapping_add_u32(pattern, stride);
         i += 1;
     }
@@ -126,6 +152,26 @@ pub fn same_shorts(w: &[u32], at: usize, lent: &[u32], places: &[i16]) -> usize 
     while i < places.len() {
         let as_listed = places[i] == short(word(w, next));
         let as_lent = places[i] == short(element(lent, i, pattern));
+        next = same_place(w, next, i < listed, as_listed, as_lent);
+        pattern = std::num::wrapping_add_u32(pattern, stride);
+        i += 1;
+    }
+    next
+}
+
+pub fn same_floats(w: &[u32], at: usize, lent: &[u32], places: &[f32]) -> usize {
+    let listed = word(w, at) as usize;
+    if places.len() < listed {
+        return LOST;
+    }
+    let stride = word(lent, 2);
+    let mut pattern = word(lent, 1);
+    let mut next = same(w, at, word(w, at));
+    let mut i = 0;
+    while i < places.len() {
+        let x = bits(places[i]);
+        let as_listed = x == word(w, next);
+        let as_lent = x == bits(float(element(lent, i, pattern)));
         next = same_place(w, next, i < listed, as_listed, as_lent);
         pattern = std::num::wrapping_add_u32(pattern, stride);
         i += 1;

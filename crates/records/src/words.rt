@@ -49,6 +49,22 @@ pub fn short(x: u32) -> i16 {
     !((65535 - low) as i16)
 }
 
+// The f32 whose bits x is; a NaN's bits all give one NaN.
+pub fn float(x: u32) -> f32 {
+    if 2139095040 < x % 2147483648 {
+        return 0.0 / 0.0;
+    }
+    f32::from_bits(x)
+}
+
+// An f32's bits, those of every NaN being one.
+pub fn bits(x: f32) -> u32 {
+    if x == x {
+        return f32::to_bits(x);
+    }
+    2143289344
+}
+
 pub fn number(w: &[u32], at: usize) -> i32 {
     signed(word(w, at))
 }
@@ -97,6 +113,10 @@ pub fn same_short(w: &[u32], at: usize, x: i16) -> usize {
         return same(w, at, word(w, at));
     }
     LOST
+}
+
+pub fn same_float(w: &[u32], at: usize, x: f32) -> usize {
+    same(w, at, bits(x))
 }
 
 pub fn same_long(w: &[u32], at: usize, x: usize) -> usize {

@@ -21,6 +21,7 @@ fn agrees(operation: u32, w: &[u32]) -> bool {
     match operation {
         0x10..=0x2f => replay_integer::agrees(operation, w),
         0x30..=0x4f => replay_q15::agrees(operation, w),
+        0x50..=0xbf => replay_float::agrees(operation, w),
         _ => false,
     }
 }

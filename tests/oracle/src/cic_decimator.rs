@@ -1,12 +1,13 @@
 //! Cases of `CicDecimator`.
 
-use crate::cic_settings::{self, front, with_stages};
+use crate::cic_settings;
 use crate::lent::{LONGEST, Lent};
 use crate::record::Record;
 use crate::refusals;
 use crate::rng::Rng;
 use crate::samples;
 use crate::settings;
+use crate::sizes::{front, with_stages};
 use embedded_dsp::resampling::CicDecimator;
 
 const NEW: u32 = 0x11;

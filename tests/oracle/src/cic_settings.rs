@@ -59,26 +59,3 @@ pub fn any(rng: &mut Rng) -> (u64, u64) {
         _ => (stages(rng), factor(rng)),
     }
 }
-
-/// Calls a function that is generic over the number of stages with the constant equal to `$stages`.
-macro_rules! with_stages {
-    ($stages:expr, $function:ident($($argument:expr),*)) => {
-        match $stages {
-            1 => $function::<1>($($argument),*),
-            2 => $function::<2>($($argument),*),
-            3 => $function::<3>($($argument),*),
-            4 => $function::<4>($($argument),*),
-            5 => $function::<5>($($argument),*),
-            6 => $function::<6>($($argument),*),
-            7 => $function::<7>($($argument),*),
-            8 => $function::<8>($($argument),*),
-            _ => unreachable!("the refusals come first"),
-        }
-    };
-}
-pub(crate) use with_stages;
-
-/// The first N of eight places.
-pub fn front<const N: usize>(places: &[i32; 8]) -> [i32; N] {
-    std::array::from_fn(|i| places[i])
-}

@@ -24,3 +24,8 @@ pub fn linear_q15(samples: &[q15], ratio: i32, i: usize) -> q15 {
         None => samples[samples.len() - 1],
     }
 }
+
+/// "an f32 position of 2^64 or more gives the last sample": the position is i × ratio rounded to f32.
+pub fn linear_position_is_far(ratio: f32, i: usize) -> bool {
+    i as f32 * ratio >= 18_446_744_073_709_551_616.0
+}

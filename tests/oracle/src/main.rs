@@ -1,20 +1,32 @@
 //! Lists what the unchanged Rust answers on seeded cases. ../README.md has the records' format.
 
+mod cascade;
 mod cic_decimator;
 mod cic_interpolator;
 mod cic_settings;
-mod cut_q15;
 mod differences;
 mod fir_decimator;
+mod float_samples;
+mod half_band;
+mod hbf_dec;
+mod hbf_dec_cascade;
+mod hbf_int;
+mod hbf_int_cascade;
+mod hbf_stream;
+mod hbf_table;
 mod lent;
+mod linear_f32;
 mod linear_q15;
 mod polyphase_q15;
+mod polyphase_resamp;
 mod q15_samples;
 mod record;
 mod refusals;
 mod rng;
 mod samples;
 mod settings;
+mod sizes;
+mod values;
 mod word;
 
 use record::Record;
@@ -24,13 +36,20 @@ use std::process::ExitCode;
 
 type Cases = fn(&mut Rng) -> Vec<Record>;
 
-const CONVERTERS: [(&str, Cases); 6] = [
+const CONVERTERS: [(&str, Cases); 13] = [
     ("cic_decimator", cic_decimator::cases),
     ("cic_interpolator", cic_interpolator::cases),
-    ("cut_q15", cut_q15::cases),
     ("polyphase_q15", polyphase_q15::cases),
     ("linear_q15", linear_q15::cases),
     ("fir_decimator", fir_decimator::cases),
+    ("values", values::cases),
+    ("linear_f32", linear_f32::cases),
+    ("hbf_dec", hbf_dec::cases),
+    ("hbf_int", hbf_int::cases),
+    ("hbf_dec_cascade", hbf_dec_cascade::cases),
+    ("hbf_int_cascade", hbf_int_cascade::cases),
+    ("hbf_stream", hbf_stream::cases),
+    ("polyphase_resamp", polyphase_resamp::cases),
 ];
 
 const USAGE: &str = "usage: oracle list --seed S --cases N [--only NAME]";

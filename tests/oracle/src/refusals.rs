@@ -9,6 +9,11 @@ const TAPS: u32 = 6;
 const SAMPLES: u32 = 7;
 const TAPS_MULTIPLE: u32 = 8;
 const RATIO: u32 = 9;
+const HALF_BAND_TAPS: u32 = 10;
+const DEPTH: u32 = 11;
+const PHASES: u32 = 12;
+const PROTOTYPE: u32 = 13;
+const STEP: u32 = 14;
 const STATE: u32 = 15;
 
 /// The most samples, taps and places of a block.
@@ -118,6 +123,92 @@ pub fn fir_state(taps: u64, factor: u64, wait: u64) -> u32 {
     if taps == 0 {
         0
     } else if fir_opening(taps, factor) != 0 || wait == 0 || wait > taps && wait > factor {
+        STATE
+    } else {
+        0
+    }
+}
+
+/// "half-band": 10 where M is not 1..23.
+pub fn half_band_opening(taps: u64) -> u32 {
+    if (1..=23).contains(&taps) {
+        0
+    } else {
+        HALF_BAND_TAPS
+    }
+}
+
+/// "any call on a state": settings that its opening refuses.
+pub fn half_band(taps: u64) -> u32 {
+    if half_band_opening(taps) != 0 {
+        STATE
+    } else {
+        0
+    }
+}
+
+/// A half-band block: 15, then 7.
+pub fn half_band_block(taps: u64, samples: usize, span: usize) -> u32 {
+    match half_band(taps) {
+        0 => block(samples, span),
+        number => number,
+    }
+}
+
+/// "cascade": 11 where the depth is over 5 or 0.
+pub fn cascade_opening(depth: u64) -> u32 {
+    if depth == 0 || depth > 5 { DEPTH } else { 0 }
+}
+
+/// "any call on a state": settings that its opening refuses.
+pub fn cascade(depth: u64) -> u32 {
+    if cascade_opening(depth) != 0 {
+        STATE
+    } else {
+        0
+    }
+}
+
+/// A cascade's block: 15, then 7.
+pub fn cascade_block(depth: u64, samples: usize, span: usize) -> u32 {
+    match cascade(depth) {
+        0 => block(samples, span),
+        number => number,
+    }
+}
+
+/// "lengths", and the line's cascade: 11 where the depth is over 5.
+pub fn depth(depth: u64) -> u32 {
+    if depth > 5 { DEPTH } else { 0 }
+}
+
+/// "any call on a state" of the line's cascade: settings that its opening refuses; more than one held sample at one half-band stage.
+pub fn held_cascade(depth: u64, counts: &[u64; 5]) -> u32 {
+    if depth > 5 || counts[..depth as usize].iter().any(|&count| count > 1) {
+        STATE
+    } else {
+        0
+    }
+}
+
+/// "resampler": 12 where P or T is outside its limits, 13 where the prototype is not P × T long, 14 where the step is not finite or not above zero.
+pub fn resampler_opening(phases: u64, taps: u64, prototype: usize, step: f32) -> u32 {
+    if !(2..=64).contains(&phases) || !(1..=16).contains(&taps) {
+        PHASES
+    } else if prototype as u64 != phases * taps {
+        PROTOTYPE
+    } else if !(step.is_finite() && step > 0.0) {
+        STEP
+    } else {
+        0
+    }
+}
+
+/// "any call on a state": settings that its opening refuses; mu not in −2^24..1+step as rounded.
+pub fn resampler(phases: u64, taps: u64, step: f32, mu: f32) -> u32 {
+    let whole = phases.wrapping_mul(taps) as usize;
+    let good_mu = mu >= -16_777_216.0 && mu <= 1.0 + step;
+    if resampler_opening(phases, taps, whole, step) != 0 || !good_mu {
         STATE
     } else {
         0

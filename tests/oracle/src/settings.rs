@@ -60,3 +60,8 @@ pub fn bad_places(rng: &mut Rng) -> usize {
 pub fn length_around(rng: &mut Rng) -> u64 {
     rng.pick(&[MOST - 1, MOST, MOST, MOST + 1])
 }
+
+/// A depth that every cascade refuses, and 0, which the line's takes for off.
+pub fn bad_depth(rng: &mut Rng) -> u64 {
+    rng.pick(&[0, 6, 6, 7, 1 << 32, (1 << 32) + 1, u64::MAX])
+}

@@ -1,0 +1,127 @@
+// The operations of HbfDec. Each takes the words behind its code: its inputs, then the answers.
+use float::HbfDec;
+use float::hbf_dec::HbfDecBlock;
+use float::hbf_dec::HbfDecOpening;
+use float::hbf_dec::HbfDecOut;
+use float::hbf_dec::HbfDecStep;
+use records::answers::same_count;
+use records::answers::same_opening;
+use records::answers::same_refusal;
+use records::slices::behind;
+use records::slices::front_floats;
+use records::slices::lend_floats;
+use records::slices::length;
+use records::slices::no_floats;
+use records::slices::same_floats;
+use records::words::first;
+use records::words::float;
+use records::words::long;
+use records::words::rest;
+use records::words::same;
+use records::words::same_float;
+use records::words::same_long;
+use records::words::word;
+
+// Where a state's taps begin, behind their number; its delay follows them.
+const TAPS: usize = 2;
+
+fn state_of(w: &[u32]) -> HbfDec {
+    let mut coeffs = [0.0f32; 23];
+    let mut delay = [0.0f32; 96];
+    let lent = rest(w, TAPS);
+    lend_floats(lent, &mut coeffs);
+    lend_floats(behind(lent), &mut delay);
+    HbfDec {
+        m: long(w, 0),
+        coeffs,
+        delay,
+    }
+}
+
+// The words behind a state.
+fn behind_state(w: &[u32]) -> &[u32] {
+    behind(behind(rest(w, TAPS)))
+}
+
+// The state after a call on the one that `lent` begins with; on none, that is of zeros, after an opening.
+fn same_state(w: &[u32], at: usize, lent: &[u32], state: HbfDec) -> usize {
+    let coeffs = state.coeffs;
+    let delay = state.delay;
+    let lent_taps = rest(lent, TAPS);
+    let mut next = same_long(w, at, state.m);
+    next = same_floats(w, next, lent_taps, &coeffs);
+    same_floats(w, next, behind(lent_taps), &delay)
+}
+
+fn same_opened(w: &[u32], lent: &[u32], opened: HbfDecOpening) -> bool {
+    let answer = opened.answer;
+    let state = opened.state;
+    same_state(w, same_opening(w, 0, answer), lent, state) == w.len()
+}
+
+fn new_in(w: &[u32], taps: &mut [f32]) -> bool {
+    lend_floats(w, taps);
+    let opened = HbfDec::new(taps);
+    same_opened(behind(w), first(w, 0), opened)
+}
+
+pub fn new(w: &[u32]) -> bool {
+    let mut taps = no_floats();
+    let m = length(w);
+    new_in(w, front_floats(&mut taps, m))
+}
+
+pub fn reset(w: &[u32]) -> bool {
+    let opened = state_of(w).reset();
+    same_opened(behind_state(w), w, opened)
+}
+
+fn same_output(w: &[u32], output: HbfDecOut) -> usize {
+    match output {
+        HbfDecOut::Value(y) => same_float(w, same(w, 0, 0), y),
+        HbfDecOut::Refused(refusal) => same(w, same_refusal(w, 0, refusal), 0),
+    }
+}
+
+fn same_step(w: &[u32], lent: &[u32], step: HbfDecStep) -> bool {
+    let output = step.out;
+    let state = step.state;
+    same_state(w, same_output(w, output), lent, state) == w.len()
+}
+
+pub fn process_pair(w: &[u32]) -> bool {
+    let given = behind_state(w);
+    let step = state_of(w).process_pair(float(word(given, 0)), float(word(given, 1)));
+    same_step(rest(given, 2), w, step)
+}
+
+fn same_block(
+    w: &[u32],
+    lent: &[u32],
+    block: HbfDecBlock,
+    lent_span: &[u32],
+    span: &[f32],
+) -> bool {
+    let answer = block.answer;
+    let state = block.state;
+    let next = same_floats(w, same_count(w, 0, answer), lent_span, span);
+    same_state(w, next, lent, state) == w.len()
+}
+
+fn process_in(w: &[u32], samples: &mut [f32], span: &mut [f32]) -> bool {
+    let lent = behind_state(w);
+    let lent_span = behind(lent);
+    lend_floats(lent, samples);
+    lend_floats(lent_span, span);
+    let block = state_of(w).process(samples, span);
+    same_block(behind(lent_span), w, block, lent_span, span)
+}
+
+pub fn process(w: &[u32]) -> bool {
+    let mut samples = no_floats();
+    let mut span = no_floats();
+    let lent = behind_state(w);
+    let n = length(lent);
+    let m = length(behind(lent));
+    process_in(w, front_floats(&mut samples, n), front_floats(&mut span, m))
+}

@@ -1,0 +1,153 @@
+// The operations of PolyphaseResampF32. Each takes the words behind its code: its inputs, then the answers.
+use float::PolyphaseBlock;
+use float::PolyphaseOpening;
+use float::PolyphasePush;
+use float::PolyphaseResampF32;
+use records::answers::same_count;
+use records::answers::same_opening;
+use records::answers::same_refusal;
+use records::slices::behind;
+use records::slices::front_floats;
+use records::slices::lend_floats;
+use records::slices::length;
+use records::slices::no_floats;
+use records::slices::same_floats;
+use records::words::first;
+use records::words::float;
+use records::words::long;
+use records::words::rest;
+use records::words::same;
+use records::words::same_float;
+use records::words::same_long;
+use records::words::word;
+use refusal::Count;
+
+// Where a state's delay begins, behind its numbers; its prototype follows it.
+const DELAY: usize = 6;
+
+fn state_of(w: &[u32]) -> PolyphaseResampF32 {
+    let mut delay = [0.0f32; 16];
+    let mut prototype = [0.0f32; 1024];
+    let lent = rest(w, DELAY);
+    lend_floats(lent, &mut delay);
+    lend_floats(behind(lent), &mut prototype);
+    PolyphaseResampF32 {
+        phases: long(w, 0),
+        taps: long(w, 2),
+        mu: float(word(w, 4)),
+        step: float(word(w, 5)),
+        delay,
+        prototype,
+    }
+}
+
+// The words behind a state.
+fn behind_state(w: &[u32]) -> &[u32] {
+    behind(behind(rest(w, DELAY)))
+}
+
+// The state after a call on the one that `lent` begins with; on none, that is of zeros, after an opening.
+fn same_state(w: &[u32], at: usize, lent: &[u32], state: PolyphaseResampF32) -> usize {
+    let delay = state.delay;
+    let prototype = state.prototype;
+    let lent_delay = rest(lent, DELAY);
+    let mut next = same_long(w, at, state.phases);
+    next = same_long(w, next, state.taps);
+    next = same_float(w, next, state.mu);
+    next = same_float(w, next, state.step);
+    next = same_floats(w, next, lent_delay, &delay);
+    same_floats(w, next, behind(lent_delay), &prototype)
+}
+
+fn same_opened(w: &[u32], lent: &[u32], opened: PolyphaseOpening) -> bool {
+    let answer = opened.answer;
+    let state = opened.state;
+    same_state(w, same_opening(w, 0, answer), lent, state) == w.len()
+}
+
+fn from_taps_in(w: &[u32], prototype: &mut [f32]) -> bool {
+    let lent = rest(w, 5);
+    lend_floats(lent, prototype);
+    let step = float(word(w, 4));
+    let opened = PolyphaseResampF32::from_taps(long(w, 0), long(w, 2), prototype, step);
+    same_opened(behind(lent), first(w, 0), opened)
+}
+
+pub fn from_taps(w: &[u32]) -> bool {
+    let mut prototype = no_floats();
+    let n = length(rest(w, 5));
+    from_taps_in(w, front_floats(&mut prototype, n))
+}
+
+pub fn reset(w: &[u32]) -> bool {
+    let opened = state_of(w).reset();
+    same_opened(behind_state(w), w, opened)
+}
+
+// 01's number, the samples taken and the outputs written.
+fn same_moved(w: &[u32], taken: usize, answer: Count) -> usize {
+    match answer {
+        Count::Written(n) => same_long(w, same_long(w, same(w, 0, 0), taken), n),
+        Count::Refused(refusal) => {
+            same_long(w, same_long(w, same_refusal(w, 0, refusal), taken), 0)
+        }
+    }
+}
+
+fn same_block(
+    w: &[u32],
+    lent: &[u32],
+    block: PolyphaseBlock,
+    lent_span: &[u32],
+    span: &[f32],
+) -> bool {
+    let answer = block.answer;
+    let state = block.state;
+    let next = same_floats(w, same_moved(w, block.taken, answer), lent_span, span);
+    same_state(w, next, lent, state) == w.len()
+}
+
+fn process_block_in(w: &[u32], samples: &mut [f32], span: &mut [f32]) -> bool {
+    let lent = behind_state(w);
+    let lent_span = behind(lent);
+    lend_floats(lent, samples);
+    lend_floats(lent_span, span);
+    let block = state_of(w).process_block(samples, span);
+    same_block(behind(lent_span), w, block, lent_span, span)
+}
+
+pub fn process_block(w: &[u32]) -> bool {
+    let mut samples = no_floats();
+    let mut span = no_floats();
+    let lent = behind_state(w);
+    let n = length(lent);
+    let m = length(behind(lent));
+    process_block_in(w, front_floats(&mut samples, n), front_floats(&mut span, m))
+}
+
+fn same_push(
+    w: &[u32],
+    lent: &[u32],
+    push: PolyphasePush,
+    lent_span: &[u32],
+    span: &[f32],
+) -> bool {
+    let answer = push.answer;
+    let state = push.state;
+    let next = same_floats(w, same_count(w, 0, answer), lent_span, span);
+    same_state(w, next, lent, state) == w.len()
+}
+
+fn push_in(w: &[u32], span: &mut [f32]) -> bool {
+    let given = behind_state(w);
+    let lent_span = rest(given, 1);
+    lend_floats(lent_span, span);
+    let push = state_of(w).push(float(word(given, 0)), span);
+    same_push(behind(lent_span), w, push, lent_span, span)
+}
+
+pub fn push(w: &[u32]) -> bool {
+    let mut span = no_floats();
+    let m = length(rest(behind_state(w), 1));
+    push_in(w, front_floats(&mut span, m))
+}
