@@ -66,7 +66,7 @@ fn new_case<const DELAYS: usize, C: Cascade<DELAYS>>(depth: u64) -> (Record, Sta
         },
         _ => State::zeros(),
     };
-    record.word(refusal);
+    record.refusal(refusal);
     state.write_after(&State::zeros(), &mut record);
     (record, state)
 }
@@ -92,7 +92,7 @@ fn block_case<const DELAYS: usize, C: Cascade<DELAYS>>(
         _ => 0,
     };
     record
-        .word(refusal)
+        .refusal(refusal)
         .long(written as u64)
         .left(&lent, &places);
     state.write_after(&before, &mut record);
@@ -108,7 +108,7 @@ fn reset_case<const DELAYS: usize, C: Cascade<DELAYS>>(state: &mut State<DELAYS>
     if refusal == 0 {
         C::reset(state);
     }
-    record.word(refusal);
+    record.refusal(refusal);
     state.write_after(&before, &mut record);
     record
 }

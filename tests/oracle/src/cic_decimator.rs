@@ -121,7 +121,7 @@ fn new_case(rng: &mut Rng) -> Record {
         _ => State::zeros(0, 0),
     };
     let mut record = Record::of(NEW);
-    record.long(stages).long(r).word(refusal);
+    record.long(stages).long(r).refusal(refusal);
     state.write(&mut record);
     record
 }
@@ -156,7 +156,7 @@ fn scaled_case(rng: &mut Rng, state: &mut State) -> Record {
 
 fn write_step(record: &mut Record, refusal: u32, output: Option<i32>, state: &State) {
     record
-        .word(refusal)
+        .refusal(refusal)
         .word(output.is_some().into())
         .number(output.unwrap_or(0));
     state.write(record);
@@ -170,7 +170,7 @@ fn gain_case(state: &State) -> Record {
     };
     let mut record = Record::of(GAIN);
     state.write(&mut record);
-    record.word(refusal).long(value);
+    record.refusal(refusal).long(value);
     record
 }
 
@@ -182,7 +182,7 @@ fn gain_bits_case(state: &State) -> Record {
     };
     let mut record = Record::of(GAIN_BITS);
     state.write(&mut record);
-    record.word(refusal).word(value);
+    record.refusal(refusal).word(value);
     record
 }
 
@@ -201,7 +201,7 @@ fn block_case(state: &mut State, input: &Lent, span: &Lent) -> Record {
         _ => (0, 0),
     };
     record
-        .word(refusal)
+        .refusal(refusal)
         .long(taken)
         .long(written)
         .left(&lent, &places);

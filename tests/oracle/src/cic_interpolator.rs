@@ -90,7 +90,7 @@ fn new_case(rng: &mut Rng) -> Record {
         _ => State::zeros(0, 0),
     };
     let mut record = Record::of(NEW);
-    record.long(stages).long(r).word(refusal);
+    record.long(stages).long(r).refusal(refusal);
     state.write(&mut record);
     record
 }
@@ -109,7 +109,7 @@ fn sample_case(state: &mut State, input: i32, span: &Lent) -> Record {
         }
         _ => 0,
     };
-    record.word(refusal).long(written).left(&lent, &places);
+    record.refusal(refusal).long(written).left(&lent, &places);
     state.write(&mut record);
     record
 }
@@ -122,7 +122,7 @@ fn gain_case(state: &State) -> Record {
     };
     let mut record = Record::of(GAIN);
     state.write(&mut record);
-    record.word(refusal).long(value);
+    record.refusal(refusal).long(value);
     record
 }
 
@@ -134,7 +134,7 @@ fn gain_bits_case(state: &State) -> Record {
     };
     let mut record = Record::of(GAIN_BITS);
     state.write(&mut record);
-    record.word(refusal).word(value);
+    record.refusal(refusal).word(value);
     record
 }
 

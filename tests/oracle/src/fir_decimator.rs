@@ -150,7 +150,7 @@ impl Stream {
             _ => None,
         };
         record
-            .word(refusal)
+            .refusal(refusal)
             .word(output.is_some().into())
             .words(&[output.unwrap_or(ZERO)]);
         self.state.write_after(&before, &mut record);
@@ -165,7 +165,7 @@ impl Stream {
         if refusal == 0 {
             *self = Stream::midway(State::opened(before.own_taps(), before.factor));
         }
-        record.word(refusal);
+        record.refusal(refusal);
         self.state.write_after(&before, &mut record);
         record
     }
@@ -186,7 +186,7 @@ fn new_case(factor: u64, taps: &Lent) -> (Record, State) {
         0 => State::opened(&taps.elements::<q15>(), factor),
         _ => State::zeros(),
     };
-    record.word(refusal);
+    record.refusal(refusal);
     state.write_after(&State::zeros(), &mut record);
     (record, state)
 }

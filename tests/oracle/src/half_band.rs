@@ -73,7 +73,7 @@ fn new_case<const DELAY: usize, F: HalfBand<DELAY>>(taps: &Lent) -> (Record, Sta
         0 => State::opened::<F>(&taps.elements::<f32>()),
         _ => State::zeros(),
     };
-    record.word(refusal);
+    record.refusal(refusal);
     state.write_after(&State::zeros(), &mut record);
     (record, state)
 }
@@ -92,7 +92,7 @@ fn step_case<const DELAY: usize, F: HalfBand<DELAY>>(
         0 => F::step(state, &taken),
         _ => vec![0.0; F::GIVES],
     };
-    record.word(refusal).words(&given);
+    record.refusal(refusal).words(&given);
     state.write_after(&before, &mut record);
     record
 }
@@ -117,7 +117,7 @@ fn block_case<const DELAY: usize, F: HalfBand<DELAY>>(
         _ => 0,
     };
     record
-        .word(refusal)
+        .refusal(refusal)
         .long(written as u64)
         .left(&lent, &places);
     state.write_after(&before, &mut record);
@@ -134,7 +134,7 @@ fn reset_case<const DELAY: usize, F: HalfBand<DELAY>>(state: &mut State<DELAY>) 
         F::reset(state);
         state.coeffs[state.m as usize..].fill(0.0);
     }
-    record.word(refusal);
+    record.refusal(refusal);
     state.write_after(&before, &mut record);
     record
 }

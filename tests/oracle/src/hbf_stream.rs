@@ -114,7 +114,7 @@ fn new_case(depth: u64) -> Record {
         0 => State::zeros(depth),
         _ => State::zeros(0),
     };
-    record.word(refusal);
+    record.refusal(refusal);
     state.write_after(&State::zeros(0), &mut record);
     record
 }
@@ -131,7 +131,7 @@ fn write_sample(
     before.write(&mut record);
     record
         .words(&[sample])
-        .word(refusal)
+        .refusal(refusal)
         .word(output.is_some().into())
         .words(&[output.unwrap_or(0.0)]);
     after.write_after(before, &mut record);
@@ -153,7 +153,7 @@ fn reset_case(before: &State) -> Record {
     let mut record = Record::of(RESET);
     before.write(&mut record);
     let refusal = before.refusal();
-    record.word(refusal);
+    record.refusal(refusal);
     let after = match refusal {
         0 => State::zeros(before.depth),
         _ => before.clone(),

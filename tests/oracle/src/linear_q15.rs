@@ -38,7 +38,7 @@ fn case(ratio: i32, samples: &Lent, span: &Lent) -> Record {
         _ => 0,
     };
     record
-        .word(refusal)
+        .refusal(refusal)
         .long(written as u64)
         .left(&lent, &places);
     record

@@ -75,7 +75,7 @@ impl Block {
             _ => 0,
         };
         record
-            .word(refusal)
+            .refusal(refusal)
             .long(written as u64)
             .left(&lent, &places);
         record

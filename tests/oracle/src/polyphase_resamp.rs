@@ -6,7 +6,7 @@ use crate::record::Record;
 use crate::refusals;
 use crate::rng::Rng;
 use crate::samples;
-use crate::sizes::{PHASES, TAPS, front, with_phases_and_taps};
+use crate::sizes::{RESAMPLERS, front, with_phases_and_taps};
 use embedded_dsp::resampling::PolyphaseResampF32;
 
 const FROM_TAPS: u32 = 0xb1;
@@ -155,7 +155,7 @@ fn from_taps_case(phases: u64, taps: u64, prototype: &Lent, step: f32) -> (Recor
         0 => with_phases_and_taps!(phases, taps, opened(&prototype.elements::<f32>(), step)),
         _ => State::zeros(),
     };
-    record.word(refusal);
+    record.refusal(refusal);
     state.write_after(&State::zeros(), &mut record);
     (record, state)
 }
@@ -178,7 +178,7 @@ fn block_case(state: &mut State, samples: &Lent, span: &Lent) -> Record {
         _ => (0, 0),
     };
     record
-        .word(refusal)
+        .refusal(refusal)
         .long(taken as u64)
         .long(written as u64)
         .left(&lent, &places);
@@ -202,7 +202,7 @@ fn push_case(state: &mut State, sample: f32, span: &Lent) -> Record {
         _ => 0,
     };
     record
-        .word(refusal)
+        .refusal(refusal)
         .long(written as u64)
         .left(&lent, &places);
     state.write_after(&before, &mut record);
@@ -218,16 +218,9 @@ fn reset_case(state: &mut State) -> Record {
         let (phases, taps) = (state.phases, state.taps);
         with_phases_and_taps!(phases, taps, reset(state));
     }
-    record.word(refusal);
+    record.refusal(refusal);
     state.write_after(&before, &mut record);
     record
-}
-
-fn some_sizes(rng: &mut Rng) -> (u64, u64) {
-    match rng.below(2) {
-        0 => (rng.pick(&PHASES), rng.pick(&TAPS)),
-        _ => (rng.within(2, 8), rng.within(1, 4)),
-    }
 }
 
 /// A step from the least positive f32 to the largest.
@@ -271,7 +264,7 @@ fn bad_mu(rng: &mut Rng, step: f32) -> f32 {
 
 /// Valid settings and mu, anything in the delay and the prototype, in the places past T and P × T too.
 fn midway(rng: &mut Rng) -> State {
-    let (phases, taps) = some_sizes(rng);
+    let (phases, taps) = rng.pick(&RESAMPLERS);
     let step = some_step(rng);
     State {
         phases,
@@ -304,7 +297,7 @@ fn damaged(rng: &mut Rng) -> State {
 
 /// One fault, several at once, or none.
 fn some_opening(rng: &mut Rng) -> Record {
-    let (mut phases, mut taps) = some_sizes(rng);
+    let (mut phases, mut taps) = rng.pick(&RESAMPLERS);
     let mut length = phases * taps;
     let mut step = some_step(rng);
     let faults = rng.below(2) * rng.below(16);
@@ -372,7 +365,7 @@ fn any_call(rng: &mut Rng, state: &mut State) -> Record {
 
 /// From an opening: calls of every kind, each on the state that the one before left.
 fn stream(rng: &mut Rng) -> Vec<Record> {
-    let (phases, taps) = some_sizes(rng);
+    let (phases, taps) = rng.pick(&RESAMPLERS);
     let step = some_step(rng);
     let prototype = float_samples::list(rng, phases * taps);
     let (opening, mut state) = from_taps_case(phases, taps, &prototype, step);

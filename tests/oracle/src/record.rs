@@ -5,12 +5,19 @@ use crate::word::Word;
 use std::io::{self, Write};
 
 pub struct Record {
+    pub operation: u32,
+    /// 01's number, 0 for none.
+    pub refusal: u32,
+    pub longest_slice: usize,
     words: Vec<u32>,
 }
 
 impl Record {
     pub fn of(operation: u32) -> Self {
         Record {
+            operation,
+            refusal: 0,
+            longest_slice: 0,
             words: vec![operation],
         }
     }
@@ -18,6 +25,11 @@ impl Record {
     pub fn word(&mut self, x: u32) -> &mut Self {
         self.words.push(x);
         self
+    }
+
+    pub fn refusal(&mut self, number: u32) -> &mut Self {
+        self.refusal = number;
+        self.word(number)
     }
 
     /// A usize or a u64: the low word, then the high one.
@@ -35,6 +47,7 @@ impl Record {
     }
 
     pub fn lent(&mut self, slice: &Lent) -> &mut Self {
+        self.longest_slice = self.longest_slice.max(slice.length);
         self.word(slice.length as u32)
             .word(slice.pattern)
             .word(slice.stride)
@@ -64,6 +77,10 @@ impl Record {
         let changed = |i: &usize| after[*i].word() != before[*i].word();
         let listed = (0..after.len()).rev().find(changed).map_or(0, |i| i + 1);
         self.word(listed as u32).words(&after[..listed])
+    }
+
+    pub fn len(&self) -> usize {
+        self.words.len()
     }
 
     pub fn write(&self, out: &mut impl Write) -> io::Result<()> {

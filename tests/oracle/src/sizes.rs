@@ -38,42 +38,63 @@ macro_rules! with_depth {
 }
 pub(crate) use with_depth;
 
-/// P and T of a resampler. A function for every pair that 01 allows would take minutes to compile; `PHASES` and `TAPS` have the ends and some between.
+/// P and T of a resampler: the ends of both and some between. A function for every pair that 01 allows would take minutes to compile.
+pub const RESAMPLERS: [(u64, u64); 30] = [
+    (2, 1),
+    (2, 2),
+    (2, 3),
+    (2, 16),
+    (3, 1),
+    (3, 2),
+    (3, 4),
+    (3, 15),
+    (4, 1),
+    (4, 2),
+    (4, 3),
+    (4, 8),
+    (5, 1),
+    (5, 3),
+    (5, 5),
+    (7, 2),
+    (7, 4),
+    (8, 1),
+    (8, 4),
+    (8, 12),
+    (16, 6),
+    (31, 3),
+    (32, 16),
+    (33, 2),
+    (63, 1),
+    (63, 15),
+    (63, 16),
+    (64, 1),
+    (64, 15),
+    (64, 16),
+];
+
 macro_rules! with_phases_and_taps {
     ($phases:expr, $taps:expr, $function:ident $arguments:tt) => {
-        crate::sizes::with_phases!([2 3 4 5 6 7 8 16 31 63 64], $phases, $taps, $function $arguments)
+        crate::sizes::with_pair!(
+            ($phases, $taps),
+            [
+                2 1, 2 2, 2 3, 2 16, 3 1, 3 2, 3 4, 3 15, 4 1, 4 2, 4 3, 4 8, 5 1, 5 3, 5 5, 7 2, 7 4, 8 1, 8 4, 8 12,
+                16 6, 31 3, 32 16, 33 2, 63 1, 63 15, 63 16, 64 1, 64 15, 64 16
+            ],
+            $function $arguments
+        )
     };
 }
 pub(crate) use with_phases_and_taps;
 
-pub const PHASES: [u64; 11] = [2, 3, 4, 5, 6, 7, 8, 16, 31, 63, 64];
-pub const TAPS: [u64; 7] = [1, 2, 3, 4, 8, 15, 16];
-
-macro_rules! with_phases {
-    ([$($constant:literal)*], $phases:expr, $taps:expr, $function:ident $arguments:tt) => {
-        match $phases {
-            $($constant => crate::sizes::with_taps!($constant, $taps, $function $arguments),)*
+macro_rules! with_pair {
+    ($pair:expr, [$($phases:literal $taps:literal),*], $function:ident $arguments:tt) => {
+        match $pair {
+            $(($phases, $taps) => $function::<$phases, $taps> $arguments,)*
             _ => unreachable!("the refusals come first"),
         }
     };
 }
-pub(crate) use with_phases;
-
-macro_rules! with_taps {
-    ($phases:literal, $taps:expr, $function:ident $arguments:tt) => {
-        match $taps {
-            1 => $function::<$phases, 1> $arguments,
-            2 => $function::<$phases, 2> $arguments,
-            3 => $function::<$phases, 3> $arguments,
-            4 => $function::<$phases, 4> $arguments,
-            8 => $function::<$phases, 8> $arguments,
-            15 => $function::<$phases, 15> $arguments,
-            16 => $function::<$phases, 16> $arguments,
-            _ => unreachable!("the refusals come first"),
-        }
-    };
-}
-pub(crate) use with_taps;
+pub(crate) use with_pair;
 
 /// The first N places of an array.
 pub fn front<const N: usize, T: Copy>(places: &[T]) -> [T; N] {

@@ -55,7 +55,7 @@ fn length_case(rng: &mut Rng, operation: u32, rust: fn(usize) -> usize) -> Recor
         _ => 0,
     };
     let mut record = Record::of(operation);
-    record.long(depth).word(refusal).long(length as u64);
+    record.long(depth).refusal(refusal).long(length as u64);
     record
 }
 
