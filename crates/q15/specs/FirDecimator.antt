@@ -2,7 +2,7 @@
 -- the next output, T at opening and D after each output; T is at most 64, D may exceed T. In the line no taps means off, and D is not looked at."
 use mathlib.Core.Path.{_≡_}
 use mathlib.Core.Bool.{Bool, true, false, not, _&&_, cond}
-use mathlib.Core.List.{List, [], _++_}
+use mathlib.Core.List.{List, _++_}
 use mathlib.Core.Option.{Option, none, some}
 use Prim.Native.Nat.{ℕ, zero, suc, _-_}
 use lib.Dec.{leb, ltb, eqb}
@@ -136,4 +136,4 @@ pub record Streams (c : List ℤ) (D : ℕ) (s : FirDecimator) : Type 0 where
   -- over any list its outputs are the block's for that list
   pub outputs : (w : List ℤ) → outs steps s w ≡ firWhole c D w
   -- no sample after the opening is refused
-  pub taken : (w : List ℤ) (x : ℤ) → firStep (state steps s w) x .number ≡ 0
+  pub never-refused : (w : List ℤ) (x : ℤ) → firStep (state steps s w) x .number ≡ 0

@@ -2,10 +2,10 @@
 ghost use mathlib.Core.Path.{_≡_};
 ghost use mathlib.Core.Bool.{true};
 ghost use Prim.Native.Nat.{_≤_};
-ghost use lib.ListN.{length, replicate};
+ghost use lib.ListN.{length};
 ghost use Rattle.refusal.specs.Outcome.{openingNumber};
 ghost use Rattle.q15.specs.PolyphaseDecimate.{filtered};
-ghost use Rattle.q15.specs.FirDecimator.{firState, firZeros, stored, moved, firNext, firOut, settingsNumber, badWait, firValid, firStep, padded, fresh, firOpened, firReset, madeValue, outputNumber, outputValue, told, toldOpening, Streams};
+ghost use Rattle.q15.specs.FirDecimator.{mostTaps, firState, firZeros, stored, moved, firNext, firOut, settingsNumber, badWait, firValid, firStep, padded, fresh, firOpened, firReset, madeValue, outputNumber, outputValue, told, toldOpening, Streams};
 use crate::block::MOST_FACTOR;
 use crate::block::outside;
 use crate::fir_sum::fir_sum;
@@ -58,7 +58,7 @@ pub struct FirOpening {
 
 // A lent array's length, which no parameter carries.
 fn array_length(a: [i16; MOST_TAPS])
-    ensures { λ _. ⌜ length a ≡ 64 ⌝ }
+    ensures { λ _. ⌜ length a ≡ mostTaps ⌝ }
 {}
 
 // Puts a sample of the next output's window at its place.
@@ -75,7 +75,7 @@ fn store(delay: &mut [i16; MOST_TAPS], t: usize, wait: usize, x: i16)
 
 // Moves the window down by the factor.
 fn move_down(delay: &mut [i16; MOST_TAPS], t: usize, factor: usize)
-    requires { ⌜ t ≤ 64 ⌝ }
+    requires { ⌜ t ≤ mostTaps ⌝ }
     ensures { λ _. ⌜ now (delay .exit) ≡ moved t factor (now (delay .entry)) ⌝ }
 {
     array_length(*delay);
@@ -88,7 +88,7 @@ fn move_down(delay: &mut [i16; MOST_TAPS], t: usize, factor: usize)
 
 // The output of a whole window.
 fn fir_output(delay: &[i16; MOST_TAPS], taps: &[i16; MOST_TAPS], t: usize) -> Q15
-    requires { ⌜ t ≤ 64 ⌝ }
+    requires { ⌜ t ≤ mostTaps ⌝ }
     ensures { λ r. ⌜ r .0 ≡ filtered (now (taps .entry)) t (now (delay .entry)) 0 ⌝ }
 {
     array_length(*delay);
@@ -196,7 +196,7 @@ fn zeros() -> FirDecimator
 
 // The taps, and zeros behind them.
 fn pad(taps: &[i16]) -> [i16; MOST_TAPS]
-    requires { ⌜ length (now taps) ≤ 64 ⌝ }
+    requires { ⌜ length (now taps) ≤ mostTaps ⌝ }
     ensures { λ r. ⌜ r ≡ padded (now (taps .entry)) ⌝ }
 {
     let mut a: [i16; MOST_TAPS] = [0; MOST_TAPS];
@@ -210,7 +210,7 @@ fn pad(taps: &[i16]) -> [i16; MOST_TAPS]
 
 // A decimator before its first sample.
 fn fresh_state(taps: &[i16], factor: usize) -> FirDecimator
-    requires { ⌜ length (now taps) ≤ 64 ⌝ }
+    requires { ⌜ length (now taps) ≤ mostTaps ⌝ }
     ensures { λ r. ⌜ r ≡ fresh (now (taps .entry)) factor ⌝ }
 {
     let t = taps.len();

@@ -1,7 +1,6 @@
 -- `resample_linear::next_index` meets its contract: its test is that of `nextIndex`.
 use mathlib.Core.Path.{refl}
 use Prim.Native.Nat.{_+_}
-use native.Mathlib.Omega.{arith}
 use borrow.Author.Needs.{needs}
 use borrow.Author.Tests.{lt-ltb, le-ltb}
 use Rattle.q15.proofs.resample_linear.next_index.Statement.{statement}
