@@ -1,8 +1,8 @@
 -- An opening that is not refused is good for every stream: its state is valid and makes section 3 of any list; a refused one is all zeros.
-use mathlib.Core.Path.{_≡_, refl, sym, ap, _∙_, subst}
-use mathlib.Core.Bool.{Bool, true}
+use mathlib.Core.Path.{_≡_, refl, sym, ap, _∙_}
+use mathlib.Core.Bool.{true}
 use mathlib.Core.List.{List}
-use Prim.Native.Nat.{ℕ, suc, pred, _≤_}
+use Prim.Native.Nat.{ℕ, _≤_}
 use native.Mathlib.Decide.{decLe}
 use native.Mathlib.Omega.{arith}
 use borrow.Author.Tests.{eq-eqb, ne-eqb}
@@ -34,7 +34,7 @@ module _ (c : List ℤ) (D : ℕ) where
   pub fresh-streams : settingsNumber (length c) D ≡ 0 → Streams c D (fresh c D)
   fresh-streams e =
       let v = fresh-valid e in
-      record { outputs = λ w. outs-steps (fresh c D) w v ∙ fresh-streamed c D e w; taken = never-refused (fresh c D) v }
+      record { outputs = λ w. outs-steps (fresh c D) w v ∙ fresh-streamed c D e w; never-refused = never-refused (fresh c D) v }
 
   -- the two ways of an opening
   pub opening-refused :

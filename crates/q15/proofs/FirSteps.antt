@@ -1,15 +1,15 @@
 -- One sample of the streaming FIR: the four ways it goes, and that a valid state stays valid, so that no sample after an opening is refused.
-use mathlib.Core.Path.{_≡_, refl, sym, ap, _∙_}
+use mathlib.Core.Path.{_≡_, refl, ap, _∙_}
 use mathlib.Core.Bool.{Bool, true, false, not, _&&_, cond, true≢false, false≢true}
 use mathlib.Core.List.{List, [], _∷_}
-use mathlib.Core.Option.{Option, none, some}
-use Prim.Native.Nat.{ℕ, suc, _-_, _≤_, _<_, max}
+use mathlib.Core.Option.{none, some}
+use Prim.Native.Nat.{ℕ, _-_, _≤_, _<_, max}
 use native.Mathlib.Decide.{decLe}
 use native.Mathlib.Omega.{arith}
-use borrow.Author.Tests.{eq-eqb, ne-eqb, eqb-true, eqb-false, lt-ltb, le-ltb, ltb-true, ltb-false, le-leb, lt-leb, leb-true, leb-false, not-true, not-false}
+use borrow.Author.Tests.{eq-eqb, ne-eqb, eqb-true, eqb-false, lt-ltb, le-ltb, ltb-false, le-leb, lt-leb, leb-false, not-true}
 use lib.Dec.{leb, ltb, eqb}
 use lib.IntN.{ℤ}
-use Rattle.theory.specs.Sections.{Section, onto, outs, state}
+use Rattle.theory.specs.Sections.{onto, outs, state}
 use Rattle.theory.proofs.Sections.{state-keeps}
 use Rattle.q15.specs.Block.{mostFactor, outsideOf}
 use Rattle.q15.specs.PolyphaseDecimate.{filtered}

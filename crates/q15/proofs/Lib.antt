@@ -1,9 +1,9 @@
-pub mod Sums
-pub mod Filling
-pub mod Rows
-pub mod Counts
-pub mod Between
-pub mod Windows
+mod Sums
+mod Filling
+mod Rows
+mod Counts
+mod Between
+mod Windows
 pub mod FirSteps
 pub mod FirStream
 pub mod FirOpening

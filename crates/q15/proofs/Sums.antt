@@ -1,7 +1,6 @@
 -- A running sum of floored products, once for every loop that adds them: so many are summed, each from -32767 to 32768, so that the sum, or the sum
 -- negated, fits its accumulator.
 use mathlib.Core.Path.{_≡_, refl, sym, ap, _∙_}
-use mathlib.Core.List.{List}
 use Prim.Native.Nat.{ℕ, zero, suc, _+_, _*_, _^_, _≤_, _<_}
 use native.Mathlib.Nat.{mul-le-mul}
 use native.Mathlib.Numerals.{add-one}
@@ -12,8 +11,8 @@ use lib.Pow.{pow-pos}
 use mir.Syntax.{Width, w16}
 use mir.Val.{SFits, hbits}
 use Rattle.theory.proofs.Integers.{up, dn, ints, fits-of, fits-is, add-is, sub-is-ℤ, neg-is, mul-within, floor}
-use Rattle.q15.specs.Fixed.{flooredProduct, at}
-use Rattle.q15.specs.FirSum.{sum, firSum}
+use Rattle.q15.specs.Fixed.{flooredProduct}
+use Rattle.q15.specs.FirSum.{sum}
 
 -- the size of a number from its two sides
 pub both : (B : ℕ) (z : ℤ) → (up z ≤ B + dn z) × (dn z ≤ B + up z) → (up z ≤ B) × (dn z ≤ B)

@@ -2,7 +2,7 @@
 -- the next output, T at opening and D after each output; T is at most 64, D may exceed T. In the line no taps means off, and D is not looked at."
 use mathlib.Core.Path.{_≡_}
 use mathlib.Core.Bool.{Bool, true, false, not, _&&_, cond}
-use mathlib.Core.List.{List, [], _++_}
+use mathlib.Core.List.{List, _++_}
 use mathlib.Core.Option.{Option, none, some}
 use Prim.Native.Nat.{ℕ, zero, suc, _-_}
 use lib.Dec.{leb, ltb, eqb}
@@ -33,7 +33,7 @@ firState c T D d w = record { taps = c; «tap_count» = T; factor = D; delay = d
 abbrev pub firZeros : FirDecimator
 firZeros = firState (replicate mostTaps (pos 0)) 0 0 (replicate mostTaps (pos 0)) 0
 
--- what each sample does: a sample that belongs to the window of the next output takes its place in the delay
+-- a sample that belongs to the window of the next output takes its place in the delay
 unfoldable pub stored : ℕ → ℕ → ℤ → List ℤ → List ℤ
 stored T w x d = cond (leb w T) (set d (T - w) x) d
 
@@ -133,7 +133,7 @@ firWhole c D w = cond (eqb (length c) 0) w (decimated c D w)
 
 -- what a state is good for that an opening of the taps c and the factor D did not refuse
 pub record Streams (c : List ℤ) (D : ℕ) (s : FirDecimator) : Type 0 where
-  -- over any list its outputs are the block's for that list
+  -- over any list, so after every sample, its outputs are the block's for the list so far: output i comes with sample iD+T−1
   pub outputs : (w : List ℤ) → outs steps s w ≡ firWhole c D w
   -- no sample after the opening is refused
-  pub taken : (w : List ℤ) (x : ℤ) → firStep (state steps s w) x .number ≡ 0
+  pub never-refused : (w : List ℤ) (x : ℤ) → firStep (state steps s w) x .number ≡ 0

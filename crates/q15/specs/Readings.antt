@@ -1,6 +1,6 @@
 -- 01, "Gauge-board readings": the starred ones of the Q15 parts, as one list that the definitions satisfy.
 use mathlib.Core.Path.{_≡_}
-use mathlib.Core.List.{List, [], _∷_}
+use mathlib.Core.List.{[], _∷_}
 use lib.IntN.{ℤ, pos, negsuc}
 use lib.ListN.{length}
 use Rattle.q15.specs.PolyphaseDecimate.{decimated}

@@ -9,7 +9,7 @@ pub const MOST_FACTOR: usize = 4096;
 pub const MOST_BLOCK: usize = 65536;
 
 // What the table's rows say of a block: none applies, or the first that does.
-pub enum Rows {
+pub(crate) enum Rows {
     Passed,
     Refused(Refusal),
 }

@@ -2,10 +2,10 @@
 ghost use mathlib.Core.Path.{_≡_};
 ghost use mathlib.Core.Bool.{true};
 ghost use Prim.Native.Nat.{_≤_};
-ghost use lib.ListN.{length, replicate};
+ghost use lib.ListN.{length};
 ghost use Rattle.refusal.specs.Outcome.{openingNumber};
 ghost use Rattle.q15.specs.PolyphaseDecimate.{filtered};
-ghost use Rattle.q15.specs.FirDecimator.{firState, firZeros, stored, moved, firNext, firOut, settingsNumber, badWait, firValid, firStep, padded, fresh, firOpened, firReset, madeValue, outputNumber, outputValue, told, toldOpening, Streams};
+ghost use Rattle.q15.specs.FirDecimator.{mostTaps, firState, firZeros, stored, moved, firNext, firOut, settingsNumber, badWait, firValid, firStep, padded, fresh, firOpened, firReset, madeValue, outputNumber, outputValue, told, toldOpening, Streams};
 use crate::block::MOST_FACTOR;
 use crate::block::outside;
 use crate::fir_sum::fir_sum;
@@ -46,11 +46,13 @@ pub enum FirOutput {
     Refused(Refusal),
 }
 
+// One sample's answer, and the next state.
 pub struct FirStep {
     pub output: FirOutput,
     pub state: FirDecimator,
 }
 
+// An opening's answer, and the state.
 pub struct FirOpening {
     pub answer: Opening,
     pub state: FirDecimator,
@@ -58,7 +60,7 @@ pub struct FirOpening {
 
 // A lent array's length, which no parameter carries.
 fn array_length(a: [i16; MOST_TAPS])
-    ensures { λ _. ⌜ length a ≡ 64 ⌝ }
+    ensures { λ _. ⌜ length a ≡ mostTaps ⌝ }
 {}
 
 // Puts a sample of the next output's window at its place.
@@ -75,7 +77,7 @@ fn store(delay: &mut [i16; MOST_TAPS], t: usize, wait: usize, x: i16)
 
 // Moves the window down by the factor.
 fn move_down(delay: &mut [i16; MOST_TAPS], t: usize, factor: usize)
-    requires { ⌜ t ≤ 64 ⌝ }
+    requires { ⌜ t ≤ mostTaps ⌝ }
     ensures { λ _. ⌜ now (delay .exit) ≡ moved t factor (now (delay .entry)) ⌝ }
 {
     array_length(*delay);
@@ -88,7 +90,7 @@ fn move_down(delay: &mut [i16; MOST_TAPS], t: usize, factor: usize)
 
 // The output of a whole window.
 fn fir_output(delay: &[i16; MOST_TAPS], taps: &[i16; MOST_TAPS], t: usize) -> Q15
-    requires { ⌜ t ≤ 64 ⌝ }
+    requires { ⌜ t ≤ mostTaps ⌝ }
     ensures { λ r. ⌜ r .0 ≡ filtered (now (taps .entry)) t (now (delay .entry)) 0 ⌝ }
 {
     array_length(*delay);
@@ -112,13 +114,14 @@ pub fn fir_at(
     if t == 0 {
         return FirAt {
             made: FirMade::Value(sample),
-            wait: wait,
+            wait,
         };
     }
+    // No state that an opening takes: there is no window.
     if MOST_TAPS < t {
         return FirAt {
             made: FirMade::Nothing,
-            wait: wait,
+            wait,
         };
     }
     store(delay, t, wait, sample.0);
@@ -186,17 +189,17 @@ fn zeros() -> FirDecimator
     let taps: [i16; MOST_TAPS] = [0; MOST_TAPS];
     let delay: [i16; MOST_TAPS] = [0; MOST_TAPS];
     FirDecimator {
-        taps: taps,
+        taps,
         tap_count: 0,
         factor: 0,
-        delay: delay,
+        delay,
         wait: 0,
     }
 }
 
 // The taps, and zeros behind them.
 fn pad(taps: &[i16]) -> [i16; MOST_TAPS]
-    requires { ⌜ length (now taps) ≤ 64 ⌝ }
+    requires { ⌜ length (now taps) ≤ mostTaps ⌝ }
     ensures { λ r. ⌜ r ≡ padded (now (taps .entry)) ⌝ }
 {
     let mut a: [i16; MOST_TAPS] = [0; MOST_TAPS];
@@ -210,7 +213,7 @@ fn pad(taps: &[i16]) -> [i16; MOST_TAPS]
 
 // A decimator before its first sample.
 fn fresh_state(taps: &[i16], factor: usize) -> FirDecimator
-    requires { ⌜ length (now taps) ≤ 64 ⌝ }
+    requires { ⌜ length (now taps) ≤ mostTaps ⌝ }
     ensures { λ r. ⌜ r ≡ fresh (now (taps .entry)) factor ⌝ }
 {
     let t = taps.len();
@@ -222,12 +225,13 @@ fn fresh_state(taps: &[i16], factor: usize) -> FirDecimator
     FirDecimator {
         taps: a,
         tap_count: t,
-        factor: factor,
-        delay: delay,
+        factor,
+        delay,
         wait: t,
     }
 }
 
+// What comes of a sample, not turned back.
 fn output_of(made: FirMade) -> FirOutput
     ensures { λ r. ⌜ (outputNumber r ≡ 0) × (outputValue r ≡ madeValue made) ⌝ }
 {
@@ -238,7 +242,7 @@ fn output_of(made: FirMade) -> FirOutput
 }
 
 impl FirDecimator {
-    // No taps: off, whatever the factor. Refusals 5, 6. What an opening that is not refused promises of every stream stands in `stream`.
+    // No taps: off, whatever the factor. Refusals 5, 6. `stream` says what an opening that is not refused is good for.
     pub fn new(taps: &[i16], factor: usize) -> FirOpening
         ensures answer { λ r. ⌜ toldOpening r ≡ firOpened (now (taps .entry)) factor ⌝ }
         ensures stream { λ r. ⌜ (openingNumber (r .answer) ≡ 0 → Streams (now (taps .entry)) factor (r .state)) ⌝ }
@@ -250,14 +254,14 @@ impl FirDecimator {
                 let state = zeros();
                 FirOpening {
                     answer: Opening::Refused(q),
-                    state: state,
+                    state,
                 }
             }
             Opening::Opened => {
                 let state = fresh_state(taps, factor);
                 FirOpening {
                     answer: Opening::Opened,
-                    state: state,
+                    state,
                 }
             }
         }
@@ -296,13 +300,13 @@ impl FirDecimator {
         }
         let taps = self.taps;
         let mut delay = self.delay;
-        let at = fir_at(&mut delay, &taps, t, factor, wait, sample);
-        let made = at.made;
+        let next = fir_at(&mut delay, &taps, t, factor, wait, sample);
+        let made = next.made;
         let output = output_of(made);
         self.delay = delay;
-        self.wait = at.wait;
+        self.wait = next.wait;
         FirStep {
-            output: output,
+            output,
             state: self,
         }
     }

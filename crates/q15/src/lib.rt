@@ -7,12 +7,15 @@ pub mod polyphase_decimate;
 pub mod polyphase_interpolate;
 pub mod resample_linear;
 
+pub use crate::block::MOST_BLOCK;
+pub use crate::block::MOST_FACTOR;
 pub use crate::fir_decimator::FirAt;
 pub use crate::fir_decimator::FirDecimator;
 pub use crate::fir_decimator::FirMade;
 pub use crate::fir_decimator::FirOpening;
 pub use crate::fir_decimator::FirOutput;
 pub use crate::fir_decimator::FirStep;
+pub use crate::fir_decimator::MOST_TAPS;
 pub use crate::fir_decimator::fir_at;
 pub use crate::fir_decimator::fir_valid;
 pub use crate::fixed::Q15;

@@ -5,6 +5,7 @@ ghost use Prim.Native.Nat.{ℕ, _+_, _*_, _≤_, _<_, min};
 ghost use lib.ListN.{length, drop};
 ghost use Rattle.refusal.specs.Outcome.{countAnswer};
 ghost use Rattle.theory.specs.Lists.{listed};
+ghost use Rattle.q15.specs.Block.{mostBlock};
 ghost use Rattle.q15.specs.PolyphaseDecimate.{filtered, decimatedCount, decimateAnswer, decimateSpan};
 use crate::block::Rows;
 use crate::block::block_rows;
@@ -29,7 +30,7 @@ fn decimated_count(n: usize, t: usize, d: usize, m: usize) -> usize
 
 // So many outputs from the front of the span.
 fn decimate(src: &[i16], coeffs: &[i16], d: usize, count: usize, dst: &mut [i16])
-    requires { ⌜ (count ≤ length (now dst)) × (length (now coeffs) ≤ 65536) × (length (now src) ≤ 65536) × ((i : ℕ) → i < count → i * d + length (now coeffs) ≤ length (now src)) ⌝ }
+    requires { ⌜ (count ≤ length (now dst)) × (length (now coeffs) ≤ mostBlock) × (length (now src) ≤ mostBlock) × ((i : ℕ) → i < count → i * d + length (now coeffs) ≤ length (now src)) ⌝ }
     ensures { λ _. ⌜ now (dst .exit) ≡ listed count (λ i. filtered (now (coeffs .entry)) (length (now (coeffs .entry))) (now (src .entry)) (i * d)) ++ drop count (now (dst .entry)) ⌝ }
 {
     let t = coeffs.len();

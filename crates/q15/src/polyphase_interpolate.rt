@@ -7,7 +7,7 @@ ghost use lib.ListN.{length, drop};
 ghost use Rattle.refusal.specs.Outcome.{countAnswer};
 ghost use Rattle.theory.specs.Lists.{listed};
 ghost use Rattle.theory.proofs.Integers.{up, dn};
-ghost use Rattle.q15.specs.Block.{rowsNumber};
+ghost use Rattle.q15.specs.Block.{mostFactor, mostBlock, rowsNumber};
 ghost use Rattle.q15.specs.PolyphaseInterpolate.{phaseOutput, interpolatedCount, interpolateNumber, interpolateAnswer, interpolateSpan};
 use crate::block::Rows;
 use crate::block::block_rows;
@@ -35,7 +35,7 @@ fn interpolate_rows(l: usize, t: usize, n: usize, m: usize) -> Rows
 
 // How many outputs n samples, k taps to a phase and factor l make, in a span of m places.
 fn interpolated_count(n: usize, k: usize, l: usize, m: usize) -> usize
-    requires { ⌜ (n ≤ 65536) × (l ≤ 4096) ⌝ }
+    requires { ⌜ (n ≤ mostBlock) × (l ≤ mostFactor) ⌝ }
     ensures { λ r. ⌜ r ≡ min m (interpolatedCount k l n) ⌝ }
 {
     if n < k {
@@ -50,7 +50,7 @@ fn interpolated_count(n: usize, k: usize, l: usize, m: usize) -> usize
 
 // L times a sum.
 fn times(l: usize, sum: i64) -> i64
-    requires { ⌜ (l ≤ 4096) × (up sum ≤ 2 ^ 31 + dn sum) × (dn sum ≤ 2 ^ 31 + up sum) ⌝ }
+    requires { ⌜ (l ≤ mostFactor) × (up sum ≤ 2 ^ 31 + dn sum) × (dn sum ≤ 2 ^ 31 + up sum) ⌝ }
     ensures { λ r. ⌜ r ≡ pos l *ℤ sum ⌝ }
 {
     (l as i64) * sum
@@ -63,7 +63,7 @@ struct Place {
 }
 
 fn next_place(i: usize, p: usize, l: usize) -> Place
-    requires { ⌜ (p < l) × (i < 65536) ⌝ }
+    requires { ⌜ (p < l) × (i < mostBlock) ⌝ }
     ensures { λ r. ⌜ (r .sample * l + r .phase ≡ i * l + p + 1) × (r .phase < l) ⌝ }
 {
     if p + 1 == l {
@@ -80,7 +80,7 @@ fn next_place(i: usize, p: usize, l: usize) -> Place
 
 // So many outputs from the front of the span.
 fn interpolate(src: &[i16], coeffs: &[i16], l: usize, k: usize, count: usize, dst: &mut [i16])
-    requires { ⌜ (count ≤ length (now dst)) × (0 < l) × (l ≤ 4096) × (k * l ≤ length (now coeffs)) × (0 < k) × (k ≤ 65536) × (length (now src) ≤ 65536) × ((i p : ℕ) → i * l + p < count → i + k ≤ length (now src)) ⌝ }
+    requires { ⌜ (count ≤ length (now dst)) × (0 < l) × (l ≤ mostFactor) × (k * l ≤ length (now coeffs)) × (0 < k) × (k ≤ mostBlock) × (length (now src) ≤ mostBlock) × ((i p : ℕ) → i * l + p < count → i + k ≤ length (now src)) ⌝ }
     ensures { λ _. ⌜ now (dst .exit) ≡ listed count (λ j. phaseOutput (now (coeffs .entry)) l k (now (src .entry)) (j / l) (j % l)) ++ drop count (now (dst .entry)) ⌝ }
 {
     let mut j = 0;

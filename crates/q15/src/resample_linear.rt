@@ -6,7 +6,7 @@ ghost use lib.ListN.{length, drop};
 ghost use Rattle.refusal.specs.Outcome.{countAnswer};
 ghost use Rattle.theory.specs.Lists.{listed};
 ghost use Rattle.theory.proofs.Integers.{up, dn};
-ghost use Rattle.q15.specs.Block.{rowsNumber};
+ghost use Rattle.q15.specs.Block.{mostBlock, rowsNumber};
 ghost use Rattle.q15.specs.ResampleLinear.{partOf, between, nextIndex, linearAt, linearNumber, linearAnswer, linearSpan};
 use crate::block::Rows;
 use crate::block::samples_row;
@@ -59,7 +59,7 @@ fn between_samples(a: i16, b: i16, frac: usize) -> Q15
 
 // The index of the sample after i, or i at the last.
 fn next_index(n: usize, i: usize) -> usize
-    requires { ⌜ (i < n) × (n ≤ 65536) ⌝ }
+    requires { ⌜ (i < n) × (n ≤ mostBlock) ⌝ }
     ensures { λ r. ⌜ (r ≡ nextIndex n i) × (r < n) ⌝ }
 {
     if i + 1 < n {
@@ -70,7 +70,7 @@ fn next_index(n: usize, i: usize) -> usize
 
 // The value at a position in 65536ths of a sample.
 fn linear_at(src: &[i16], position: usize) -> Q15
-    requires { ⌜ (0 < length (now src)) × (length (now src) ≤ 65536) ⌝ }
+    requires { ⌜ (0 < length (now src)) × (length (now src) ≤ mostBlock) ⌝ }
     ensures { λ r. ⌜ r .0 ≡ linearAt (now (src .entry)) position ⌝ }
 {
     let n = src.len();
@@ -84,7 +84,7 @@ fn linear_at(src: &[i16], position: usize) -> Q15
 
 // The whole span.
 fn resample(src: &[i16], ratio: usize, dst: &mut [i16])
-    requires { ⌜ (0 < length (now src)) × (length (now src) ≤ 65536) × (ratio < 2 ^ 31) × (length (now dst) ≤ 65536) ⌝ }
+    requires { ⌜ (0 < length (now src)) × (length (now src) ≤ mostBlock) × (ratio < 2 ^ 31) × (length (now dst) ≤ mostBlock) ⌝ }
     ensures { λ _. ⌜ now (dst .exit) ≡ listed (length (now (dst .entry))) (λ i. linearAt (now (src .entry)) (i * ratio)) ++ drop (length (now (dst .entry))) (now (dst .entry)) ⌝ }
 {
     let m = dst.len();

@@ -1,5 +1,5 @@
 -- `fir_decimator::fir_output` meets its contract: the window begins at the delay's front.
-use mathlib.Core.Path.{_≡_, ap, _∙_}
+use mathlib.Core.Path.{ap, _∙_}
 use native.Mathlib.Omega.{arith}
 use mir.Syntax.{w16, w64}
 use mir.Facts.{toZ-ofZ}

@@ -1,5 +1,5 @@
 -- `fir_decimator::fir_valid` meets its contract: its tests are those of `firValid`, and settings that are refused have a number other than 0.
-use mathlib.Core.Path.{_≡_, sym, ap, _∙_}
+use mathlib.Core.Path.{sym, ap, _∙_}
 use mathlib.Core.Bool.{not}
 use borrow.Author.Needs.{needs}
 use borrow.Author.Tests.{eq-eqb, ne-eqb}

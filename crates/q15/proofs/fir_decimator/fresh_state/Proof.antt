@@ -1,5 +1,5 @@
 -- `fir_decimator::fresh_state` meets its contract: its test is that of `fresh`.
-use mathlib.Core.Path.{_≡_, ap}
+use mathlib.Core.Path.{ap}
 use mathlib.Core.List.{List}
 use borrow.Author.Tests.{eq-eqb, ne-eqb}
 use lib.IntN.{ℤ, pos}

@@ -1,5 +1,5 @@
 -- `fir_decimator::pad` meets its contract: the invariant says that i taps stand in front of the zeros.
-use mathlib.Core.Path.{_≡_, ap, _∙_}
+use mathlib.Core.Path.{ap, _∙_}
 use mathlib.Core.List.{List, _++_}
 use Prim.Native.Nat.{_-_}
 use native.Mathlib.Omega.{arith}

@@ -1,5 +1,5 @@
 -- `fir_decimator::settings_answer` meets its contract: its tests are those of `settingsNumber`, one after the other.
-use mathlib.Core.Path.{_≡_, sym, _∙_}
+use mathlib.Core.Path.{sym, _∙_}
 use borrow.Author.Tests.{eq-eqb, ne-eqb, lt-ltb, le-ltb}
 use Rattle.q15.specs.FirDecimator.{mostTaps, settingsNumber}
 use Rattle.q15.proofs.fir_decimator.settings_answer.Statement.{statement}

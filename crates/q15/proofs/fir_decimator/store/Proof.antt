@@ -1,5 +1,5 @@
 -- `fir_decimator::store` meets its contract: its first test is that of `stored`, and a place past the array stores nothing.
-use mathlib.Core.Path.{_≡_, sym}
+use mathlib.Core.Path.{sym}
 use Prim.Native.Nat.{_-_}
 use native.Mathlib.Omega.{arith}
 use borrow.Author.Needs.{needs}

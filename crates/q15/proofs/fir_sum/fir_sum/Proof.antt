@@ -4,7 +4,7 @@ use mathlib.Core.List.{List}
 use Prim.Native.Nat.{ℕ, _+_, _-_, _≤_}
 use native.Mathlib.Omega.{arith}
 use borrow.Author.Needs.{needs}
-use lib.IntN.{ℤ, pos, _-ℤ_, negℤ}
+use lib.IntN.{ℤ, _-ℤ_, negℤ}
 use mir.Syntax.{w16, w32, w64}
 use mir.Val.{SFits, toZ, ofZ}
 use mir.Facts.{toZ-ofZ}

@@ -1,9 +1,8 @@
 -- `polyphase_decimate::decimate` meets its contract: the invariant says that i outputs stand in front of the span.
 use mathlib.Core.Path.{_≡_, ap, _∙_}
-use Prim.Native.Nat.{ℕ, _+_, _*_, _-_, _≤_}
+use Prim.Native.Nat.{_+_, _*_, _-_, _≤_}
 use native.Mathlib.Omega.{arith}
 use borrow.Author.Needs.{needs}
-use lib.IntN.{ℤ}
 use lib.ListN.{length}
 use mir.Syntax.{w16, w64}
 use mir.Val.{toZ, ofZ}

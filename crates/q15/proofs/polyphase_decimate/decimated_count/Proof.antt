@@ -1,6 +1,5 @@
 -- `polyphase_decimate::decimated_count` meets its contract: its tests are those of `decimatedCount` and of the smaller of two numbers.
-use mathlib.Core.Path.{_≡_}
-use Prim.Native.Nat.{_+_, _-_, _/_}
+use Prim.Native.Nat.{_-_}
 use native.Mathlib.Nat.{div-le-self}
 use native.Mathlib.Omega.{arith}
 use borrow.Author.Needs.{needs}

@@ -1,5 +1,5 @@
 -- `resample_linear::linear_at` meets its contract: its test is that of `linearAt`, and both samples are inside.
-use mathlib.Core.Path.{_≡_, sym, ap, _∙_}
+use mathlib.Core.Path.{ap, _∙_}
 use Prim.Native.Nat.{ℕ, _-_, _/_, _%_}
 use native.Mathlib.Omega.{arith}
 use borrow.Author.Needs.{needs}
@@ -8,7 +8,7 @@ use lib.ListN.{length}
 use mir.Syntax.{w16}
 use mir.Facts.{toZ-ofZ}
 use Rattle.q15.specs.Fixed.{at}
-use Rattle.q15.specs.ResampleLinear.{between, nextIndex, linearAt}
+use Rattle.q15.specs.ResampleLinear.{between, linearAt}
 use Rattle.q15.proofs.resample_linear.linear_at.Statement.{statement}
 use Rattle.q15.proofs.resample_linear.linear_at.Tie as tie
 
