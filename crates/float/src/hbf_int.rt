@@ -11,6 +11,7 @@ use crate::half_band::take_sample;
 use crate::limits::MOST_HALF_BAND_TAPS;
 use crate::limits::lengths_refused;
 use crate::limits::outside;
+use crate::limits::pairs_in;
 use crate::limits::smaller;
 use refusal::Count;
 use refusal::Opening;
@@ -111,7 +112,7 @@ impl HbfInt {
                 state: self,
             };
         }
-        let n = smaller(src.len(), dst.len() / 2);
+        let n = smaller(src.len(), pairs_in(dst.len()));
         let coeffs = self.coeffs;
         let mut delay = self.delay;
         interpolate(
