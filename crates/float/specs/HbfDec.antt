@@ -35,7 +35,6 @@ unfoldable pub decOut : HbfDec → Float → Float → Float
 decOut d a b = decValue (decTaps d) (slid (decWindow d) (a ∷ b ∷ []))
 
 unfoldable pub hbfDec : Section HbfDec (Float × Float) Float
-unfolding decNext decOut
 hbfDec = record { next = λ d p. decNext d (p .0) (p .1); out = λ d p. some (decOut d (p .0) (p .1)) }
 
 -- all zeros, and an opening with the taps c

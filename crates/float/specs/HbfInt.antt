@@ -35,7 +35,6 @@ unfoldable pub intOut : HbfInt → Float → Float × Float
 intOut d x = intValue (intTaps d) (slid (intWindow d) (x ∷ []))
 
 unfoldable pub hbfInt : Section HbfInt Float (Float × Float)
-unfolding intNext intOut
 hbfInt = record { next = intNext; out = λ d x. some (intOut d x) }
 
 -- all zeros, and an opening with the taps c

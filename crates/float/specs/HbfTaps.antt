@@ -77,10 +77,8 @@ pub record PlaceOf (t : Table) (k first count : ℕ) : Type 0 where
 
 -- "`HbfDecCascade` of depth d runs the first d of M = 3, 4, 5, 10, 23"
 unfoldable pub decimation : Table
-unfolding hbfTaps
 decimation = record { taps = hbfTaps; starts = 42 ∷ 38 ∷ 33 ∷ 23 ∷ 0 ∷ []; lengths = 3 ∷ 4 ∷ 5 ∷ 10 ∷ 23 ∷ [] }
 
 -- "`HbfIntCascade` runs M = 23, 10, 5, 4, 3"
 unfoldable pub interpolation : Table
-unfolding hbfTaps
 interpolation = record { taps = hbfTaps; starts = 0 ∷ 23 ∷ 33 ∷ 38 ∷ 42 ∷ []; lengths = 23 ∷ 10 ∷ 5 ∷ 4 ∷ 3 ∷ [] }

@@ -1,6 +1,5 @@
 // 01, section 7: the half-band interpolator, an even and an odd output of each sample.
 ghost use mathlib.Core.Path.{_≡_};
-ghost use mathlib.Core.List.{_++_};
 ghost use lib.ListN.{length};
 ghost use Rattle.refusal.specs.Outcome.{openingNumber};
 ghost use Rattle.float.specs.Answers.{toldOpening, toldCount};

@@ -1,6 +1,6 @@
 // 01, section 4, in the line: the half-band cascade fed sample by sample. A stage holds an odd sample until its partner comes.
 ghost use mathlib.Core.Path.{_≡_};
-ghost use Prim.Native.Nat.{_*_, _≤_, _<_};
+ghost use Prim.Native.Nat.{_*_, _<_};
 ghost use mathlib.Core.List.{[], _∷_};
 ghost use lib.ListN.{length, take, drop};
 ghost use Rattle.refusal.specs.Outcome.{openingNumber};

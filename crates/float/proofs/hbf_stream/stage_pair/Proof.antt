@@ -1,7 +1,7 @@
 -- `float::hbf_stream::stage_pair` meets its contract: the parts lent are the window and the taps of stage k.
 use mathlib.Core.Path.{_≡_, ap, _∙_}
 use mathlib.Core.List.{List, [], _∷_}
-use Prim.Native.Nat.{ℕ, _+_, _*_, _-_, _≤_, _<_}
+use Prim.Native.Nat.{ℕ, _+_, _*_, _-_}
 use lib.ListN.{length, take, drop}
 use lib.Ieee.{Float}
 use denote.Ref.{now}

@@ -1,7 +1,6 @@
 -- `float::hbf_taps::decimation_stage` meets its contract: the constants are the table's.
 use mathlib.Core.Path.{refl}
 use Rattle.float.specs.HbfTaps.{decimation}
-use native.Mathlib.Omega.{arith}
 use borrow.Author.Needs.{needs}
 use Rattle.float.proofs.hbf_taps.decimation_stage.Statement.{statement}
 use Rattle.float.proofs.hbf_taps.decimation_stage.Tie as tie

@@ -1,7 +1,7 @@
 -- `float::hbf_dec::HbfDec::process` meets its contract: the tests are those of the definition, and past them the leaf runs the pairs.
 use mathlib.Core.Path.{_≡_, sym, ap, _∙_}
 use mathlib.Core.Bool.{false}
-use Prim.Native.Nat.{ℕ, _/_, min}
+use Prim.Native.Nat.{_/_, min}
 use lib.ListN.{length}
 use denote.Ref.{now}
 use Rattle.float.specs.Limits.{lengthsRefused}

@@ -2,7 +2,7 @@
 use mathlib.Core.Path.{_≡_, sym, ap, _∙_}
 use mathlib.Core.Bool.{false}
 use mathlib.Core.List.{List, _++_}
-use Prim.Native.Nat.{ℕ, _*_, _/_, _≤_, min}
+use Prim.Native.Nat.{ℕ, _*_, _/_, min}
 use lib.ListN.{length, take, drop}
 use lib.Seq.{length-take-le}
 use lib.Ieee.{Float}
