@@ -79,7 +79,7 @@ abbrev pub streamOf : ℕ → List Float → List Float → List ℕ → HbfStre
 streamOf depth delays held counts = record { depth = depth; delays = delays; held = held; counts = counts }
 
 abbrev pub streamFresh : ℕ → HbfStream
-streamFresh depth = streamOf depth (replicate 480 zero32) (replicate 5 zero32) (replicate 5 0)
+streamFresh depth = streamOf depth (replicate 480 zero32) (replicate mostStages zero32) (replicate mostStages 0)
 
 -- 11: "depth over 5"; in the line 0 means off
 abbrev pub streamOpening : ℕ → Opened HbfStream
