@@ -1,5 +1,5 @@
 -- Two sections of which one follows the other: a map of states under which each step and each output agree carries whole runs over.
-use mathlib.Core.Path.{_≡_, refl, sym, ap, _∙_}
+use mathlib.Core.Path.{_≡_, refl, ap, _∙_}
 use mathlib.Core.List.{List, [], _∷_}
 use mathlib.Core.Option.{Option}
 use Rattle.theory.specs.Sections.{Section, onto, state, outs}

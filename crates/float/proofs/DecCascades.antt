@@ -1,7 +1,7 @@
 -- `HbfDecCascade`: a block's frames fill the span's places in step, and the opening's claims follow from those of the streaming cascade.
-use mathlib.Core.Path.{_≡_, refl, sym, ap, _∙_, subst}
+use mathlib.Core.Path.{_≡_, refl, ap, _∙_, subst}
 use mathlib.Core.Bool.{false}
-use mathlib.Core.List.{List, [], _∷_, _++_}
+use mathlib.Core.List.{List, _++_}
 use mathlib.Core.Option.{some}
 use Prim.Native.Nat.{ℕ, _+_, _*_, _/_, _^_, _≤_, _<_, min}
 use native.Mathlib.Nat.{le-trans, mul-comm, mul-le-mul-right, mul-div-left, div-le-of-le-mul, div-mul-le-self}
@@ -16,15 +16,15 @@ use Rattle.float.specs.Answers.{toldCount}
 use Rattle.float.specs.Limits.{lengthsRefused}
 use Rattle.float.specs.HalfBand.{zero32}
 use Rattle.float.specs.HbfTaps.{stageTaps, decimation}
-use Rattle.float.specs.HbfStream.{stream, hbfStream, streamOf}
-use Rattle.float.specs.HbfDecCascade.{unheld, decCascadeAfter, decCascadeFresh, decCascadeRefused, decCascadeCount, decCascadeTaken, decCascadeBlock, decCascadeSpan, DecCascadeMeets}
+use Rattle.float.specs.HbfStream.{hbfStream, streamOf}
+use Rattle.float.specs.HbfDecCascade.{unheld, decCascadeAfter, decCascadeFresh, decCascadeRefused, decCascadeCount, decCascadeBlock, decCascadeSpan, DecCascadeMeets}
 use Rattle.float.specs.declared.hbf_stream.HbfStream.{HbfStream}
 use Rattle.float.specs.declared.hbf_dec_cascade.HbfDecCascade.{HbfDecCascade}
 use Rattle.float.proofs.Bounds.{Between, not-outside, third}
 use Rattle.float.proofs.Blocks.{Emitted, count-more}
 use Rattle.float.proofs.StageTables.{dec-stages}
 use Rattle.float.proofs.Streaming.{stream-whole}
-use Rattle.float.proofs.Frames.{unheldOf, outs-count, nothing-held}
+use Rattle.float.proofs.Frames.{outs-count, nothing-held}
 
 abbrev pub bare : ℕ → List Float → HbfStream
 bare depth delays = streamOf depth delays (replicate 5 zero32) (replicate 5 0)

@@ -1,5 +1,5 @@
 -- `HbfDec` runs as the decimator on windows; so its blocks are those of the definition, and its opening makes section 4's list.
-use mathlib.Core.Path.{_≡_, refl, sym, ap, _∙_, subst}
+use mathlib.Core.Path.{_≡_, refl, sym, ap, _∙_}
 use mathlib.Core.Bool.{false}
 use mathlib.Core.List.{List, [], _∷_, _++_}
 use Prim.Native.Nat.{ℕ, _-_, _*_, _/_, _≤_, min}
@@ -8,7 +8,7 @@ use lib.Dec.{lit≤}
 use lib.ListN.{length, take, drop, replicate}
 use lib.Seq.{take-at}
 use lib.Ieee.{Float}
-use Rattle.theory.specs.Sections.{Section, state, outs}
+use Rattle.theory.specs.Sections.{state, outs}
 use Rattle.refusal.specs.declared.Count.the-variants.{Written}
 use Rattle.float.specs.Limits.{lengthsRefused}
 use Rattle.float.specs.Answers.{toldCount}

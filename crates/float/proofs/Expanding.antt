@@ -6,7 +6,7 @@ use Prim.Native.Nat.{ℕ, suc, _+_, _-_, _*_, _≤_, _<_}
 use native.Mathlib.Nat.{add-zero}
 use native.Mathlib.Numerals.{add-one}
 use native.Mathlib.Omega.{arith}
-use lib.ListN.{length, getD, set, take, drop, length-set, length-drop, length-append, take-append-drop}
+use lib.ListN.{length, getD, set, take, drop, length-set, length-drop, length-append}
 use lib.Seq.{take-suc-set, drop-set-lt, drop-drop, getD-drop, take-all, length-take-le, drop-append-seam}
 use lib.Ieee.{Float, nan}
 use Rattle.theory.specs.Sections.{Section, state, outs}

@@ -1,13 +1,13 @@
 -- A cascade of d stages that hold nothing makes floor(n / 2^d) outputs of n samples, and holds nothing again after a whole number of 2^d: a stage gives half as
 -- many values to the next, and holds nothing after an even number.
 use mathlib.Core.Path.{_≡_, refl, sym, ap, _∙_, subst}
-use mathlib.Core.List.{List, [], _∷_, _++_}
+use mathlib.Core.List.{List, [], _∷_}
 use mathlib.Core.Option.{Option, none, some}
 use Prim.Native.Nat.{ℕ, zero, suc, _+_, _-_, _*_, _/_, _^_, _≤_, _<_, min}
-use native.Mathlib.Nat.{div-div-eq-div-mul, pow-succ', pow-zero, mul-left-comm, mul-div-right, div-one, mul-one}
+use native.Mathlib.Nat.{div-div-eq-div-mul, pow-succ', pow-zero, mul-left-comm, div-one}
 use native.Mathlib.Omega.{arith}
 use native.Mathlib.Decide.{decLt}
-use lib.ListN.{length, getD, set, replicate, getD-replicate, length-replicate, length-set}
+use lib.ListN.{length, getD, replicate, getD-replicate, length-replicate}
 use lib.Seq.{ext-getD, getD-set-other}
 use lib.Ieee.{Float, nan}
 use Rattle.theory.specs.Sections.{Section, onto, state, outs}

@@ -1,13 +1,12 @@
 -- A stage holds at most one sample, and goes on to: so a state that is not refused is followed by states that are not refused.
-use mathlib.Core.Path.{_≡_, refl, sym, ap, _∙_, subst}
+use mathlib.Core.Path.{_≡_, refl, ap, _∙_, subst}
 use mathlib.Core.Bool.{Bool, true, false, cond, _&&_, true≢false, false≢true}
 use mathlib.Core.List.{List, [], _∷_}
 use mathlib.Core.Option.{Option, none, some}
-use Prim.Native.Nat.{ℕ, zero, suc, _+_, _≤_, _<_, min}
-use native.Mathlib.Nat.{le-antisymm}
+use Prim.Native.Nat.{ℕ, zero, suc, _≤_, _<_, min}
 use native.Mathlib.Omega.{arith}
 use native.Mathlib.Decide.{decLt}
-use borrow.Author.Tests.{leb-true, le-leb, lt-leb, le-ltb, lt-ltb, ltb-false}
+use borrow.Author.Tests.{leb-true, le-leb, le-ltb, lt-ltb, ltb-false}
 use lib.Dec.{eqb, leb, ltb}
 use lib.ListN.{getD, set, replicate, getD-replicate}
 use lib.Ieee.{Float}
@@ -120,3 +119,12 @@ pub too-many : (d k : ℕ) (counts : List ℕ) → d ≤ 5 → k < d → 1 < get
 unfolding streamRefused
 too-many d k counts h l m =
     ap (λ (b : Bool). cond b true (cond (heldFine d counts) false true)) (le-ltb 5 d h) ∙ ap (λ (b : Bool). cond b false true) (held-not d k counts l m)
+
+-- a cascade of no stages hands its samples on, and stays as it is
+pub off-out : (s : HbfStream) (x : Float) → s .depth ≡ 0 → hbfStream .out s x ≡ some x
+unfolding hbfStream stream through
+off-out s x e = ap (λ (n : ℕ). through (stageTaps decimation) n 0 (some x) s .out) (ap (λ (d : ℕ). min d 5) e)
+
+pub off-next : (s : HbfStream) (x : Float) → s .depth ≡ 0 → hbfStream .next s x ≡ s
+unfolding hbfStream stream through
+off-next s x e = ap (λ (n : ℕ). through (stageTaps decimation) n 0 (some x) s .state) (ap (λ (d : ℕ). min d 5) e)

@@ -2,10 +2,9 @@
 -- and from windows of zeros that is section 7's list.
 use mathlib.Core.Path.{_≡_, refl, sym, ap, _∙_, subst}
 use mathlib.Core.Bool.{false}
-use mathlib.Core.List.{List, [], _∷_, _++_, append-nil, append-assoc}
-use mathlib.Core.Option.{Option, some}
-use Prim.Native.Nat.{ℕ, zero, suc, _+_, _-_, _*_, _/_, _^_, _≤_, _<_, min}
-use native.Mathlib.Nat.{add-zero, mul-assoc, mul-comm, mul-left-comm, pow-succ', pow-zero, mul-one, le-trans, mul-le-mul-right, div-mul-le-self}
+use mathlib.Core.List.{List, [], _∷_, _++_}
+use Prim.Native.Nat.{ℕ, zero, suc, _+_, _-_, _*_, _^_, _≤_, _<_, min}
+use native.Mathlib.Nat.{mul-assoc, mul-left-comm, pow-succ', pow-zero, mul-one}
 use native.Mathlib.Numerals.{add-one}
 use native.Mathlib.Omega.{arith}
 use lib.Pow.{pow-pos}
@@ -13,7 +12,7 @@ use lib.ListN.{length, take, drop, replicate, length-append, length-drop, length
 use lib.Seq.{drop-append-add, length-take-le}
 use lib.Ieee.{Float}
 use Rattle.theory.specs.Sections.{Section, state, outs}
-use Rattle.theory.proofs.Sections.{state-append, outs-append, state-keeps}
+use Rattle.theory.proofs.Sections.{outs-append, state-keeps}
 use Rattle.refusal.specs.declared.Count.the-variants.{Written}
 use Rattle.float.specs.Answers.{toldCount}
 use Rattle.float.specs.Limits.{lengthsRefused}

@@ -1,5 +1,5 @@
 -- `HbfInt` runs as the interpolator on windows; so its blocks are those of the definition, and its opening makes section 7's list.
-use mathlib.Core.Path.{_≡_, refl, sym, ap, _∙_, subst}
+use mathlib.Core.Path.{_≡_, refl, sym, ap, _∙_}
 use mathlib.Core.Bool.{false}
 use mathlib.Core.List.{List, [], _∷_, _++_}
 use Prim.Native.Nat.{ℕ, _-_, _*_, _/_, _≤_, min}
@@ -8,13 +8,13 @@ use lib.Dec.{lit≤}
 use lib.ListN.{length, take, drop, replicate}
 use lib.Seq.{take-at}
 use lib.Ieee.{Float}
-use Rattle.theory.specs.Sections.{Section, state, outs}
+use Rattle.theory.specs.Sections.{state, outs}
 use Rattle.refusal.specs.declared.Count.the-variants.{Written}
 use Rattle.float.specs.Limits.{lengthsRefused}
 use Rattle.float.specs.Answers.{toldCount}
 use Rattle.float.specs.HalfBand.{zero32, flat}
 use Rattle.float.specs.Windows.{interpolator}
-use Rattle.float.specs.HbfInt.{intTaps, intWindow, withIntWindow, intNext, intOut, hbfInt, intFresh, intRefused, intTaken, intBlock, intSpan, IntMeets}
+use Rattle.float.specs.HbfInt.{intTaps, intWindow, withIntWindow, intNext, intOut, hbfInt, intFresh, intRefused, intBlock, intSpan, IntMeets}
 use Rattle.float.specs.declared.hbf_int.HbfInt.{HbfInt}
 use Rattle.float.proofs.Bounds.{Between, not-outside, third}
 use Rattle.float.proofs.Moving.{length-slid}

@@ -2,7 +2,7 @@
 use mathlib.Core.Path.{_≡_, refl, sym, ap, _∙_}
 use mathlib.Core.Bool.{Bool, true, false, cond}
 use mathlib.Core.List.{List, [], _∷_}
-use mathlib.Core.Option.{Option, none, some}
+use mathlib.Core.Option.{none, some}
 use Prim.Native.Nat.{ℕ, zero, suc, _+_, _-_, _*_, _≤_, _<_}
 use native.Mathlib.Numerals.{add-one}
 use native.Mathlib.Omega.{arith}
@@ -22,52 +22,46 @@ module _ (taps : ℕ → List Float) where
   none-through zero k s = refl
   none-through (suc n) k s = refl
 
-  -- stage k holds nothing: it keeps the value
-  pub kept : (n k : ℕ) (x : Float) (s : HbfStream) → k < n → getD (s .counts) k 0 ≡ 0
-      → through taps (n - k) k (some x) s ≡ record { out = none; state = streamOf (s .depth) (s .delays) (set (s .held) k x) (set (s .counts) k 1) }
-  unfolding through half stageIn withStage
-  kept n k x s h e =
-      ap (λ (m : ℕ). through taps m k (some x) s) less
-      ∙ ap (λ (b : Bool). through taps (n - (k + 1)) (suc k) (cond b none (some (decValue (taps k) w))) (withStage taps k (cond b first second) s)) (eq-eqb _ _ e)
-      ∙ none-through (n - (k + 1)) (suc k) (withStage taps k first s)
-      ∙ ap {B = Passed} (λ (d : List Float). record { out = none; state = streamOf (s .depth) d (set (s .held) k x) (set (s .counts) k 1) }) (splice-same (96 * k) (4 * length (taps k)) (s .delays))
-    where
-      less : n - k ≡ suc (n - (k + 1))
-      less = omega arith
+  module _ (n k : ℕ) (x : Float) (s : HbfStream) (in-range : k < n) where
+    less : n - k ≡ suc (n - (k + 1))
+    less = omega arith
 
-      w : List Float
-      w = slid (stageIn taps k s .window) (stageIn taps k s .held ∷ x ∷ [])
+    -- the window with the pair in it, and the stage in either case
+    abbrev window : List Float
+    window = slid (take (4 * length (taps k)) (drop (96 * k) (s .delays))) (getD (s .held) k nan ∷ x ∷ [])
 
-      first : Half
-      first = record { window = stageIn taps k s .window; held = x; count = 1 }
+    abbrev first : Half
+    first = record { window = take (4 * length (taps k)) (drop (96 * k) (s .delays)); held = x; count = 1 }
 
-      second : Half
-      second = record { window = w; held = zero32; count = 0 }
+    abbrev second : Half
+    second = record { window = window; held = zero32; count = 0 }
 
-  -- stage k holds one: the pair makes a value for the stages behind it
-  pub paired : (n k : ℕ) (x : Float) (s : HbfStream) → k < n → (getD (s .counts) k 0 ≡ 0 → ⊥)
-      → let w = slid (take (4 * length (taps k)) (drop (96 * k) (s .delays))) (getD (s .held) k nan ∷ x ∷ []) in
-      (y : Float) (d : List Float) → y ≡ decValue (taps k) w → d ≡ spliced (96 * k) (4 * length (taps k)) w (s .delays)
-      → through taps (n - k) k (some x) s ≡ through taps (n - (k + 1)) (k + 1) (some y) (streamOf (s .depth) d (set (s .held) k zero32) (set (s .counts) k 0))
-  unfolding through half stageIn withStage
-  paired n k x s h e y d ey ed =
-      ap (λ (m : ℕ). through taps m k (some x) s) less
-      ∙ ap (λ (b : Bool). through taps (n - (k + 1)) (suc k) (cond b none (some (decValue (taps k) w))) (withStage taps k (cond b first second) s)) (ne-eqb _ _ e)
-      ∙ ap (λ (z : Float). through taps (n - (k + 1)) (suc k) (some z) (withStage taps k second s)) (sym ey)
-      ∙ ap (λ (z : List Float). through taps (n - (k + 1)) (suc k) (some y) (streamOf (s .depth) z (set (s .held) k zero32) (set (s .counts) k 0))) (sym ed)
-      ∙ ap (λ (j : ℕ). through taps (n - (k + 1)) j (some y) (streamOf (s .depth) d (set (s .held) k zero32) (set (s .counts) k 0))) (sym (add-one k))
-    where
-      less : n - k ≡ suc (n - (k + 1))
-      less = omega arith
+    -- by whether stage k holds nothing
+    stage-by : (b : Bool) → eqb (getD (s .counts) k 0) 0 ≡ b
+        → through taps (n - k) k (some x) s ≡ through taps (n - (k + 1)) (suc k) (cond b none (some (decValue (taps k) window))) (withStage taps k (cond b first second) s)
+    unfolding through half stageIn
+    stage-by b e =
+        ap (λ (m : ℕ). through taps m k (some x) s) less
+        ∙ ap (λ (c : Bool). through taps (n - (k + 1)) (suc k) (cond c none (some (decValue (taps k) window))) (withStage taps k (cond c first second) s)) e
 
-      w : List Float
-      w = slid (stageIn taps k s .window) (stageIn taps k s .held ∷ x ∷ [])
+    -- it holds nothing: it keeps the value
+    pub kept : getD (s .counts) k 0 ≡ 0
+        → through taps (n - k) k (some x) s ≡ record { out = none; state = streamOf (s .depth) (s .delays) (set (s .held) k x) (set (s .counts) k 1) }
+    unfolding withStage
+    kept e =
+        stage-by true (eq-eqb _ _ e)
+        ∙ none-through (n - (k + 1)) (suc k) (withStage taps k first s)
+        ∙ ap {B = Passed} (λ (d : List Float). record { out = none; state = streamOf (s .depth) d (set (s .held) k x) (set (s .counts) k 1) }) (splice-same (96 * k) (4 * length (taps k)) (s .delays))
 
-      first : Half
-      first = record { window = stageIn taps k s .window; held = x; count = 1 }
-
-      second : Half
-      second = record { window = w; held = zero32; count = 0 }
+    -- it holds one: the pair makes a value for the stages behind it
+    pub paired : (getD (s .counts) k 0 ≡ 0 → ⊥) → (y : Float) (d : List Float) → y ≡ decValue (taps k) window → d ≡ spliced (96 * k) (4 * length (taps k)) window (s .delays)
+        → through taps (n - k) k (some x) s ≡ through taps (n - (k + 1)) (k + 1) (some y) (streamOf (s .depth) d (set (s .held) k zero32) (set (s .counts) k 0))
+    unfolding withStage
+    paired e y d ey ed =
+        stage-by false (ne-eqb _ _ e)
+        ∙ ap (λ (z : Float). through taps (n - (k + 1)) (suc k) (some z) (withStage taps k second s)) (sym ey)
+        ∙ ap (λ (z : List Float). through taps (n - (k + 1)) (suc k) (some y) (streamOf (s .depth) z (set (s .held) k zero32) (set (s .counts) k 0))) (sym ed)
+        ∙ ap (λ (j : ℕ). through taps (n - (k + 1)) j (some y) (streamOf (s .depth) d (set (s .held) k zero32) (set (s .counts) k 0))) (sym (add-one k))
 
   -- no stage is left
   pub ended : (n k : ℕ) (x : Float) (s : HbfStream) → n ≤ k → through taps (n - k) k (some x) s ≡ record { out = some x; state = s }

@@ -1,5 +1,5 @@
 -- The stages of a table: each has 1 to 23 taps, which lie in the table; and the code's constants are section 4's.
-use mathlib.Core.Path.{_≡_, refl, sym, ap, _∙_}
+use mathlib.Core.Path.{_≡_, refl, sym, ap, _∙_, subst}
 use mathlib.Core.List.{List, [], _∷_}
 use Prim.Native.Nat.{ℕ, zero, suc, _+_, _-_, _*_, _^_, _≤_, _<_}
 use native.Mathlib.Omega.{arith}
@@ -7,7 +7,7 @@ use lib.Dec.{lit≤}
 use lib.ListN.{length, getD, take, drop, length-drop}
 use lib.Seq.{length-take-le}
 use lib.Ieee.{Float}
-use Rattle.float.specs.HbfTaps.{Table, stageTaps, decimation, interpolation}
+use Rattle.float.specs.HbfTaps.{Table, stageTaps, PlaceOf, decimation, interpolation}
 use Rattle.float.proofs.Decimals.{patterns, taps-printed}
 
 -- five stages, each of 1 to 23 taps
@@ -15,24 +15,11 @@ pub record FiveStages (taps : ℕ → List Float) : Type 0 where
   pub least : (k : ℕ) → k < 5 → 1 ≤ length (taps k)
   pub most : (k : ℕ) → k < 5 → length (taps k) ≤ 23
 
--- where the taps of stage k lie
-pub record Placed (starts lengths : List ℕ) (k : ℕ) : Type 0 where
-  pub least : 1 ≤ getD lengths k 0
-  pub most : getD lengths k 0 ≤ 23
-  pub inside : getD starts k 0 + getD lengths k 0 ≤ 45
-
--- the code's constants
-abbrev pub decStarts : List ℕ
-decStarts = 42 ∷ 38 ∷ 33 ∷ 23 ∷ 0 ∷ []
-
-abbrev pub decLengths : List ℕ
-decLengths = 3 ∷ 4 ∷ 5 ∷ 10 ∷ 23 ∷ []
-
-abbrev pub intStarts : List ℕ
-intStarts = 0 ∷ 23 ∷ 33 ∷ 38 ∷ 42 ∷ []
-
-abbrev pub intLengths : List ℕ
-intLengths = 23 ∷ 10 ∷ 5 ∷ 4 ∷ 3 ∷ []
+-- the taps of stage k lie in the table
+pub record Placed (first count : ℕ) : Type 0 where
+  pub least : 1 ≤ count
+  pub most : count ≤ 23
+  pub inside : first + count ≤ 45
 
 -- what holds of five numbers holds below 5
 by-five : (P : ℕ → Type 0) → P 0 → P 1 → P 2 → P 3 → P 4 → (k : ℕ) → k < 5 → P k
@@ -43,79 +30,69 @@ by-five P a b c d e (suc (suc (suc zero))) h = d
 by-five P a b c d e (suc (suc (suc (suc zero)))) h = e
 by-five P a b c d e (suc (suc (suc (suc (suc k))))) h = absurd (omega arith)
 
-pub dec-placed : (k : ℕ) → k < 5 → Placed decStarts decLengths k
-dec-placed =
-    by-five (Placed decStarts decLengths) (record { least = lit≤ tt; most = lit≤ tt; inside = lit≤ tt }) (record { least = lit≤ tt; most = lit≤ tt; inside = lit≤ tt })
-    (record { least = lit≤ tt; most = lit≤ tt; inside = lit≤ tt }) (record { least = lit≤ tt; most = lit≤ tt; inside = lit≤ tt })
-    (record { least = lit≤ tt; most = lit≤ tt; inside = lit≤ tt })
+-- a table over the code's taps
+pub record Fits (t : Table) : Type 0 where
+  pub patterns-are : patterns ≡ t .taps
+  pub placed : (k : ℕ) → k < 5 → Placed (getD (t .starts) k 0) (getD (t .lengths) k 0)
 
-pub int-placed : (k : ℕ) → k < 5 → Placed intStarts intLengths k
-int-placed =
-    by-five (Placed intStarts intLengths) (record { least = lit≤ tt; most = lit≤ tt; inside = lit≤ tt }) (record { least = lit≤ tt; most = lit≤ tt; inside = lit≤ tt })
-    (record { least = lit≤ tt; most = lit≤ tt; inside = lit≤ tt }) (record { least = lit≤ tt; most = lit≤ tt; inside = lit≤ tt })
-    (record { least = lit≤ tt; most = lit≤ tt; inside = lit≤ tt })
+pub dec-fits : Fits decimation
+unfolding decimation
+dec-fits =
+    record {
+      patterns-are = taps-printed;
+      placed = by-five (λ k. Placed (getD (decimation .starts) k 0) (getD (decimation .lengths) k 0)) (record { least = lit≤ tt; most = lit≤ tt; inside = lit≤ tt })
+          (record { least = lit≤ tt; most = lit≤ tt; inside = lit≤ tt }) (record { least = lit≤ tt; most = lit≤ tt; inside = lit≤ tt })
+          (record { least = lit≤ tt; most = lit≤ tt; inside = lit≤ tt }) (record { least = lit≤ tt; most = lit≤ tt; inside = lit≤ tt });
+    }
 
--- a table whose stages the constants describe
-module _ (t : Table) (starts lengths : List ℕ) (placed : (k : ℕ) → k < 5 → Placed starts lengths k)
-    (taps-of : (k : ℕ) → take (getD lengths k 0) (drop (getD starts k 0) patterns) ≡ stageTaps t k) where
-  -- the part of the code's table, with its end computed
-  pub part-taps : (k : ℕ) → take (getD starts k 0 + getD lengths k 0 - getD starts k 0) (drop (getD starts k 0) patterns) ≡ stageTaps t k
-  part-taps k = ap (λ (n : ℕ). take n (drop (getD starts k 0) patterns)) (less (getD starts k 0) (getD lengths k 0)) ∙ taps-of k
-    where
-      less : (a b : ℕ) → a + b - a ≡ b
-      less a b = omega arith
+pub int-fits : Fits interpolation
+unfolding interpolation
+int-fits =
+    record {
+      patterns-are = taps-printed;
+      placed = by-five (λ k. Placed (getD (interpolation .starts) k 0) (getD (interpolation .lengths) k 0)) (record { least = lit≤ tt; most = lit≤ tt; inside = lit≤ tt })
+          (record { least = lit≤ tt; most = lit≤ tt; inside = lit≤ tt }) (record { least = lit≤ tt; most = lit≤ tt; inside = lit≤ tt })
+          (record { least = lit≤ tt; most = lit≤ tt; inside = lit≤ tt }) (record { least = lit≤ tt; most = lit≤ tt; inside = lit≤ tt });
+    }
 
-  pub stage-length : (k : ℕ) → k < 5 → length (stageTaps t k) ≡ getD lengths k 0
-  stage-length k h =
-      let p = placed k h in
-      ap length (sym (taps-of k)) ∙ length-take-le (getD lengths k 0) (drop (getD starts k 0) patterns) (simp length-drop (omega (arith, p .inside)))
+less : (a b : ℕ) → a + b - a ≡ b
+less a b = omega arith
 
-  pub stages-five : FiveStages (stageTaps t)
-  stages-five =
+module _ (t : Table) (fits : Fits t) where
+  -- stage k at the place that the code finds
+  module _ (k first count : ℕ) (h : k < 5) (p : PlaceOf t k first count) where
+    pub place : Placed first count
+    place =
+        subst (λ (n : ℕ). Placed n count) (sym (p .begins)) (subst (λ (n : ℕ). Placed (getD (t .starts) k 0) n) (sym (p .counted)) (fits .placed k h))
+
+    -- the part of the code's table
+    pub part-taps : take (first + count - first) (drop first patterns) ≡ stageTaps t k
+    unfolding stageTaps
+    part-taps =
+        ap (λ (n : ℕ). take n (drop first patterns)) (less first count ∙ p .counted)
+        ∙ ap (λ (n : ℕ). take (getD (t .lengths) k 0) (drop n patterns)) (p .begins)
+        ∙ ap (λ (l : List Float). take (getD (t .lengths) k 0) (drop (getD (t .starts) k 0) l)) (fits .patterns-are)
+
+    pub stage-length : length (stageTaps t k) ≡ count
+    stage-length =
+        ap length (sym part-taps) ∙ length-take-le (first + count - first) (drop first patterns) (simp length-drop (omega (arith, place .inside))) ∙ less first count
+
+    -- the part of the delays, s samples for each tap
+    pub part-count : (s distance : ℕ) → distance * k + s * count - distance * k ≡ s * length (stageTaps t k)
+    part-count s distance = less (distance * k) (s * count) ∙ ap (λ (n : ℕ). s * n) (sym stage-length)
+
+  stages : FiveStages (stageTaps t)
+  stages =
       record {
-        least = λ k h. let e = stage-length k h in omega (arith, placed k h .least);
-        most = λ k h. let e = stage-length k h in omega (arith, placed k h .most);
+        least = λ k h. let e = stage-length k (getD (t .starts) k 0) (getD (t .lengths) k 0) h (record { begins = refl; counted = refl }) in omega (arith, fits .placed k h .least);
+        most = λ k h. let e = stage-length k (getD (t .starts) k 0) (getD (t .lengths) k 0) h (record { begins = refl; counted = refl }) in omega (arith, fits .placed k h .most);
       }
 
-  -- a window of s samples for each tap, among the delays at some distance
-  module _ (s : ℕ) (distance : ℕ) where
-    pub part-count : (k : ℕ) → k < 5 → distance * k + s * getD lengths k 0 - distance * k ≡ s * length (stageTaps t k)
-    part-count k h = less (distance * k) (s * getD lengths k 0) ∙ ap (λ (n : ℕ). s * n) (sym (stage-length k h))
-      where
-        less : (a b : ℕ) → a + b - a ≡ b
-        less a b = omega arith
-
-dec-taps : (k : ℕ) → take (getD decLengths k 0) (drop (getD decStarts k 0) patterns) ≡ stageTaps decimation k
-unfolding stageTaps decimation
-dec-taps k = ap (λ (t : List Float). take (getD decLengths k 0) (drop (getD decStarts k 0) t)) taps-printed
-
-int-taps : (k : ℕ) → take (getD intLengths k 0) (drop (getD intStarts k 0) patterns) ≡ stageTaps interpolation k
-unfolding stageTaps interpolation
-int-taps k = ap (λ (t : List Float). take (getD intLengths k 0) (drop (getD intStarts k 0) t)) taps-printed
-
-pub dec-part-taps : (k : ℕ) → take (getD decStarts k 0 + getD decLengths k 0 - getD decStarts k 0) (drop (getD decStarts k 0) patterns) ≡ stageTaps decimation k
-dec-part-taps = part-taps decimation decStarts decLengths dec-placed dec-taps
-
-pub dec-length : (k : ℕ) → k < 5 → length (stageTaps decimation k) ≡ getD decLengths k 0
-dec-length = stage-length decimation decStarts decLengths dec-placed dec-taps
-
-pub dec-count : (k : ℕ) → k < 5 → 96 * k + 4 * getD decLengths k 0 - 96 * k ≡ 4 * length (stageTaps decimation k)
-dec-count = part-count decimation decStarts decLengths dec-placed dec-taps 4 96
-
 pub dec-stages : FiveStages (stageTaps decimation)
-dec-stages = stages-five decimation decStarts decLengths dec-placed dec-taps
-
-pub int-part-taps : (k : ℕ) → take (getD intStarts k 0 + getD intLengths k 0 - getD intStarts k 0) (drop (getD intStarts k 0) patterns) ≡ stageTaps interpolation k
-int-part-taps = part-taps interpolation intStarts intLengths int-placed int-taps
-
-pub int-length : (k : ℕ) → k < 5 → length (stageTaps interpolation k) ≡ getD intLengths k 0
-int-length = stage-length interpolation intStarts intLengths int-placed int-taps
-
-pub int-count : (k : ℕ) → k < 5 → 48 * k + 2 * getD intLengths k 0 - 48 * k ≡ 2 * length (stageTaps interpolation k)
-int-count = part-count interpolation intStarts intLengths int-placed int-taps 2 48
+dec-stages = stages decimation dec-fits
 
 pub int-stages : FiveStages (stageTaps interpolation)
-int-stages = stages-five interpolation intStarts intLengths int-placed int-taps
+int-stages = stages interpolation int-fits
 
 -- the rate changes by 2^d
 pub rate : (d : ℕ) → d ≤ 5 → getD (1 ∷ 2 ∷ 4 ∷ 8 ∷ 16 ∷ 32 ∷ []) d 0 ≡ 2 ^ d

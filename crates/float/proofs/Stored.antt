@@ -1,6 +1,6 @@
 -- A filter that stores its M taps in front of 23 places and its window of s × M samples in front of N: whatever lies behind them, it runs as the filter on
 -- windows. `build` makes the state of its parts, `g` is the filter on windows, over the taps.
-use mathlib.Core.Path.{_≡_, refl, sym, ap, _∙_}
+use mathlib.Core.Path.{_≡_, sym, ap, _∙_}
 use mathlib.Core.List.{List, _++_}
 use Prim.Native.Nat.{ℕ, _+_, _-_, _*_, _≤_}
 use native.Mathlib.Nat.{le-trans, mul-le-mul-left}

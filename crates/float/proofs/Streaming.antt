@@ -1,19 +1,19 @@
 -- A cascade fed sample by sample makes what each stage makes of the whole list of the stage before: it follows theory's cascade of its stages, and a stage
 -- that holds an odd sample makes of a list what the decimator makes of its pairs.
-use mathlib.Core.Path.{_≡_, refl, sym, ap, _∙_, subst}
-use mathlib.Core.List.{List, [], _∷_, _++_}
-use mathlib.Core.Option.{Option, none, some}
+use mathlib.Core.Path.{_≡_, refl, sym, ap, _∙_}
+use mathlib.Core.List.{List, [], _∷_}
+use mathlib.Core.Option.{some}
 use Prim.Native.Nat.{ℕ, zero, suc, _+_, _-_, _*_, _≤_, _<_, min}
 use native.Mathlib.Omega.{arith}
-use lib.ListN.{length, getD, take, drop, replicate, getD-replicate, length-replicate}
+use lib.ListN.{length, getD, take, replicate, getD-replicate, length-replicate}
 use lib.Ieee.{Float, nan}
-use Rattle.theory.specs.Sections.{Section, state, outs}
+use Rattle.theory.specs.Sections.{state, outs}
 use Rattle.theory.specs.Cascades.{cascade, cascaded}
 use Rattle.theory.proofs.Sections.{state-keeps}
 use Rattle.theory.proofs.Cascades.{outs-cascade}
 use Rattle.float.specs.HalfBand.{zero32, decimated, decimatedBy}
 use Rattle.float.specs.Windows.{slid, decValue, pairs, decimator}
-use Rattle.float.specs.HbfStream.{Half, half, stageIn, through, stream, streamFresh}
+use Rattle.float.specs.HbfStream.{Half, half, stageIn, stream, streamFresh}
 use Rattle.float.specs.declared.hbf_stream.HbfStream.{HbfStream}
 use Rattle.float.proofs.Filling.{drop-replicate, take-replicate}
 use Rattle.float.proofs.WholeLists.{decimator-whole}

@@ -1,18 +1,18 @@
 -- From a window of zeros the decimator and the interpolator make what 01 says of the whole list: the state after some values is the window of the last
 -- of them (`lastOf`), so each output is read off the values so far, and each place of the window is the sample that 01 names.
-use mathlib.Core.Path.{_≡_, refl, sym, ap, _∙_, subst}
-use mathlib.Core.List.{List, [], _∷_, _++_, append-assoc}
-use mathlib.Core.Bool.{Bool, true, false, true≢false}
+use mathlib.Core.Path.{_≡_, refl, sym, ap, _∙_}
+use mathlib.Core.List.{List, [], _∷_, _++_}
+use mathlib.Core.Bool.{true, false, true≢false}
 use mathlib.Core.Option.{Option, some}
 use Prim.Native.Nat.{ℕ, zero, suc, _+_, _-_, _*_, _/_, _≤_, _<_}
 use native.Mathlib.Nat.{le-refl}
 use native.Mathlib.Numerals.{add-one}
 use native.Mathlib.Omega.{arith}
-use lib.ListN.{length, getD, take, drop, replicate}
+use lib.ListN.{length, getD, take, replicate}
 use lib.Ieee.{Float, nan, binary32, add, mul}
 use Rattle.theory.specs.Lists.{listed}
 use Rattle.theory.specs.Sections.{Section, outs}
-use Rattle.theory.proofs.Listed.{collected, madeAt, outs-collected, collected-listed}
+use Rattle.theory.proofs.Listed.{madeAt, outs-collected, collected-listed}
 use Rattle.float.specs.HalfBand.{zero32, half32, earlier, decAcc, decOutput, decimated, evenOutput, oddAcc, oddOutput, flat, interpolated}
 use Rattle.float.specs.Windows.{slid, folded, decValue, intValue, pairs, decimator, interpolator}
 use Rattle.float.proofs.Earlier.{earlier-same, lastOf, length-lastOf, slid-last, place-of}

@@ -35,15 +35,14 @@ unfoldable pub decOut : HbfDec → Float → Float → Float
 decOut d a b = decValue (decTaps d) (slid (decWindow d) (a ∷ b ∷ []))
 
 unfoldable pub hbfDec : Section HbfDec (Float × Float) Float
-unfolding decNext decOut
 hbfDec = record { next = λ d p. decNext d (p .0) (p .1); out = λ d p. some (decOut d (p .0) (p .1)) }
 
 -- all zeros, and an opening with the taps c
 abbrev pub decNone : HbfDec
-decNone = record { m = 0; coeffs = replicate 23 zero32; delay = replicate 96 zero32 }
+decNone = record { m = 0; coeffs = replicate mostHalfBandTaps zero32; delay = replicate 96 zero32 }
 
 abbrev pub decFresh : List Float → HbfDec
-decFresh c = record { m = length c; coeffs = c ++ replicate (23 - length c) zero32; delay = replicate 96 zero32 }
+decFresh c = record { m = length c; coeffs = c ++ replicate (mostHalfBandTaps - length c) zero32; delay = replicate 96 zero32 }
 
 -- 10: "M not 1..23"
 abbrev pub decOpening : List Float → Opened HbfDec

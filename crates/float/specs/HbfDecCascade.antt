@@ -16,7 +16,7 @@ use Rattle.float.specs.declared.hbf_dec_cascade.HbfDecCascade.{HbfDecCas
 
 -- the stages with nothing held
 abbrev pub unheld : HbfDecCascade → HbfStream
-unheld s = streamOf (s .depth) (s .delays) (replicate 5 zero32) (replicate 5 0)
+unheld s = streamOf (s .depth) (s .delays) (replicate mostStages zero32) (replicate mostStages 0)
 
 -- the cascade after the samples v
 abbrev pub decCascadeAfter : HbfDecCascade → List Float → HbfDecCascade

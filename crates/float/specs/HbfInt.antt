@@ -35,15 +35,14 @@ unfoldable pub intOut : HbfInt → Float → Float × Float
 intOut d x = intValue (intTaps d) (slid (intWindow d) (x ∷ []))
 
 unfoldable pub hbfInt : Section HbfInt Float (Float × Float)
-unfolding intNext intOut
 hbfInt = record { next = intNext; out = λ d x. some (intOut d x) }
 
 -- all zeros, and an opening with the taps c
 abbrev pub intNone : HbfInt
-intNone = record { m = 0; coeffs = replicate 23 zero32; delay = replicate 48 zero32 }
+intNone = record { m = 0; coeffs = replicate mostHalfBandTaps zero32; delay = replicate 48 zero32 }
 
 abbrev pub intFresh : List Float → HbfInt
-intFresh c = record { m = length c; coeffs = c ++ replicate (23 - length c) zero32; delay = replicate 48 zero32 }
+intFresh c = record { m = length c; coeffs = c ++ replicate (mostHalfBandTaps - length c) zero32; delay = replicate 48 zero32 }
 
 -- 10: "M not 1..23"
 abbrev pub intOpening : List Float → Opened HbfInt

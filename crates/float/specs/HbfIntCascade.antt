@@ -33,7 +33,6 @@ module _ (taps : ℕ → List Float) where
 
 -- the first `depth` stages of section 7's table
 unfoldable pub intCascadeRun : HbfIntCascade → List Float → Upsampled
-unfolding upsampled
 intCascadeRun s v = upsampled (stageTaps interpolation) (min (s .depth) mostStages) 0 (s .delays) v
 
 abbrev pub intCascadeAfter : HbfIntCascade → List Float → HbfIntCascade
@@ -77,7 +76,6 @@ joined (v ∷ vs) = v ++ joined vs
 
 -- the outputs of blocks one after the other
 unfoldable pub intCascadeBlocks : HbfIntCascade → List (List Float) → List Float
-unfolding intCascadeRun
 intCascadeBlocks s [] = []
 intCascadeBlocks s (v ∷ vs) = intCascadeRun s v .outs ++ intCascadeBlocks (intCascadeAfter s v) vs
 

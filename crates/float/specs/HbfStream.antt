@@ -2,7 +2,7 @@
 -- `HbfStream`, which has the table of section 4.
 use mathlib.Core.Path.{_≡_}
 use mathlib.Core.Bool.{Bool, true, false, cond, _&&_}
-use mathlib.Core.List.{List, [], _∷_, _++_}
+use mathlib.Core.List.{List, [], _∷_}
 use mathlib.Core.Option.{Option, none, some}
 use Prim.Native.Nat.{ℕ, zero, suc, _*_, min}
 use lib.Dec.{eqb, leb, ltb}
@@ -61,20 +61,17 @@ module _ (taps : ℕ → List Float) where
 
   -- a value, if there is one, goes into n stages from stage k on
   unfoldable pub through : ℕ → ℕ → Option Float → HbfStream → Passed
-  unfolding half stageIn withStage
   through zero k o s = record { out = o; state = s }
   through (suc n) k none s = record { out = none; state = s }
   through (suc n) k (some x) s = through n (suc k) (half (taps k) .out (stageIn k s) x) (withStage k (half (taps k) .next (stageIn k s) x) s)
 
-  -- the first `depth` stages; none of them hand the value on
+  -- through the first `depth` stages; where there are none the value is handed on
   unfoldable pub stream : Section HbfStream Float Float
-  unfolding through
   stream =
       record { next = λ s x. through (min (s .depth) mostStages) 0 (some x) s .state; out = λ s x. through (min (s .depth) mostStages) 0 (some x) s .out }
 
 -- the table of section 4
 unfoldable pub hbfStream : Section HbfStream Float Float
-unfolding stream
 hbfStream = stream (stageTaps decimation)
 
 -- a state of its parts
@@ -82,7 +79,7 @@ abbrev pub streamOf : ℕ → List Float → List Float → List ℕ → HbfStre
 streamOf depth delays held counts = record { depth = depth; delays = delays; held = held; counts = counts }
 
 abbrev pub streamFresh : ℕ → HbfStream
-streamFresh depth = streamOf depth (replicate 480 zero32) (replicate 5 zero32) (replicate 5 0)
+streamFresh depth = streamOf depth (replicate 480 zero32) (replicate mostStages zero32) (replicate mostStages 0)
 
 -- 11: "depth over 5"; in the line 0 means off
 abbrev pub streamOpening : ℕ → Opened HbfStream
@@ -95,7 +92,6 @@ heldFine (suc n) counts = heldFine n counts && leb (getD counts n 0) 1
 
 -- 15: these, and "settings that its opening refuses"
 unfoldable pub streamRefused : ℕ → List ℕ → Bool
-unfolding heldFine
 streamRefused depth counts = cond (ltb mostStages depth) true (cond (heldFine depth counts) false true)
 
 abbrev pub streamReset : HbfStream → Opened HbfStream

@@ -1,4 +1,5 @@
 -- 01, section 4: "with the `HBF_TAPS` of those lengths, each tap the f32 nearest to its printed decimal".
+use mathlib.Core.Path.{_≡_}
 use mathlib.Core.List.{List, [], _∷_}
 use mathlib.Core.Bool.{Bool, true, false}
 use Prim.Native.Nat.{ℕ, _^_}
@@ -69,12 +70,15 @@ pub record Table : Type 0 where
 unfoldable pub stageTaps : Table → ℕ → List Float
 stageTaps t k = take (getD (t .lengths) k 0) (drop (getD (t .starts) k 0) (t .taps))
 
+-- where they begin, and how many they are
+pub record PlaceOf (t : Table) (k first count : ℕ) : Type 0 where
+  pub begins : first ≡ getD (t .starts) k 0
+  pub counted : count ≡ getD (t .lengths) k 0
+
 -- "`HbfDecCascade` of depth d runs the first d of M = 3, 4, 5, 10, 23"
 unfoldable pub decimation : Table
-unfolding hbfTaps
 decimation = record { taps = hbfTaps; starts = 42 ∷ 38 ∷ 33 ∷ 23 ∷ 0 ∷ []; lengths = 3 ∷ 4 ∷ 5 ∷ 10 ∷ 23 ∷ [] }
 
 -- "`HbfIntCascade` runs M = 23, 10, 5, 4, 3"
 unfoldable pub interpolation : Table
-unfolding hbfTaps
 interpolation = record { taps = hbfTaps; starts = 0 ∷ 23 ∷ 33 ∷ 38 ∷ 42 ∷ []; lengths = 23 ∷ 10 ∷ 5 ∷ 4 ∷ 3 ∷ [] }

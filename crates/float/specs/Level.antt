@@ -1,6 +1,6 @@
 -- 01, section 4: "The bits divided by 32768.0, exact".
 use mathlib.Core.Bool.{true, false}
-use Prim.Native.Nat.{ℕ, suc}
+use Prim.Native.Nat.{suc}
 use lib.IntN.{ℤ, pos, negsuc}
 use lib.Ieee.{Float, binary32, ofBits, ofInt, div}
 use lib.Ieee.Exact.{HasValue}

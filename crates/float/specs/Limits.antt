@@ -21,5 +21,4 @@ outside n low high = cond (ltb n low) true (ltb high n)
 
 -- blocks, 7: "samples empty, or samples or span over 65,536"
 unfoldable pub lengthsRefused : ℕ → ℕ → Bool
-unfolding outside
 lengthsRefused samples span = cond (outside samples 1 mostSamples) true (ltb mostSamples span)

@@ -1,4 +1,4 @@
--- The half-band filters with a state, a window of the last samples: 4M of them for the decimator, 2M for the interpolator. `proofs/Streams.antt` shows
+-- The half-band filters with a state, a window of the last samples: 4M of them for the decimator, 2M for the interpolator. `proofs/WholeLists.antt` shows
 -- that from a window of zeros they make what 01 says of the whole list.
 use mathlib.Core.List.{List, [], _∷_, _++_}
 use mathlib.Core.Option.{some}

@@ -2,6 +2,7 @@
 ghost use mathlib.Core.Path.{_≡_};
 ghost use mathlib.Core.List.{[], _∷_, _++_};
 ghost use Prim.Native.Nat.{_≤_, _-_, _*_};
+ghost use lib.Ieee.{binary32, add, mul};
 ghost use lib.ListN.{length, take, drop, replicate};
 ghost use Rattle.theory.specs.Sections.{state, outs};
 ghost use Rattle.float.specs.HalfBand.{zero32, flat};
@@ -20,6 +21,13 @@ fn move_down(window: &mut [f32], by: usize)
     }
 }
 
+// c[t] × (left + right)
+fn gain(tap: f32, left: f32, right: f32) -> f32
+    ensures { λ r. ⌜ r ≡ mul binary32 tap (add binary32 left right) ⌝ }
+{
+    tap * (left + right)
+}
+
 // From start, tap × (sum of two places as far from the window's two ends), tap 0 first.
 fn folded_sum(window: &[f32], taps: &[f32], step: usize, start: f32) -> f32
     requires { ⌜ (1 ≤ step) × (length (now window) ≡ 2 * step * length (now taps)) ⌝ }
@@ -29,14 +37,14 @@ fn folded_sum(window: &[f32], taps: &[f32], step: usize, start: f32) -> f32
     let mut acc = start;
     let mut t = 0;
     while t < taps.len() {
-        acc = acc + taps[t] * (window[step * t] + window[n - step - step * t]);
+        acc = acc + gain(taps[t], window[step * t], window[n - step - step * t]);
         t += 1;
     }
     acc
 }
 
 // The decimator takes a pair in, and gives its output.
-pub fn take_pair(window: &mut [f32], taps: &[f32], a: f32, b: f32) -> f32
+pub(crate) fn take_pair(window: &mut [f32], taps: &[f32], a: f32, b: f32) -> f32
     requires { ⌜ (1 ≤ length (now taps)) × (length (now window) ≡ 4 * length (now taps)) ⌝ }
     ensures { λ r. ⌜ (now (window .exit) ≡ slid (now (window .entry)) (a ∷ b ∷ [])) × (r ≡ decValue (now (taps .entry)) (slid (now (window .entry)) (a ∷ b ∷ []))) ⌝ }
 {
@@ -49,7 +57,7 @@ pub fn take_pair(window: &mut [f32], taps: &[f32], a: f32, b: f32) -> f32
 }
 
 // The decimator takes n pairs of src in, and their outputs stand in front of dst.
-pub fn decimate(window: &mut [f32], taps: &[f32], src: &[f32], dst: &mut [f32], n: usize)
+pub(crate) fn decimate(window: &mut [f32], taps: &[f32], src: &[f32], dst: &mut [f32], n: usize)
     requires { ⌜ (1 ≤ length (now taps)) × (length (now window) ≡ 4 * length (now taps)) × (2 * n ≤ length (now src)) × (n ≤ length (now dst)) ⌝ }
     ensures { λ _. ⌜ (now (window .exit) ≡ state (decimator (now (taps .entry))) (now (window .entry)) (take n (pairs (now (src .entry))))) × (now (dst .exit) ≡ outs (decimator (now (taps .entry))) (now (window .entry)) (take n (pairs (now (src .entry)))) ++ drop n (now (dst .entry))) ⌝ }
 {
@@ -62,13 +70,13 @@ pub fn decimate(window: &mut [f32], taps: &[f32], src: &[f32], dst: &mut [f32], 
 }
 
 // The two outputs that the interpolator makes of a sample.
-pub struct Both {
+pub(crate) struct Both {
     pub even: f32,
     pub odd: f32,
 }
 
 // The interpolator takes a sample in, and gives its outputs.
-pub fn take_sample(window: &mut [f32], taps: &[f32], x: f32) -> Both
+pub(crate) fn take_sample(window: &mut [f32], taps: &[f32], x: f32) -> Both
     requires { ⌜ (1 ≤ length (now taps)) × (length (now window) ≡ 2 * length (now taps)) ⌝ }
     ensures { λ r. ⌜ (now (window .exit) ≡ slid (now (window .entry)) (x ∷ [])) × ((r .even, r .odd) ≡ intValue (now (taps .entry)) (slid (now (window .entry)) (x ∷ []))) ⌝ }
 {
@@ -81,7 +89,7 @@ pub fn take_sample(window: &mut [f32], taps: &[f32], x: f32) -> Both
 }
 
 // The samples stand at the span's end.
-pub fn put_at_end(span: &mut [f32], src: &[f32])
+pub(crate) fn put_at_end(span: &mut [f32], src: &[f32])
     requires { ⌜ length (now src) ≤ length (now span) ⌝ }
     ensures { λ _. ⌜ now (span .exit) ≡ take (length (now (span .entry)) - length (now (src .entry))) (now (span .entry)) ++ now (src .entry) ⌝ }
 {
@@ -95,7 +103,7 @@ pub fn put_at_end(span: &mut [f32], src: &[f32])
 
 // The last n samples of the span go through the interpolator, and their 2n outputs stand at its end. An output is never written over a sample that is
 // still to be read: output 2i + 1 stands n - 1 - i places before sample i.
-pub fn expand(window: &mut [f32], taps: &[f32], span: &mut [f32], n: usize)
+pub(crate) fn expand(window: &mut [f32], taps: &[f32], span: &mut [f32], n: usize)
     requires { ⌜ (1 ≤ length (now taps)) × (length (now window) ≡ 2 * length (now taps)) × (2 * n ≤ length (now span)) ⌝ }
     ensures { λ _. ⌜ (now (window .exit) ≡ state (interpolator (now (taps .entry))) (now (window .entry)) (drop (length (now (span .entry)) - n) (now (span .entry)))) × (now (span .exit) ≡ take (length (now (span .entry)) - 2 * n) (now (span .entry)) ++ flat (outs (interpolator (now (taps .entry))) (now (window .entry)) (drop (length (now (span .entry)) - n) (now (span .entry))))) ⌝ }
 {
@@ -112,7 +120,7 @@ pub fn expand(window: &mut [f32], taps: &[f32], span: &mut [f32], n: usize)
 }
 
 // The interpolator takes src in, and its outputs fill the span.
-pub fn interpolate(window: &mut [f32], taps: &[f32], src: &[f32], span: &mut [f32])
+pub(crate) fn interpolate(window: &mut [f32], taps: &[f32], src: &[f32], span: &mut [f32])
     requires { ⌜ (1 ≤ length (now taps)) × (length (now window) ≡ 2 * length (now taps)) × (length (now span) ≡ 2 * length (now src)) ⌝ }
     ensures { λ _. ⌜ (now (window .exit) ≡ state (interpolator (now (taps .entry))) (now (window .entry)) (now (src .entry))) × (now (span .exit) ≡ flat (outs (interpolator (now (taps .entry))) (now (window .entry)) (now (src .entry)))) ⌝ }
 {
@@ -121,7 +129,7 @@ pub fn interpolate(window: &mut [f32], taps: &[f32], src: &[f32], span: &mut [f3
 }
 
 // The taps in front, and zeros behind them.
-pub fn padded(taps: &[f32]) -> [f32; 23]
+pub(crate) fn padded(taps: &[f32]) -> [f32; 23]
     requires { ⌜ length (now taps) ≤ 23 ⌝ }
     ensures { λ r. ⌜ r ≡ now (taps .entry) ++ replicate (23 - length (now (taps .entry))) zero32 ⌝ }
 {

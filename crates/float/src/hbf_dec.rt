@@ -10,6 +10,7 @@ use crate::half_band::take_pair;
 use crate::limits::MOST_HALF_BAND_TAPS;
 use crate::limits::lengths_refused;
 use crate::limits::outside;
+use crate::limits::pairs_in;
 use crate::limits::smaller;
 use refusal::Count;
 use refusal::Opening;
@@ -107,7 +108,7 @@ impl HbfDec {
                 state: self,
             };
         }
-        let n = smaller(dst.len(), src.len() / 2);
+        let n = smaller(dst.len(), pairs_in(src.len()));
         let coeffs = self.coeffs;
         let mut delay = self.delay;
         decimate(&mut delay[..4 * m], &coeffs[..m], src, dst, n);

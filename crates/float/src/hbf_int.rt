@@ -1,6 +1,5 @@
 // 01, section 7: the half-band interpolator, an even and an odd output of each sample.
 ghost use mathlib.Core.Path.{_≡_};
-ghost use mathlib.Core.List.{_++_};
 ghost use lib.ListN.{length};
 ghost use Rattle.refusal.specs.Outcome.{openingNumber};
 ghost use Rattle.float.specs.Answers.{toldOpening, toldCount};
@@ -11,6 +10,7 @@ use crate::half_band::take_sample;
 use crate::limits::MOST_HALF_BAND_TAPS;
 use crate::limits::lengths_refused;
 use crate::limits::outside;
+use crate::limits::pairs_in;
 use crate::limits::smaller;
 use refusal::Count;
 use refusal::Opening;
@@ -111,7 +111,7 @@ impl HbfInt {
                 state: self,
             };
         }
-        let n = smaller(src.len(), dst.len() / 2);
+        let n = smaller(src.len(), pairs_in(dst.len()));
         let coeffs = self.coeffs;
         let mut delay = self.delay;
         interpolate(

@@ -14,8 +14,7 @@ ghost use Rattle.float.specs.HbfIntCascade.{intStage, upsampled, intCasc
 use crate::half_band::expand;
 use crate::half_band::put_at_end;
 use crate::hbf_taps::HBF_TAPS;
-use crate::hbf_taps::INTERPOLATION_LENGTHS;
-use crate::hbf_taps::INTERPOLATION_STARTS;
+use crate::hbf_taps::interpolation_stage;
 use crate::limits::MOST_STAGES;
 use crate::limits::lengths_refused;
 use crate::limits::outside;
@@ -46,11 +45,11 @@ fn expand_stage(k: usize, delays: &mut [f32], span: &mut [f32], n: usize)
     requires { ⌜ (k < 5) × (length (now delays) ≡ 240) × (2 * n ≤ length (now span)) ⌝ }
     ensures { λ _. ⌜ (now (delays .exit) ≡ spliced (48 * k) (2 * length (stageTaps interpolation k)) (state (interpolator (stageTaps interpolation k)) (intStage (stageTaps interpolation) k (now (delays .entry))) (drop (length (now (span .entry)) - n) (now (span .entry)))) (now (delays .entry))) × (now (span .exit) ≡ take (length (now (span .entry)) - 2 * n) (now (span .entry)) ++ flat (outs (interpolator (stageTaps interpolation k)) (intStage (stageTaps interpolation) k (now (delays .entry))) (drop (length (now (span .entry)) - n) (now (span .entry))))) ⌝ }
 {
-    let first = INTERPOLATION_STARTS[k];
-    let m = INTERPOLATION_LENGTHS[k];
+    let taps = interpolation_stage(k);
+    let first = taps.first;
+    let end = first + taps.count;
     let from = 48 * k;
-    let past = from + 2 * m;
-    let end = first + m;
+    let past = from + 2 * taps.count;
     expand(&mut delays[from..past], &HBF_TAPS[first..end], span, n)
 }
 

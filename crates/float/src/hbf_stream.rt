@@ -1,6 +1,6 @@
 // 01, section 4, in the line: the half-band cascade fed sample by sample. A stage holds an odd sample until its partner comes.
 ghost use mathlib.Core.Path.{_≡_};
-ghost use Prim.Native.Nat.{_*_, _≤_, _<_};
+ghost use Prim.Native.Nat.{_*_, _<_};
 ghost use mathlib.Core.List.{[], _∷_};
 ghost use lib.ListN.{length, take, drop};
 ghost use Rattle.refusal.specs.Outcome.{openingNumber};
@@ -9,9 +9,8 @@ ghost use Rattle.float.specs.HbfTaps.{stageTaps, decimation};
 ghost use Rattle.float.specs.Windows.{slid, decValue, spliced};
 ghost use Rattle.float.specs.HbfStream.{streamOf, streamFresh, hbfStream, valueOf, answered, streamOpening, streamReset, streamStep, streamRefused, toldStreamStep, StreamMeets};
 use crate::half_band::take_pair;
-use crate::hbf_taps::DECIMATION_LENGTHS;
-use crate::hbf_taps::DECIMATION_STARTS;
 use crate::hbf_taps::HBF_TAPS;
+use crate::hbf_taps::decimation_stage;
 use crate::limits::MOST_STAGES;
 use crate::limits::smaller;
 use refusal::Opening;
@@ -52,11 +51,11 @@ fn stage_pair(k: usize, delays: &mut [f32], a: f32, b: f32) -> f32
     requires { ⌜ (k < 5) × (length (now delays) ≡ 480) ⌝ }
     ensures { λ r. ⌜ (now (delays .exit) ≡ spliced (96 * k) (4 * length (stageTaps decimation k)) (slid (take (4 * length (stageTaps decimation k)) (drop (96 * k) (now (delays .entry)))) (a ∷ b ∷ [])) (now (delays .entry))) × (r ≡ decValue (stageTaps decimation k) (slid (take (4 * length (stageTaps decimation k)) (drop (96 * k) (now (delays .entry)))) (a ∷ b ∷ []))) ⌝ }
 {
-    let first = DECIMATION_STARTS[k];
-    let m = DECIMATION_LENGTHS[k];
+    let taps = decimation_stage(k);
+    let first = taps.first;
+    let end = first + taps.count;
     let from = 96 * k;
-    let past = from + 4 * m;
-    let end = first + m;
+    let past = from + 4 * taps.count;
     take_pair(&mut delays[from..past], &HBF_TAPS[first..end], a, b)
 }
 

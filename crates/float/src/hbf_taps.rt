@@ -1,6 +1,7 @@
 // The 140 dB half-band taps of the Rust, one table: 23 taps from 0 on, 10 from 23, 5 from 33, 4 from 38 and 3 from 42.
 ghost use mathlib.Core.Path.{_≡_};
-ghost use Rattle.float.specs.HbfTaps.{hbfTaps};
+ghost use Prim.Native.Nat.{_<_};
+ghost use Rattle.float.specs.HbfTaps.{hbfTaps, decimation, interpolation, PlaceOf};
 
 pub const HBF_TAPS: [f32; 45] = [
     7.60375795e-07,
@@ -50,15 +51,41 @@ pub const HBF_TAPS: [f32; 45] = [
     0.58622005,
 ];
 
-// Where the taps of each stage of a decimation begin, and how many they are, from the highest rate on.
-pub const DECIMATION_STARTS: [usize; 5] = [42, 38, 33, 23, 0];
+// Where a stage's taps begin in the table, and how many they are.
+pub(crate) struct StageTaps {
+    pub first: usize,
+    pub count: usize,
+}
 
-pub const DECIMATION_LENGTHS: [usize; 5] = [3, 4, 5, 10, 23];
+// The stages of a decimation, from the highest rate on.
+const DECIMATION_STARTS: [usize; 5] = [42, 38, 33, 23, 0];
 
-// The same of an interpolation, from the lowest rate on.
-pub const INTERPOLATION_STARTS: [usize; 5] = [0, 23, 33, 38, 42];
+const DECIMATION_LENGTHS: [usize; 5] = [3, 4, 5, 10, 23];
 
-pub const INTERPOLATION_LENGTHS: [usize; 5] = [23, 10, 5, 4, 3];
+pub(crate) fn decimation_stage(k: usize) -> StageTaps
+    requires { ⌜ k < 5 ⌝ }
+    ensures { λ r. ⌜ PlaceOf decimation k (r .first) (r .count) ⌝ }
+{
+    StageTaps {
+        first: DECIMATION_STARTS[k],
+        count: DECIMATION_LENGTHS[k],
+    }
+}
+
+// The stages of an interpolation, from the lowest rate on.
+const INTERPOLATION_STARTS: [usize; 5] = [0, 23, 33, 38, 42];
+
+const INTERPOLATION_LENGTHS: [usize; 5] = [23, 10, 5, 4, 3];
+
+pub(crate) fn interpolation_stage(k: usize) -> StageTaps
+    requires { ⌜ k < 5 ⌝ }
+    ensures { λ r. ⌜ PlaceOf interpolation k (r .first) (r .count) ⌝ }
+{
+    StageTaps {
+        first: INTERPOLATION_STARTS[k],
+        count: INTERPOLATION_LENGTHS[k],
+    }
+}
 
 // The table, each entry the f32 nearest to its printed decimal.
 pub fn hbf_tap_table() -> [f32; 45]

@@ -1,9 +1,9 @@
 // The operations of HbfDec. Each takes the words behind its code: its inputs, then the answers.
 use float::HbfDec;
-use float::hbf_dec::HbfDecBlock;
-use float::hbf_dec::HbfDecOpening;
-use float::hbf_dec::HbfDecOut;
-use float::hbf_dec::HbfDecStep;
+use float::HbfDecBlock;
+use float::HbfDecOpening;
+use float::HbfDecOut;
+use float::HbfDecStep;
 use records::answers::same_count;
 use records::answers::same_opening;
 use records::answers::same_refusal;

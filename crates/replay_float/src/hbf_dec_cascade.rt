@@ -1,7 +1,7 @@
 // The operations of HbfDecCascade. Each takes the words behind its code: its inputs, then the answers.
 use float::HbfDecCascade;
-use float::hbf_dec_cascade::HbfDecCascadeBlock;
-use float::hbf_dec_cascade::HbfDecCascadeOpening;
+use float::HbfDecCascadeBlock;
+use float::HbfDecCascadeOpening;
 use records::answers::same_count;
 use records::answers::same_opening;
 use records::slices::behind;

@@ -1,9 +1,9 @@
 // The operations of HbfInt. Each takes the words behind its code: its inputs, then the answers.
 use float::HbfInt;
-use float::hbf_int::HbfIntBlock;
-use float::hbf_int::HbfIntOpening;
-use float::hbf_int::HbfIntOut;
-use float::hbf_int::HbfIntStep;
+use float::HbfIntBlock;
+use float::HbfIntOpening;
+use float::HbfIntOut;
+use float::HbfIntStep;
 use records::answers::same_count;
 use records::answers::same_opening;
 use records::answers::same_refusal;

@@ -1,7 +1,7 @@
 // The operations of HbfIntCascade. Each takes the words behind its code: its inputs, then the answers.
 use float::HbfIntCascade;
-use float::hbf_int_cascade::HbfIntCascadeBlock;
-use float::hbf_int_cascade::HbfIntCascadeOpening;
+use float::HbfIntCascadeBlock;
+use float::HbfIntCascadeOpening;
 use records::answers::same_count;
 use records::answers::same_opening;
 use records::slices::behind;

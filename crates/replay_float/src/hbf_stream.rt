@@ -1,8 +1,8 @@
 // The operations of HbfStream. Each takes the words behind its code: its inputs, then the answers.
 use float::HbfStream;
-use float::hbf_stream::HbfStreamOpening;
-use float::hbf_stream::HbfStreamOut;
-use float::hbf_stream::HbfStreamStep;
+use float::HbfStreamOpening;
+use float::HbfStreamOut;
+use float::HbfStreamStep;
 use records::answers::same_opening;
 use records::answers::same_refusal;
 use records::slices::behind;

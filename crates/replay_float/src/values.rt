@@ -1,11 +1,11 @@
 // What has no state: linear resampling, Q15 to f32, the response lengths, the half-band table. Each takes the words behind its code: its inputs, then the
 // answers.
+use float::ResponseLength;
 use float::hbf_dec_response_length;
 use float::hbf_int_response_length;
 use float::hbf_tap_table;
 use float::q15_to_f32;
 use float::resample_linear_f32;
-use float::response_length::ResponseLength;
 use q15::Q15;
 use records::answers::same_count;
 use records::answers::same_refusal;

@@ -1,11 +1,11 @@
 -- `float::half_band::expand` meets its contract: after i turns the outputs of the first i samples stand in front of the samples left.
 use mathlib.Core.Path.{_≡_, refl, sym, ap, _∙_, subst}
-use mathlib.Core.List.{List, [], _∷_}
+use mathlib.Core.List.{[], _∷_}
 use mathlib.Core.Option.{Option, some}
-use Prim.Native.Nat.{ℕ, _+_, _*_, _-_, _≤_, _<_}
+use Prim.Native.Nat.{ℕ, _-_, _≤_}
 use native.Mathlib.Nat.{le-antisymm}
-use lib.ListN.{length, getD, drop, length-set}
-use lib.Ieee.{Float, nan}
+use lib.ListN.{length, drop, length-set}
+use lib.Ieee.{Float}
 use denote.Ref.{now}
 use Rattle.float.specs.Windows.{slid, intValue, interpolator}
 use Rattle.float.proofs.Moving.{length-slid}

@@ -1,9 +1,9 @@
--- `float::half_band::folded_sum` meets its contract: acc is the sum over the taps so far; a tap below M has both its places inside the window.
 use mathlib.Core.Path.{_≡_, refl, ap, _∙_}
-use Prim.Native.Nat.{ℕ, _+_, _*_, _-_, _≤_, _<_}
+use Prim.Native.Nat.{ℕ, _-_, _≤_}
 use native.Mathlib.Nat.{le-antisymm}
 use native.Mathlib.Numerals.{add-one}
 use lib.ListN.{length}
+use lib.Ieee.{Float, binary32, add}
 use denote.Ref.{now}
 use Rattle.float.specs.Windows.{folded}
 use Rattle.float.proofs.Folding.{Inside, inside}
@@ -19,42 +19,45 @@ abbrev μ-loop : tie.MeasureT-loop
 μ-loop window taps step start n acc₀ t₀ acc t = length taps - t
 
 -- tap t's two places
-both : (c : tie.In-loop Inv-loop μ-loop) → let a = c .before .before .args in Inside (a .step) (length (now (a .taps))) (length (now (a .window))) (c .before .loop .t)
-both c = inside _ _ _ _ (c .before .before .pre .1) (c .loop-test .taken)
+both : (c : tie.In-loop Inv-loop μ-loop) → let a = c .before .before .before .before .args in Inside (a .step) (length (now (a .taps))) (length (now (a .window))) (c .before .loop .t)
+both c = inside _ _ _ _ (c .before .before .before .before .pre .1) (c .loop-test .taken)
 
 loop-holds : tie.Need-loop-holds Inv-loop μ-loop
 unfolding folded
 loop-holds c = search needs
 
-mul-acc : tie.Need-mul-acc Inv-loop μ-loop
-mul-acc c = search needs
+mul-gain : tie.Need-mul-gain Inv-loop μ-loop
+mul-gain c = search needs
 
-shared-slice-read-acc : tie.Need-shared-slice-read-acc Inv-loop μ-loop
-shared-slice-read-acc c = search needs
+shared-slice-read-gain : tie.Need-shared-slice-read-gain Inv-loop μ-loop
+shared-slice-read-gain c = search needs
 
-mul-acc-2 : tie.Need-mul-acc-2 Inv-loop μ-loop
-mul-acc-2 c = omega (arith, both (c .before))
+mul-gain-2 : tie.Need-mul-gain-2 Inv-loop μ-loop
+mul-gain-2 c = omega (arith, both (c .before))
 
-mul-acc-3 : tie.Need-mul-acc-3 Inv-loop μ-loop
-mul-acc-3 c = omega (arith, both (c .before))
+mul-gain-3 : tie.Need-mul-gain-3 Inv-loop μ-loop
+mul-gain-3 c = omega (arith, both (c .before))
 
-shared-slice-read-acc-2 : tie.Need-shared-slice-read-acc-2 Inv-loop μ-loop
-shared-slice-read-acc-2 c = omega (arith, both (c .before .before))
+shared-slice-read-gain-2 : tie.Need-shared-slice-read-gain-2 Inv-loop μ-loop
+shared-slice-read-gain-2 c = omega (arith, both (c .before .before))
 
-sub-acc : tie.Need-sub-acc Inv-loop μ-loop
-sub-acc c = omega (arith, both (c .before .before))
+sub-gain : tie.Need-sub-gain Inv-loop μ-loop
+sub-gain c = omega (arith, both (c .before .before))
 
-mul-acc-4 : tie.Need-mul-acc-4 Inv-loop μ-loop
-mul-acc-4 c = omega (arith, both (c .before .before))
+mul-gain-4 : tie.Need-mul-gain-4 Inv-loop μ-loop
+mul-gain-4 c = omega (arith, both (c .before .before))
 
-sub-acc-2 : tie.Need-sub-acc-2 Inv-loop μ-loop
-sub-acc-2 c = omega (arith, both (c .before .before))
+sub-gain-2 : tie.Need-sub-gain-2 Inv-loop μ-loop
+sub-gain-2 c = omega (arith, both (c .before .before))
 
-mul-acc-5 : tie.Need-mul-acc-5 Inv-loop μ-loop
-mul-acc-5 c = omega (arith, both (c .before .before))
+mul-gain-5 : tie.Need-mul-gain-5 Inv-loop μ-loop
+mul-gain-5 c = omega (arith, both (c .before .before))
 
-shared-slice-read-acc-3 : tie.Need-shared-slice-read-acc-3 Inv-loop μ-loop
-shared-slice-read-acc-3 c = omega (arith, both (c .before .before .before))
+shared-slice-read-gain-3 : tie.Need-shared-slice-read-gain-3 Inv-loop μ-loop
+shared-slice-read-gain-3 c = omega (arith, both (c .before .before .before))
+
+gain-requires : tie.Need-gain-requires Inv-loop μ-loop
+gain-requires c κs = search needs
 
 add-t : tie.Need-add-t Inv-loop μ-loop
 add-t c = search needs
@@ -64,10 +67,11 @@ loop-less c = search needs
 
 loop-again : tie.Need-loop-again Inv-loop μ-loop
 unfolding folded
-loop-again c = (omega arith, refl, rw (add-one, c .before .before .before .before .loop .inv .2))
+loop-again c = let l = c .before .before .before .before .before .loop in
+    (omega arith, refl, ap (λ (y : Float). add binary32 (l .acc) y) (c .gain .ensures) ∙ rw (add-one, l .inv .2))
 
 returns : tie.Need-returns Inv-loop μ-loop
-returns c = let a = c .before .before .args in
+returns c = let a = c .before .before .before .before .args in
     c .before .loop .inv .2 ∙ ap (λ (t : ℕ). folded (a .step) (now (a .taps)) (now (a .window)) (a .start) t) (le-antisymm (c .before .loop .inv .0) (c .loop-test .left))
 
 pub folded-sum-spec : {M : Type 1} → statement M
@@ -77,16 +81,17 @@ folded-sum-spec =
     Inv-loop
     μ-loop
     loop-holds
-    mul-acc
-    shared-slice-read-acc
-    mul-acc-2
-    mul-acc-3
-    shared-slice-read-acc-2
-    sub-acc
-    mul-acc-4
-    sub-acc-2
-    mul-acc-5
-    shared-slice-read-acc-3
+    mul-gain
+    shared-slice-read-gain
+    mul-gain-2
+    mul-gain-3
+    shared-slice-read-gain-2
+    sub-gain
+    mul-gain-4
+    sub-gain-2
+    mul-gain-5
+    shared-slice-read-gain-3
+    gain-requires
     add-t
     loop-less
     loop-again

@@ -1,7 +1,7 @@
 -- `float::half_band::interpolate` meets its contract: the samples put at the end of the span are all that is expanded.
-use mathlib.Core.Path.{_≡_, sym, ap, _∙_}
+use mathlib.Core.Path.{_≡_, ap, _∙_}
 use mathlib.Core.List.{List, _++_}
-use Prim.Native.Nat.{ℕ, _-_, _*_, _≤_}
+use Prim.Native.Nat.{ℕ, _-_, _*_}
 use lib.ListN.{length, take, drop}
 use lib.Ieee.{Float}
 use denote.Ref.{now}

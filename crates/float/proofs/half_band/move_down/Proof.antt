@@ -1,7 +1,7 @@
 -- `float::half_band::move_down` meets its contract: the invariant is the window as the turns so far have moved it.
 use mathlib.Core.Path.{_≡_, refl, ap, _∙_}
 use mathlib.Core.List.{List}
-use Prim.Native.Nat.{ℕ, _+_, _-_, _≤_, _<_}
+use Prim.Native.Nat.{ℕ, _+_, _-_, _≤_}
 use lib.ListN.{length, getD, set, length-set}
 use lib.Ieee.{Float, nan}
 use Rattle.float.proofs.Moving.{moved, turn, all-moved}

@@ -1,13 +1,13 @@
 -- `float::half_band::take_pair` meets its contract: the two stores behind the moved window make the slid one, and the sum is taken of that.
 use mathlib.Core.Path.{_≡_, ap, _∙_}
 use mathlib.Core.List.{List, [], _∷_}
-use Prim.Native.Nat.{ℕ, _+_, _*_, _-_, _≤_, _<_}
+use Prim.Native.Nat.{_*_, _-_}
 use lib.ListN.{length, getD, set, length-set}
 use lib.Ieee.{Float, nan, binary32, mul}
 use denote.Ref.{now}
 use Rattle.float.specs.HalfBand.{half32}
 use Rattle.float.specs.Windows.{slid, folded, decValue}
-use Rattle.float.proofs.Moving.{pair-in, length-slid}
+use Rattle.float.proofs.Moving.{pair-in}
 use native.Mathlib.Omega.{arith}
 use borrow.Author.Needs.{needs}
 use Rattle.float.proofs.half_band.take_pair.Statement.{statement}

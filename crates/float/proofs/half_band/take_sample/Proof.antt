@@ -1,9 +1,9 @@
 -- `float::half_band::take_sample` meets its contract: the store behind the moved window makes the slid one, and both outputs are read of that.
 use mathlib.Core.Path.{_≡_, ap, _∙_}
 use mathlib.Core.List.{List, [], _∷_}
-use Prim.Native.Nat.{ℕ, _+_, _*_, _-_, _≤_, _<_}
+use Prim.Native.Nat.{_-_}
 use lib.ListN.{length, getD, set, length-set}
-use lib.Ieee.{Float, nan, binary32, mul}
+use lib.Ieee.{Float, nan}
 use denote.Ref.{now}
 use Rattle.float.specs.HalfBand.{zero32}
 use Rattle.float.specs.Windows.{slid, folded, intValue}

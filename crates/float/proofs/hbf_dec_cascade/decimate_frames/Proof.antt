@@ -1,11 +1,10 @@
 -- `float::hbf_dec_cascade::decimate_frames` meets its contract: the span has the outputs of the samples taken, of which whole frames make one each.
-use mathlib.Core.Path.{_≡_, refl, sym, ap, _∙_, subst}
-use mathlib.Core.List.{List, _++_}
-use mathlib.Core.Option.{none, some}
+use mathlib.Core.Path.{_≡_, sym, ap, _∙_, subst}
+use mathlib.Core.List.{_++_}
 use Prim.Native.Nat.{ℕ, _+_, _*_, _-_, _≤_, _<_, _^_}
 use native.Mathlib.Nat.{le-antisymm}
-use lib.ListN.{length, getD, take, drop, set}
-use lib.Ieee.{Float, nan}
+use lib.ListN.{length, take, drop}
+use lib.Ieee.{nan}
 use denote.Ref.{now}
 use Rattle.theory.specs.Sections.{outs}
 use Rattle.float.specs.HbfStream.{hbfStream, streamOf, valueOf}

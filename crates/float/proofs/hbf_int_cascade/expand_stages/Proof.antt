@@ -1,6 +1,6 @@
 -- `float::hbf_int_cascade::expand_stages` meets its contract: what the stages left make of the values at the end of the span is what all make of the samples.
-use mathlib.Core.Path.{_≡_, sym, ap, _∙_}
-use Prim.Native.Nat.{ℕ, _*_, _-_, _^_, _≤_, _<_}
+use mathlib.Core.Path.{_≡_, sym, _∙_}
+use Prim.Native.Nat.{_*_, _-_, _^_, _≤_, _<_}
 use lib.ListN.{length}
 use denote.Ref.{now}
 use Rattle.float.specs.HbfTaps.{stageTaps, interpolation}

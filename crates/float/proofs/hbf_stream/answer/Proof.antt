@@ -1,7 +1,6 @@
 -- `float::hbf_stream::answer` meets its contract: an arm for each case.
 use mathlib.Core.Path.{ap, sym}
 use Rattle.float.specs.HbfStream.{answered}
-use native.Mathlib.Omega.{arith}
 use borrow.Author.Needs.{needs}
 use Rattle.float.proofs.hbf_stream.answer.Statement.{statement}
 use Rattle.float.proofs.hbf_stream.answer.Tie as tie

@@ -1,18 +1,16 @@
 -- `float::hbf_stream::hbf_stream_at` meets its contract: what is left for the stages from k on is what the whole cascade makes of the sample.
-use mathlib.Core.Path.{_≡_, refl, sym, ap, _∙_}
+use mathlib.Core.Path.{_≡_, sym, ap, _∙_}
 use mathlib.Core.List.{List, [], _∷_}
-use mathlib.Core.Option.{Option, some}
-use Prim.Native.Nat.{ℕ, _+_, _*_, _-_, _≤_, _<_, min}
+use mathlib.Core.Option.{some}
+use Prim.Native.Nat.{ℕ, _*_, _-_, _≤_, _<_, min}
 use native.Mathlib.Nat.{sub-zero}
-use lib.ListN.{length, getD, set, take, drop, length-drop}
+use lib.ListN.{length, getD, take, drop, length-drop}
 use lib.Seq.{length-take-le}
 use lib.Ieee.{Float, nan}
 use denote.Ref.{now}
-use Rattle.float.specs.HalfBand.{zero32}
 use Rattle.float.specs.HbfTaps.{stageTaps, decimation}
 use Rattle.float.specs.Windows.{slid, spliced}
 use Rattle.float.specs.HbfStream.{Passed, streamOf, through, stream, hbfStream}
-use Rattle.float.specs.declared.hbf_stream.HbfStream.{HbfStream}
 use Rattle.float.proofs.Moving.{length-slid}
 use Rattle.float.proofs.Splicing.{length-splice}
 use Rattle.float.proofs.Passing.{kept, paired, ended}

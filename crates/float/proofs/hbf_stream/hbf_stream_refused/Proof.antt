@@ -1,8 +1,8 @@
 -- `float::hbf_stream::hbf_stream_refused` meets its contract: the stages passed hold at most one sample each.
-use mathlib.Core.Path.{_≡_, sym, subst}
+use mathlib.Core.Path.{sym, subst}
 use Prim.Native.Nat.{ℕ, _-_, _≤_}
 use native.Mathlib.Nat.{le-antisymm}
-use borrow.Author.Count.{below-none, below-more}
+use borrow.Author.Count.{below-more}
 use Rattle.float.proofs.HeldOnes.{AtMostOne, not-refused, too-deep, too-many}
 use native.Mathlib.Omega.{arith}
 use borrow.Author.Needs.{needs}

@@ -1,47 +1,60 @@
 -- `float::hbf_stream::stage_pair` meets its contract: the parts lent are the window and the taps of stage k.
 use mathlib.Core.Path.{_≡_, ap, _∙_}
 use mathlib.Core.List.{List, [], _∷_}
-use Prim.Native.Nat.{ℕ, _+_, _*_, _-_, _≤_, _<_}
-use lib.ListN.{length, getD, take, drop}
+use Prim.Native.Nat.{ℕ, _+_, _*_, _-_}
+use lib.ListN.{length, take, drop}
 use lib.Ieee.{Float}
 use denote.Ref.{now}
 use Rattle.float.specs.HbfTaps.{stageTaps, decimation}
 use Rattle.float.specs.Windows.{slid, decValue, spliced}
+use Rattle.float.proofs.Decimals.{patterns}
 use Rattle.float.proofs.Parts.{part-long}
-use Rattle.float.proofs.StageTables.{decLengths, dec-placed, dec-length, dec-count, dec-part-taps, dec-stages}
+use Rattle.float.proofs.StageTables.{dec-fits, dec-stages, Placed, place, part-taps, part-count}
 use native.Mathlib.Omega.{arith}
 use borrow.Author.Needs.{needs}
 use Rattle.float.proofs.hbf_stream.stage_pair.Statement.{statement}
 use Rattle.float.proofs.hbf_stream.stage_pair.Tie as tie
 
--- the part of the delays, as long as the code computes it
-window-long : (k : ℕ) (d : List Float) → k < 5 → length d ≡ 480 → length (take (96 * k + 4 * getD decLengths k 0 - 96 * k) (drop (96 * k) d)) ≡ 4 * length (stageTaps decimation k)
-window-long k d h e =
-    ap (λ (n : ℕ). length (take n (drop (96 * k) d))) (dec-count k h) ∙ part-long 96 (λ j. 4 * length (stageTaps decimation j)) (λ j l. omega (arith, dec-stages .most j l)) d e k h
+abbrev begun : tie.After-decimation-stage → tie.Start
+begun c = c .before .before
 
-mul-first : tie.Need-mul-first
-mul-first c = search needs
+-- the place of the stage's taps, and the parts that the code computes from it
+placed : (c : tie.After-decimation-stage) → Placed (c .decimation-stage .result .first) (c .decimation-stage .result .count)
+placed c = place decimation dec-fits _ _ _ (begun c .pre .0) (c .decimation-stage .ensures)
 
-array-read-first : tie.Need-array-read-first
-array-read-first c = search needs
+taps-of :
+    (c : tie.After-decimation-stage) →
+    let r = c .decimation-stage .result in
+    take (r .first + r .count - r .first) (drop (r .first) patterns) ≡ stageTaps decimation (begun c .args .k)
+taps-of c = part-taps decimation dec-fits _ _ _ (begun c .pre .0) (c .decimation-stage .ensures)
 
-mul-m : tie.Need-mul-m
-mul-m c = search needs
+count-of : (c : tie.After-decimation-stage) → let k = begun c .args .k in 96 * k + 4 * c .decimation-stage .result .count - 96 * k ≡ 4 * length (stageTaps decimation k)
+count-of c = part-count decimation dec-fits _ _ _ (begun c .pre .0) (c .decimation-stage .ensures) 4 96
 
-array-read-m : tie.Need-array-read-m
-array-read-m c = search needs
+window-long :
+    (c : tie.After-decimation-stage) →
+    let k = begun c .args .k in
+    length (take (96 * k + 4 * c .decimation-stage .result .count - 96 * k) (drop (96 * k) (now (begun c .args .delays)))) ≡ 4 * length (stageTaps decimation k)
+window-long c =
+    let k = begun c .args .k in
+    let d = now (begun c .args .delays) in
+    ap (λ (n : ℕ). length (take n (drop (96 * k) d))) (count-of c)
+    ∙ part-long 96 (λ j. 4 * length (stageTaps decimation j)) (λ j l. omega (arith, dec-stages .most j l)) d (begun c .pre .1) k (begun c .pre .0)
+
+decimation-stage-requires : tie.Need-decimation-stage-requires
+decimation-stage-requires c κs = search needs
+
+add-end : tie.Need-add-end
+add-end c = omega (arith, placed (c .before))
 
 mul-from : tie.Need-mul-from
 mul-from c = search needs
 
 mul-past : tie.Need-mul-past
-mul-past c = omega (arith, dec-placed (c .before .args .k) (c .before .pre .0))
+mul-past c = omega (arith, placed (c .before .before))
 
 add-past : tie.Need-add-past
-add-past c = omega (arith, dec-placed (c .before .args .k) (c .before .pre .0))
-
-add-end : tie.Need-add-end
-add-end c = omega (arith, dec-placed (c .before .args .k) (c .before .pre .0))
+add-past c = omega (arith, placed (c .before .before), begun (c .before .before) .pre)
 
 mul-take-pair : tie.Need-mul-take-pair
 mul-take-pair c = search needs
@@ -53,10 +66,10 @@ part-take-pair-start : tie.Need-part-take-pair-start
 part-take-pair-start c = search needs
 
 part-take-pair-end : tie.Need-part-take-pair-end
-part-take-pair-end c = omega (arith, dec-placed (c .before .args .k) (c .before .pre .0))
+part-take-pair-end c = omega (arith, placed (c .before .before), begun (c .before .before) .pre)
 
 mul-take-pair-2 : tie.Need-mul-take-pair-2
-mul-take-pair-2 c = omega (arith, dec-placed (c .before .before .args .k) (c .before .before .pre .0))
+mul-take-pair-2 c = omega (arith, placed (c .before .before .before))
 
 sub-take-pair-2 : tie.Need-sub-take-pair-2
 sub-take-pair-2 c = search needs
@@ -65,46 +78,38 @@ part-take-pair-start-2 : tie.Need-part-take-pair-start-2
 part-take-pair-start-2 c = search needs
 
 part-take-pair-end-2 : tie.Need-part-take-pair-end-2
-part-take-pair-end-2 c = dec-placed (c .before .before .before .args .k) (c .before .before .before .pre .0) .inside
+part-take-pair-end-2 c = placed (c .before .before .before .before) .inside
 
 take-pair-requires : tie.Need-take-pair-requires
-take-pair-requires c κs = let s = c .before .before .before .before in
-    let k = s .args .k in
-    let l = dec-stages .least k (s .pre .0) in
-    let t = ap length (dec-part-taps k) in
-    let w = window-long k (now (s .args .delays)) (s .pre .0) (s .pre .1) in
+take-pair-requires c κs = let m = c .before .before .before .before .before in
+    let l = dec-stages .least (begun m .args .k) (begun m .pre .0) in
+    let t = ap length (taps-of m) in
+    let w = window-long m in
     (omega arith, omega arith)
 
 same-length : tie.Need-same-length
 same-length c = search needs
 
 returns : tie.Need-returns
-returns c = let s = c .before .before .before .before .before .before .before in
-    let k = s .args .k in
-    let a = s .args .a in
-    let b = s .args .b in
-    let d = now (s .args .delays) in
+returns c = let m = c .before .before .before .before .before .before .before .before in
+    let k = begun m .args .k in
+    let p = begun m .args .a ∷ begun m .args .b ∷ [] in
+    let d = now (begun m .args .delays) in
     let o = c .before .before .take-pair in
-    let e = dec-count k (s .pre .0) in (
-      ap (λ (w : List Float). spliced (96 * k) (96 * k + 4 * getD decLengths k 0 - 96 * k) w d) (o .ensures .0)
-          ∙ ap (λ (n : ℕ). spliced (96 * k) n (slid (take n (drop (96 * k) d)) (a ∷ b ∷ [])) d) e,
-      o .ensures .1
-          ∙ ap (λ (t : List Float). decValue t (slid (take (96 * k + 4 * getD decLengths k 0 - 96 * k) (drop (96 * k) d)) (a ∷ b ∷ []))) (dec-part-taps k)
-          ∙ ap (λ (n : ℕ). decValue (stageTaps decimation k) (slid (take n (drop (96 * k) d)) (a ∷ b ∷ []))) e,
+    let i = 96 * k + 4 * m .decimation-stage .result .count - 96 * k in (
+      ap (λ (w : List Float). spliced (96 * k) i w d) (o .ensures .0) ∙ ap (λ (n : ℕ). spliced (96 * k) n (slid (take n (drop (96 * k) d)) p) d) (count-of m),
+      o .ensures .1 ∙ ap (λ (t : List Float). decValue t (slid (take i (drop (96 * k) d)) p)) (taps-of m) ∙ ap (λ (n : ℕ). decValue (stageTaps decimation k) (slid (take n (drop (96 * k) d)) p)) (count-of m),
     )
 
 pub stage-pair-spec : {M : Type 1} → statement M
 stage-pair-spec =
     tie.close
     (tie.spec
-    mul-first
-    array-read-first
-    mul-m
-    array-read-m
+    decimation-stage-requires
+    add-end
     mul-from
     mul-past
     add-past
-    add-end
     mul-take-pair
     sub-take-pair
     part-take-pair-start

@@ -7,7 +7,6 @@ use mir.Val.{SFits, toZ, ofZ}
 use mir.ValLaws.{toZ-ofZ}
 use Rattle.float.specs.Level.{level, IsLevel}
 use Rattle.float.proofs.Levels.{exact}
-use native.Mathlib.Omega.{arith}
 use borrow.Author.Needs.{needs}
 use Rattle.float.proofs.level.q15_to_f32.Statement.{statement}
 use Rattle.float.proofs.level.q15_to_f32.Tie as tie

@@ -1,7 +1,6 @@
 -- `float::limits::lengths_refused` meets its contract: its two tests are those of the definition.
 use mathlib.Core.Path.{sym, _∙_}
 use Rattle.float.specs.Limits.{lengthsRefused}
-use native.Mathlib.Omega.{arith}
 use borrow.Author.Needs.{needs}
 use Rattle.float.proofs.limits.lengths_refused.Statement.{statement}
 use Rattle.float.proofs.limits.lengths_refused.Tie as tie

@@ -1,8 +1,6 @@
 -- `float::limits::outside` meets its contract: its two tests are those of the definition.
 use borrow.Author.Tests.{lt-ltb, le-ltb}
 use Rattle.float.specs.Limits.{outside}
-use native.Mathlib.Omega.{arith}
-use borrow.Author.Needs.{needs}
 use Rattle.float.proofs.limits.outside.Statement.{statement}
 use Rattle.float.proofs.limits.outside.Tie as tie
 

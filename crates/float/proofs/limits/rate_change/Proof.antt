@@ -1,6 +1,5 @@
 -- `float::limits::rate_change` meets its contract: the table has the powers of two.
 use Rattle.float.proofs.StageTables.{rate}
-use native.Mathlib.Omega.{arith}
 use borrow.Author.Needs.{needs}
 use Rattle.float.proofs.limits.rate_change.Statement.{statement}
 use Rattle.float.proofs.limits.rate_change.Tie as tie

@@ -1,7 +1,6 @@
 -- `float::response_length::at_depth` meets its contract: its test is that of the definition.
 use borrow.Author.Tests.{lt-ltb, le-ltb}
 use Rattle.float.proofs.Bounds.{chosen, other}
-use native.Mathlib.Omega.{arith}
 use borrow.Author.Needs.{needs}
 use Rattle.float.proofs.response_length.at_depth.Statement.{statement}
 use Rattle.float.proofs.response_length.at_depth.Tie as tie

@@ -1,7 +1,6 @@
 -- `float::hbf_dec::HbfDec::new` meets its contract: the test is that of the definition, and a fresh filter makes the whole list.
 use mathlib.Core.Path.{_≡_, refl, sym, ap, _∙_, subst}
-use mathlib.Core.List.{List, _++_}
-use Prim.Native.Nat.{ℕ, _≤_}
+use mathlib.Core.List.{List}
 use borrow.Author.Tests.{eqb-false}
 use lib.ListN.{length, replicate}
 use lib.Ieee.{Float}
@@ -12,7 +11,6 @@ use Rattle.float.specs.HbfDec.{decNone, decFresh, DecMeets}
 use Rattle.float.specs.declared.hbf_dec.HbfDec.{HbfDec}
 use Rattle.float.proofs.Bounds.{Between, within, chosen, other}
 use Rattle.float.proofs.Decimators.{fresh-meets}
-use native.Mathlib.Omega.{arith}
 use borrow.Author.Needs.{needs}
 use Rattle.float.proofs.hbf_dec.HbfDec.new.Statement.{statement}
 use Rattle.float.proofs.hbf_dec.HbfDec.new.Tie as tie

@@ -1,7 +1,10 @@
 -- `float::hbf_dec::HbfDec::process` meets its contract: the tests are those of the definition, and past them the leaf runs the pairs.
-use mathlib.Core.Path.{_≡_, sym, _∙_}
+use mathlib.Core.Path.{_≡_, sym, ap, _∙_}
 use mathlib.Core.Bool.{false}
+use Prim.Native.Nat.{_/_, min}
+use lib.ListN.{length}
 use denote.Ref.{now}
+use Rattle.float.specs.Limits.{lengthsRefused}
 use Rattle.float.specs.HbfDec.{decRefused}
 use Rattle.float.proofs.Bounds.{within, chosen, second}
 use Rattle.float.proofs.Decimators.{Usable, taps-long, window-long, block-answer, block-span}
@@ -19,6 +22,16 @@ fine c = sym (c .before .outside .ensures) ∙ c .if1 .left
 usable : (c : tie.Else1) → Usable (begun c .args .self)
 usable c = let b = within _ _ _ (fine c) in record { least = b .least; most = b .most; coeffs-long = search needs; delay-long = search needs }
 
+in-limits : (c : tie.Else2) → let a = begun (c .before .before) .args in lengthsRefused (length (now (a .src))) (length (now (a .dst))) ≡ false
+in-limits c = sym (c .before .lengths-refused .ensures) ∙ c .if2 .left
+
+-- the test of the state that led here
+abbrev tested : tie.After-smaller → tie.Else1
+tested c = c .before .before .before .before
+
+count : (c : tie.After-smaller) → let a = begun (tested c) .args in c .smaller .result ≡ min (length (now (a .dst))) (length (now (a .src)) / 2)
+count c = c .smaller .ensures ∙ ap (min (length (now (begun (tested c) .args .dst)))) (c .before .pairs-in .ensures)
+
 outside-requires : tie.Need-outside-requires
 outside-requires c κs = search needs
 
@@ -33,29 +46,33 @@ returns-2 c = let e = fine (c .before .before) in
     let f = sym (c .before .lengths-refused .ensures) ∙ c .if2 .taken in
     (second _ _ _ _ _ e f, second _ _ _ _ _ e f)
 
+pairs-in-requires : tie.Need-pairs-in-requires
+pairs-in-requires c κs = search needs
+
 smaller-requires : tie.Need-smaller-requires
 smaller-requires c κs = search needs
 
 mul-delay : tie.Need-mul-delay
-mul-delay c = omega (arith, usable (c .before .before .before .before .before))
+mul-delay c = omega (arith, usable (tested (c .before .before)))
 
 array-borrow-prefix-delay : tie.Need-array-borrow-prefix-delay
-array-borrow-prefix-delay c = omega (arith, usable (c .before .before .before .before .before))
+array-borrow-prefix-delay c = omega (arith, usable (tested (c .before .before)))
 
 slice-aggregate-decimate : tie.Need-slice-aggregate-decimate
-slice-aggregate-decimate c = sym (window-long _ (usable (c .before .before .before .before .before .before)))
+slice-aggregate-decimate c = sym (window-long _ (usable (tested (c .before .before .before))))
 
 array-share-prefix-coeffs : tie.Need-array-share-prefix-coeffs
-array-share-prefix-coeffs c = omega (arith, usable (c .before .before .before .before .before .before))
+array-share-prefix-coeffs c = omega (arith, usable (tested (c .before .before .before)))
 
 slice-aggregate-decimate-2 : tie.Need-slice-aggregate-decimate-2
-slice-aggregate-decimate-2 c = sym (taps-long _ (usable (c .before .before .before .before .before .before .before)))
+slice-aggregate-decimate-2 c = sym (taps-long _ (usable (tested (c .before .before .before .before))))
 
 decimate-requires : tie.Need-decimate-requires
-decimate-requires c κs = let u = usable (c .before .before .before .before .before .before .before .before) in
+decimate-requires c κs = let k = c .before .before .before .before .before in
+    let u = usable (tested k) in
     let t = taps-long _ u in
     let w = window-long _ u in
-    let n = c .before .before .before .before .before .smaller .ensures in
+    let n = count k in
     (omega (arith, u .least), omega arith, omega arith, omega arith)
 
 same-length : tie.Need-same-length
@@ -63,12 +80,12 @@ same-length c = search needs
 
 returns-3 : tie.Need-returns-3
 returns-3 c = let o = c .before .before .before .decimate in
-    let k = c .before .before .before .before .before .before .before .before .before .before .before .before in
-    let a = begun k .args in
-    let f = sym (c .before .before .before .before .before .before .before .before .before .before .before .lengths-refused .ensures) ∙ c .before .before .before .before .before .before .before .before .before .before .if2 .left in
-    let n = c .before .before .before .before .before .before .before .before .before .smaller in (
-      block-answer (a .self) (usable k) (now (a .src)) (now (a .dst)) (n .result) (fine k) f (n .ensures) (o .last .0) (o .ensures .0),
-      block-span (a .self) (usable k) (now (a .src)) (now (a .dst)) (n .result) (fine k) f (n .ensures) (o .last .1 .1 .1 .0) (o .ensures .1),
+    let k = c .before .before .before .before .before .before .before .before .before in
+    let e = tested k in
+    let a = begun e .args in
+    let f = in-limits (k .before .before) in (
+      block-answer (a .self) (usable e) (now (a .src)) (now (a .dst)) (k .smaller .result) (fine e) f (count k) (o .last .0) (o .ensures .0),
+      block-span (a .self) (usable e) (now (a .src)) (now (a .dst)) (k .smaller .result) (fine e) f (count k) (o .last .1 .1 .1 .0) (o .ensures .1),
     )
 
 pub process-spec : {M : Type 1} → statement M
@@ -79,6 +96,7 @@ process-spec =
     returns
     lengths-refused-requires
     returns-2
+    pairs-in-requires
     smaller-requires
     mul-delay
     array-borrow-prefix-delay

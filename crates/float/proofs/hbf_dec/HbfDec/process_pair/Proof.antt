@@ -1,11 +1,9 @@
 -- `float::hbf_dec::HbfDec::process_pair` meets its contract: past the test M is in its limits, so the taps and the window are whole.
-use mathlib.Core.Path.{_≡_, refl, sym, ap, _∙_}
-use mathlib.Core.List.{List, _++_}
-use Prim.Native.Nat.{ℕ, _*_, _≤_}
-use lib.ListN.{length, drop}
+use mathlib.Core.Path.{sym, ap, _∙_}
+use mathlib.Core.List.{List}
 use lib.Ieee.{Float}
 use Rattle.refusal.specs.Outcome.{Outcome}
-use Rattle.float.specs.HbfDec.{decNext, decOut, decStep, withDecWindow}
+use Rattle.float.specs.HbfDec.{decNext, decOut, withDecWindow}
 use Rattle.float.specs.declared.hbf_dec.HbfDec.{HbfDec}
 use Rattle.float.proofs.Bounds.{within}
 use Rattle.float.proofs.Decimators.{Usable, taps-long, window-long}

@@ -1,8 +1,6 @@
 -- `float::hbf_dec::HbfDec::reset` meets its contract: it opens anew with the taps in use.
 use mathlib.Core.Path.{_≡_, sym, _∙_}
 use mathlib.Core.Bool.{false}
-use Prim.Native.Nat.{ℕ, _≤_}
-use lib.ListN.{length}
 use Rattle.float.specs.HbfDec.{decRefused}
 use Rattle.float.proofs.Bounds.{within, chosen, other}
 use Rattle.float.proofs.Decimators.{Usable, taps-long}

@@ -1,7 +1,7 @@
 -- `float::hbf_dec_cascade::HbfDecCascade::process` meets its contract: the tests are those of the definition, and past them the leaf runs the frames.
 use mathlib.Core.Path.{_≡_, sym, ap, _∙_, subst}
 use mathlib.Core.Bool.{false}
-use Prim.Native.Nat.{ℕ, _/_, _^_, _≤_, _<_, min}
+use Prim.Native.Nat.{ℕ, _/_, _<_, min}
 use lib.Pow.{pow-pos}
 use lib.ListN.{length}
 use denote.Ref.{now}

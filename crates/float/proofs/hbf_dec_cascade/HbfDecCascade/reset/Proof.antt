@@ -1,7 +1,6 @@
 -- `float::hbf_dec_cascade::HbfDecCascade::reset` meets its contract: it opens anew with the same depth.
 use mathlib.Core.Path.{sym, _∙_}
 use Rattle.float.proofs.Bounds.{chosen, other}
-use native.Mathlib.Omega.{arith}
 use borrow.Author.Needs.{needs}
 use Rattle.float.proofs.hbf_dec_cascade.HbfDecCascade.reset.Statement.{statement}
 use Rattle.float.proofs.hbf_dec_cascade.HbfDecCascade.reset.Tie as tie

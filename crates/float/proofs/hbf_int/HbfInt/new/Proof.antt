@@ -11,7 +11,6 @@ use Rattle.float.specs.HbfInt.{intNone, intFresh, IntMeets}
 use Rattle.float.specs.declared.hbf_int.HbfInt.{HbfInt}
 use Rattle.float.proofs.Bounds.{Between, within, chosen, other}
 use Rattle.float.proofs.Interpolators.{fresh-meets}
-use native.Mathlib.Omega.{arith}
 use borrow.Author.Needs.{needs}
 use Rattle.float.proofs.hbf_int.HbfInt.new.Statement.{statement}
 use Rattle.float.proofs.hbf_int.HbfInt.new.Tie as tie

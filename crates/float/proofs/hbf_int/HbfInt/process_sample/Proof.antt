@@ -1,5 +1,5 @@
 -- `float::hbf_int::HbfInt::process_sample` meets its contract: past the test M is in its limits, so the taps and the window are whole.
-use mathlib.Core.Path.{_≡_, sym, ap, _∙_}
+use mathlib.Core.Path.{sym, ap, _∙_}
 use mathlib.Core.List.{List}
 use lib.Ieee.{Float}
 use Rattle.refusal.specs.Outcome.{Outcome}

@@ -1,12 +1,11 @@
 -- `float::hbf_int_cascade::HbfIntCascade::new` meets its contract: the test is that of the definition, and a fresh cascade makes the whole lists.
-use mathlib.Core.Path.{_≡_, refl, sym, ap, _∙_, subst}
+use mathlib.Core.Path.{refl, sym, ap, _∙_, subst}
 use borrow.Author.Tests.{eqb-false}
 use Rattle.refusal.specs.Outcome.{Opened}
 use Rattle.float.specs.HbfIntCascade.{intCascadeFresh, IntCascadeMeets}
 use Rattle.float.specs.declared.hbf_int_cascade.HbfIntCascade.{HbfIntCascade}
 use Rattle.float.proofs.Bounds.{within, chosen, other}
 use Rattle.float.proofs.IntCascades.{fresh-meets}
-use native.Mathlib.Omega.{arith}
 use borrow.Author.Needs.{needs}
 use Rattle.float.proofs.hbf_int_cascade.HbfIntCascade.new.Statement.{statement}
 use Rattle.float.proofs.hbf_int_cascade.HbfIntCascade.new.Tie as tie

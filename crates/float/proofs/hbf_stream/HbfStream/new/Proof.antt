@@ -1,12 +1,11 @@
 -- `float::hbf_stream::HbfStream::new` meets its contract: the test is that of the definition, and a fresh cascade makes the whole lists.
-use mathlib.Core.Path.{_≡_, refl, sym, ap, _∙_, subst}
+use mathlib.Core.Path.{refl, sym, ap, _∙_, subst}
 use borrow.Author.Tests.{eqb-false, lt-ltb, le-ltb}
 use Rattle.refusal.specs.Outcome.{Opened}
 use Rattle.float.specs.HbfStream.{streamFresh, StreamMeets}
 use Rattle.float.specs.declared.hbf_stream.HbfStream.{HbfStream}
 use Rattle.float.proofs.Bounds.{chosen, other}
 use Rattle.float.proofs.HeldOnes.{stream-meets}
-use native.Mathlib.Omega.{arith}
 use borrow.Author.Needs.{needs}
 use Rattle.float.proofs.hbf_stream.HbfStream.new.Statement.{statement}
 use Rattle.float.proofs.hbf_stream.HbfStream.new.Tie as tie

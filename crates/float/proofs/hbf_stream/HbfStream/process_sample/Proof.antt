@@ -9,7 +9,6 @@ use Rattle.float.specs.declared.hbf_stream.HbfOut.{HbfOut}
 use Rattle.float.specs.declared.hbf_stream.HbfOut.the-variants as made
 use Rattle.float.specs.declared.hbf_stream.HbfStreamOut.{HbfStreamOut}
 use Rattle.float.proofs.Bounds.{chosen, other}
-use native.Mathlib.Omega.{arith}
 use borrow.Author.Needs.{needs}
 use Rattle.float.proofs.hbf_stream.HbfStream.process_sample.Statement.{statement}
 use Rattle.float.proofs.hbf_stream.HbfStream.process_sample.Tie as tie
