@@ -1,17 +1,13 @@
 // The operations of HbfDec. Each takes the words behind its code: its inputs, then the answers.
+use crate::answers::same_written;
 use float::HbfDec;
-use float::HbfDecBlock;
 use float::HbfDecOpening;
 use float::HbfDecOut;
 use float::HbfDecStep;
-use records::answers::same_count;
 use records::answers::same_opening;
 use records::answers::same_refusal;
 use records::slices::behind;
-use records::slices::front_floats;
 use records::slices::lend_floats;
-use records::slices::length;
-use records::slices::no_floats;
 use records::slices::same_floats;
 use records::words::first;
 use records::words::float;
@@ -39,7 +35,7 @@ fn state_of(w: &[u32]) -> HbfDec {
 }
 
 // The words behind a state.
-fn behind_state(w: &[u32]) -> &[u32] {
+pub fn behind_state(w: &[u32]) -> &[u32] {
     behind(behind(rest(w, TAPS)))
 }
 
@@ -59,16 +55,9 @@ fn same_opened(w: &[u32], lent: &[u32], opened: HbfDecOpening) -> bool {
     same_state(w, same_opening(w, 0, answer), lent, state) == w.len()
 }
 
-fn new_in(w: &[u32], taps: &mut [f32]) -> bool {
-    lend_floats(w, taps);
+pub fn new(w: &[u32], taps: &[f32]) -> bool {
     let opened = HbfDec::new(taps);
     same_opened(behind(w), first(w, 0), opened)
-}
-
-pub fn new(w: &[u32]) -> bool {
-    let mut taps = no_floats();
-    let m = length(w);
-    new_in(w, front_floats(&mut taps, m))
 }
 
 pub fn reset(w: &[u32]) -> bool {
@@ -95,33 +84,11 @@ pub fn process_pair(w: &[u32]) -> bool {
     same_step(rest(given, 2), w, step)
 }
 
-fn same_block(
-    w: &[u32],
-    lent: &[u32],
-    block: HbfDecBlock,
-    lent_span: &[u32],
-    span: &[f32],
-) -> bool {
+pub fn process(w: &[u32], lent_span: &[u32], samples: &[f32], span: &mut [f32]) -> bool {
+    let block = state_of(w).process(samples, span);
     let answer = block.answer;
     let state = block.state;
-    let next = same_floats(w, same_count(w, 0, answer), lent_span, span);
-    same_state(w, next, lent, state) == w.len()
-}
-
-fn process_in(w: &[u32], samples: &mut [f32], span: &mut [f32]) -> bool {
-    let lent = behind_state(w);
-    let lent_span = behind(lent);
-    lend_floats(lent, samples);
-    lend_floats(lent_span, span);
-    let block = state_of(w).process(samples, span);
-    same_block(behind(lent_span), w, block, lent_span, span)
-}
-
-pub fn process(w: &[u32]) -> bool {
-    let mut samples = no_floats();
-    let mut span = no_floats();
-    let lent = behind_state(w);
-    let n = length(lent);
-    let m = length(behind(lent));
-    process_in(w, front_floats(&mut samples, n), front_floats(&mut span, m))
+    let expected = behind(lent_span);
+    let next = same_written(expected, answer, lent_span, span);
+    same_state(expected, next, w, state) == expected.len()
 }

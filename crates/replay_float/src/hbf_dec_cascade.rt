@@ -1,14 +1,10 @@
 // The operations of HbfDecCascade. Each takes the words behind its code: its inputs, then the answers.
+use crate::answers::same_written;
 use float::HbfDecCascade;
-use float::HbfDecCascadeBlock;
 use float::HbfDecCascadeOpening;
-use records::answers::same_count;
 use records::answers::same_opening;
 use records::slices::behind;
-use records::slices::front_floats;
 use records::slices::lend_floats;
-use records::slices::length;
-use records::slices::no_floats;
 use records::slices::same_floats;
 use records::words::first;
 use records::words::long;
@@ -25,6 +21,11 @@ fn state_of(w: &[u32]) -> HbfDecCascade {
         depth: long(w, 0),
         delays,
     }
+}
+
+// The words behind a state.
+pub fn behind_state(w: &[u32]) -> &[u32] {
+    behind(rest(w, DELAYS))
 }
 
 // The state after a call on the one that `lent` begins with; on none, that is of zeros, after an opening.
@@ -47,36 +48,14 @@ pub fn new(w: &[u32]) -> bool {
 
 pub fn reset(w: &[u32]) -> bool {
     let opened = state_of(w).reset();
-    same_opened(behind(rest(w, DELAYS)), w, opened)
+    same_opened(behind_state(w), w, opened)
 }
 
-fn same_block(
-    w: &[u32],
-    lent: &[u32],
-    block: HbfDecCascadeBlock,
-    lent_span: &[u32],
-    span: &[f32],
-) -> bool {
+pub fn process(w: &[u32], lent_span: &[u32], samples: &[f32], span: &mut [f32]) -> bool {
+    let block = state_of(w).process(samples, span);
     let answer = block.answer;
     let state = block.state;
-    let next = same_floats(w, same_count(w, 0, answer), lent_span, span);
-    same_state(w, next, lent, state) == w.len()
-}
-
-fn process_in(w: &[u32], samples: &mut [f32], span: &mut [f32]) -> bool {
-    let lent = behind(rest(w, DELAYS));
-    let lent_span = behind(lent);
-    lend_floats(lent, samples);
-    lend_floats(lent_span, span);
-    let block = state_of(w).process(samples, span);
-    same_block(behind(lent_span), w, block, lent_span, span)
-}
-
-pub fn process(w: &[u32]) -> bool {
-    let mut samples = no_floats();
-    let mut span = no_floats();
-    let lent = behind(rest(w, DELAYS));
-    let n = length(lent);
-    let m = length(behind(lent));
-    process_in(w, front_floats(&mut samples, n), front_floats(&mut span, m))
+    let expected = behind(lent_span);
+    let next = same_written(expected, answer, lent_span, span);
+    same_state(expected, next, w, state) == expected.len()
 }

@@ -1,4 +1,6 @@
 // The float layer's operations, compared with records of what the Rust answered.
+mod answers;
+mod blocks;
 mod hbf_dec;
 mod hbf_dec_cascade;
 mod hbf_int;

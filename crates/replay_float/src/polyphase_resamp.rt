@@ -1,16 +1,11 @@
 // The operations of PolyphaseResampF32. Each takes the words behind its code: its inputs, then the answers.
-use float::PolyphaseBlock;
+use crate::answers::same_written;
 use float::PolyphaseOpening;
-use float::PolyphasePush;
 use float::PolyphaseResampF32;
-use records::answers::same_count;
 use records::answers::same_opening;
 use records::answers::same_refusal;
 use records::slices::behind;
-use records::slices::front_floats;
 use records::slices::lend_floats;
-use records::slices::length;
-use records::slices::no_floats;
 use records::slices::same_floats;
 use records::words::first;
 use records::words::float;
@@ -42,7 +37,7 @@ fn state_of(w: &[u32]) -> PolyphaseResampF32 {
 }
 
 // The words behind a state.
-fn behind_state(w: &[u32]) -> &[u32] {
+pub fn behind_state(w: &[u32]) -> &[u32] {
     behind(behind(rest(w, DELAY)))
 }
 
@@ -65,18 +60,10 @@ fn same_opened(w: &[u32], lent: &[u32], opened: PolyphaseOpening) -> bool {
     same_state(w, same_opening(w, 0, answer), lent, state) == w.len()
 }
 
-fn from_taps_in(w: &[u32], prototype: &mut [f32]) -> bool {
-    let lent = rest(w, 5);
-    lend_floats(lent, prototype);
+pub fn from_taps(w: &[u32], prototype: &[f32]) -> bool {
     let step = float(word(w, 4));
     let opened = PolyphaseResampF32::from_taps(long(w, 0), long(w, 2), prototype, step);
-    same_opened(behind(lent), first(w, 0), opened)
-}
-
-pub fn from_taps(w: &[u32]) -> bool {
-    let mut prototype = no_floats();
-    let n = length(rest(w, 5));
-    from_taps_in(w, front_floats(&mut prototype, n))
+    same_opened(behind(rest(w, 5)), first(w, 0), opened)
 }
 
 pub fn reset(w: &[u32]) -> bool {
@@ -94,60 +81,21 @@ fn same_moved(w: &[u32], taken: usize, answer: Count) -> usize {
     }
 }
 
-fn same_block(
-    w: &[u32],
-    lent: &[u32],
-    block: PolyphaseBlock,
-    lent_span: &[u32],
-    span: &[f32],
-) -> bool {
+pub fn process_block(w: &[u32], lent_span: &[u32], samples: &[f32], span: &mut [f32]) -> bool {
+    let block = state_of(w).process_block(samples, span);
     let answer = block.answer;
     let state = block.state;
-    let next = same_floats(w, same_moved(w, block.taken, answer), lent_span, span);
-    same_state(w, next, lent, state) == w.len()
+    let expected = behind(lent_span);
+    let moved = same_moved(expected, block.taken, answer);
+    let next = same_floats(expected, moved, lent_span, span);
+    same_state(expected, next, w, state) == expected.len()
 }
 
-fn process_block_in(w: &[u32], samples: &mut [f32], span: &mut [f32]) -> bool {
-    let lent = behind_state(w);
-    let lent_span = behind(lent);
-    lend_floats(lent, samples);
-    lend_floats(lent_span, span);
-    let block = state_of(w).process_block(samples, span);
-    same_block(behind(lent_span), w, block, lent_span, span)
-}
-
-pub fn process_block(w: &[u32]) -> bool {
-    let mut samples = no_floats();
-    let mut span = no_floats();
-    let lent = behind_state(w);
-    let n = length(lent);
-    let m = length(behind(lent));
-    process_block_in(w, front_floats(&mut samples, n), front_floats(&mut span, m))
-}
-
-fn same_push(
-    w: &[u32],
-    lent: &[u32],
-    push: PolyphasePush,
-    lent_span: &[u32],
-    span: &[f32],
-) -> bool {
-    let answer = push.answer;
-    let state = push.state;
-    let next = same_floats(w, same_count(w, 0, answer), lent_span, span);
-    same_state(w, next, lent, state) == w.len()
-}
-
-fn push_in(w: &[u32], span: &mut [f32]) -> bool {
-    let given = behind_state(w);
-    let lent_span = rest(given, 1);
-    lend_floats(lent_span, span);
-    let push = state_of(w).push(float(word(given, 0)), span);
-    same_push(behind(lent_span), w, push, lent_span, span)
-}
-
-pub fn push(w: &[u32]) -> bool {
-    let mut span = no_floats();
-    let m = length(rest(behind_state(w), 1));
-    push_in(w, front_floats(&mut span, m))
+pub fn push(w: &[u32], lent_span: &[u32], span: &mut [f32]) -> bool {
+    let pushed = state_of(w).push(float(word(behind_state(w), 0)), span);
+    let answer = pushed.answer;
+    let state = pushed.state;
+    let expected = behind(lent_span);
+    let next = same_written(expected, answer, lent_span, span);
+    same_state(expected, next, w, state) == expected.len()
 }
