@@ -1,4 +1,4 @@
-// The operations of HbfDec. Each takes the words behind its code: its inputs, then the answers.
+// The operations of HbfDec. `w` is the words behind an operation's code: its inputs, then the answers. Slices that it lends are read before.
 use crate::answers::same_written;
 use float::HbfDec;
 use float::HbfDecOpening;

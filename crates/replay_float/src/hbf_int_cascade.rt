@@ -1,4 +1,4 @@
-// The operations of HbfIntCascade. Each takes the words behind its code: its inputs, then the answers.
+// The operations of HbfIntCascade. `w` is the words behind an operation's code: its inputs, then the answers. Slices that it lends are read before.
 use crate::answers::same_written;
 use float::HbfIntCascade;
 use float::HbfIntCascadeOpening;

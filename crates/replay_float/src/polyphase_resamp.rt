@@ -1,4 +1,4 @@
-// The operations of PolyphaseResampF32. Each takes the words behind its code: its inputs, then the answers.
+// The operations of PolyphaseResampF32. `w` is the words behind an operation's code: its inputs, then the answers. Slices that it lends are read before.
 use crate::answers::same_written;
 use float::PolyphaseOpening;
 use float::PolyphaseResampF32;
