@@ -3,15 +3,14 @@
 set -euo pipefail
 cd "$(dirname "$0")/../.."
 
-stored_seed=1
-stored_cases=1500
-cases=200000
+stored=(--seed 1 --cases 60000 --each 24)
+cases=300000
 [ "$#" -gt 0 ] || set -- 20261115 577215664 6180339887
 
 tests/oracle/build.sh
 
 # The stored list, which the gate replays, is what the oracle lists.
-target/oracle/oracle list --seed "$stored_seed" --cases "$stored_cases" | cmp - crates/replay/stdin
+target/oracle/oracle list "${stored[@]}" | cmp - crates/replay/stdin
 
 # Nothing is proved again that has not changed.
 if ! rt check replay >target/oracle/check.log 2>&1; then

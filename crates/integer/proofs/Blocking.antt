@@ -37,7 +37,7 @@ module _ (N r : ℕ) (combs : List ℤ) where
   abbrev counted : List ℤ → ℤ → ℕ → List ℤ → CicDecimator
   counted s v j w = decimatorOf N r (ran N s v w .state) combs (j + length w)
 
-  waiting : (s : List ℤ) (j : ℕ) (x : ℤ) → j + 1 < r
+  pub waiting : (s : List ℤ) (j : ℕ) (x : ℤ) → j + 1 < r
       → (decimator .out (decimatorOf N r s combs j) x ≡ none) × (decimator .next (decimatorOf N r s combs j) x ≡ decimatorOf N r (integrated N s x .state) combs (j + 1))
   unfolding decimator
   waiting s j x h = rw (lt-ltb (j + 1) r h) (refl, refl)

@@ -54,10 +54,10 @@ valid-kept d x v =
     (λ i c. valid-from (d .stages) (d .r) 0 (s .stages) (s .factor) (lt-ltb 0 (d .r) (s .least)))
 
 module _ (N r : ℕ) where
-  abbrev Set : CicDecimator → Type 0
+  abbrev pub Set : CicDecimator → Type 0
   Set d = (d .stages ≡ N) × (d .r ≡ r)
 
-  settings-kept : (d : CicDecimator) (x : ℤ) → Set d → Set (decimator .next d x)
+  pub settings-kept : (d : CicDecimator) (x : ℤ) → Set d → Set (decimator .next d x)
   settings-kept d x h = by-step Set d x (λ e. h) (λ i c. h)
 
   -- a scaled sum is the floor of the sum, so the scaled list is the list of floors

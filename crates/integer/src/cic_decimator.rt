@@ -80,7 +80,8 @@ fn zeros(stages: usize, r: usize) -> CicDecimator
     }
 }
 
-fn valid(stages: usize, r: usize, sample_counter: usize) -> bool
+// Whether a call on a state with these numbers is not refused by 15.
+pub fn valid(stages: usize, r: usize, sample_counter: usize) -> bool
     ensures { λ b. ⌜ b ≡ D.validAt stages r «sample_counter» ⌝ }
 {
     if !stages_ok(stages) {

@@ -1,4 +1,5 @@
 // Numbers and words on standard output.
+use float::f32_to_usize_saturating;
 use libc::STDOUT_FILENO;
 
 pub fn words(text: &[u8]) {
@@ -21,4 +22,19 @@ pub fn signed(x: i32) {
 pub fn number(n: u64) {
     words(b" ");
     io::print_decimal(STDOUT_FILENO, n);
+}
+
+// A space and a level to two places.
+pub fn hundredths(x: f32) {
+    words(b" ");
+    let mut size = x;
+    if x < 0.0 {
+        words(b"-");
+        size = 0.0 - x;
+    }
+    let n = f32_to_usize_saturating(size * 100.0);
+    io::print_decimal(STDOUT_FILENO, (n / 100) as u64);
+    words(b".");
+    io::print_decimal(STDOUT_FILENO, (n / 10 % 10) as u64);
+    io::print_decimal(STDOUT_FILENO, (n % 10) as u64);
 }

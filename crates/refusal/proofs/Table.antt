@@ -1,6 +1,7 @@
 -- No two rows have one number, so a contract that names the number names the row: `rowOf` finds the row again.
 use mathlib.Core.Path.{_≡_, refl, sym, ap, _∙_}
-use Prim.Native.Nat.{ℕ}
+use Prim.Native.Nat.{ℕ, _<_}
+use lib.Dec.{lit<}
 use Rattle.refusal.specs.declared.Refusal.{Refusal}
 use Rattle.refusal.specs.declared.Refusal.the-variants.{Stages, Factor, GainBits, Span, FirFactor, Taps, Samples, TapsMultiple, Ratio, HalfBandTaps, Depth, Phases, Prototype, Step, State}
 use Rattle.refusal.specs.Table.{numberOf}
@@ -34,3 +35,21 @@ row-of State = refl
 
 pub number-injective : (p q : Refusal) → numberOf p ≡ numberOf q → p ≡ q
 number-injective p q e = sym (row-of p) ∙ ap rowOf e ∙ row-of q
+
+-- 0 is left for an answer that is not refused
+pub number-positive : (q : Refusal) → 0 < numberOf q
+number-positive Stages = lit< tt
+number-positive Factor = lit< tt
+number-positive GainBits = lit< tt
+number-positive Span = lit< tt
+number-positive FirFactor = lit< tt
+number-positive Taps = lit< tt
+number-positive Samples = lit< tt
+number-positive TapsMultiple = lit< tt
+number-positive Ratio = lit< tt
+number-positive HalfBandTaps = lit< tt
+number-positive Depth = lit< tt
+number-positive Phases = lit< tt
+number-positive Prototype = lit< tt
+number-positive Step = lit< tt
+number-positive State = lit< tt

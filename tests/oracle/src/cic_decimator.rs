@@ -1,11 +1,13 @@
 //! Cases of `CicDecimator`.
 
-use crate::cic_settings::{self, front, with_stages};
+use crate::cic_settings;
 use crate::lent::{LONGEST, Lent};
 use crate::record::Record;
 use crate::refusals;
 use crate::rng::Rng;
 use crate::samples;
+use crate::settings;
+use crate::sizes::{front, with_stages};
 use embedded_dsp::resampling::CicDecimator;
 
 const NEW: u32 = 0x11;
@@ -57,8 +59,8 @@ impl State {
         record
             .long(self.stages)
             .long(self.r)
-            .numbers(&self.integrators)
-            .numbers(&self.combs)
+            .words(&self.integrators)
+            .words(&self.combs)
             .long(self.sample_counter);
     }
 
@@ -119,7 +121,7 @@ fn new_case(rng: &mut Rng) -> Record {
         _ => State::zeros(0, 0),
     };
     let mut record = Record::of(NEW);
-    record.long(stages).long(r).word(refusal);
+    record.long(stages).long(r).refusal(refusal);
     state.write(&mut record);
     record
 }
@@ -154,7 +156,7 @@ fn scaled_case(rng: &mut Rng, state: &mut State) -> Record {
 
 fn write_step(record: &mut Record, refusal: u32, output: Option<i32>, state: &State) {
     record
-        .word(refusal)
+        .refusal(refusal)
         .word(output.is_some().into())
         .number(output.unwrap_or(0));
     state.write(record);
@@ -168,7 +170,7 @@ fn gain_case(state: &State) -> Record {
     };
     let mut record = Record::of(GAIN);
     state.write(&mut record);
-    record.word(refusal).long(value);
+    record.refusal(refusal).long(value);
     record
 }
 
@@ -180,7 +182,7 @@ fn gain_bits_case(state: &State) -> Record {
     };
     let mut record = Record::of(GAIN_BITS);
     state.write(&mut record);
-    record.word(refusal).word(value);
+    record.refusal(refusal).word(value);
     record
 }
 
@@ -188,17 +190,21 @@ fn block_case(state: &mut State, input: &Lent, span: &Lent) -> Record {
     let mut record = Record::of(PROCESS_BLOCK);
     state.write(&mut record);
     record.lent(input).lent(span);
-    let mut places = span.numbers();
+    let lent: Vec<i32> = span.elements();
+    let mut places = lent.clone();
     let refusal = state.refusal();
     let (taken, written) = match refusal {
-        0 => with_stages!(state.stages, block(state, &input.numbers(), &mut places)),
+        0 => with_stages!(
+            state.stages,
+            block(state, &input.elements::<i32>(), &mut places)
+        ),
         _ => (0, 0),
     };
     record
-        .word(refusal)
+        .refusal(refusal)
         .long(taken)
         .long(written)
-        .left(span, &places);
+        .left(&lent, &places);
     state.write(&mut record);
     record
 }
@@ -267,7 +273,7 @@ fn damaged(rng: &mut Rng) -> State {
     let mut state = midway(rng);
     match rng.below(5) {
         0 => state.stages = cic_settings::bad_stages(rng),
-        1 => state.r = cic_settings::bad_factor(rng),
+        1 => state.r = settings::bad_factor(rng),
         2 => state = State::zeros(0, 0),
         _ => {
             let r = state.r;
@@ -309,11 +315,8 @@ fn long_run(rng: &mut Rng) -> Vec<Record> {
     let most = (64 * r).min(LONGEST);
     (0..rng.within(3, 6))
         .map(|_| {
-            let input = Lent {
-                length: rng.within(most / 2, most) as usize,
-                pattern,
-                listed: Vec::new(),
-            };
+            let length = rng.within(most / 2, most);
+            let input = Lent::pattern(length, pattern, 1);
             let span = samples::span(rng, 70);
             block_case(&mut state, &input, &span)
         })

@@ -1,11 +1,13 @@
 //! Cases of `CicInterpolator`.
 
-use crate::cic_settings::{self, front, with_stages};
+use crate::cic_settings;
 use crate::lent::{LONGEST, Lent};
 use crate::record::Record;
 use crate::refusals;
 use crate::rng::Rng;
 use crate::samples;
+use crate::settings;
+use crate::sizes::{front, with_stages};
 use embedded_dsp::resampling::CicInterpolator;
 
 const NEW: u32 = 0x21;
@@ -51,8 +53,8 @@ impl State {
         record
             .long(self.stages)
             .long(self.r)
-            .numbers(&self.combs)
-            .numbers(&self.integrators);
+            .words(&self.combs)
+            .words(&self.integrators);
     }
 
     fn refusal(&self) -> u32 {
@@ -88,7 +90,7 @@ fn new_case(rng: &mut Rng) -> Record {
         _ => State::zeros(0, 0),
     };
     let mut record = Record::of(NEW);
-    record.long(stages).long(r).word(refusal);
+    record.long(stages).long(r).refusal(refusal);
     state.write(&mut record);
     record
 }
@@ -97,7 +99,8 @@ fn sample_case(state: &mut State, input: i32, span: &Lent) -> Record {
     let mut record = Record::of(PROCESS_SAMPLE);
     state.write(&mut record);
     record.number(input).lent(span);
-    let mut places = span.numbers();
+    let lent: Vec<i32> = span.elements();
+    let mut places = lent.clone();
     let refusal = refusals::cic_up(state.stages, state.r, span.length);
     let written = match refusal {
         0 => {
@@ -106,7 +109,7 @@ fn sample_case(state: &mut State, input: i32, span: &Lent) -> Record {
         }
         _ => 0,
     };
-    record.word(refusal).long(written).left(span, &places);
+    record.refusal(refusal).long(written).left(&lent, &places);
     state.write(&mut record);
     record
 }
@@ -119,7 +122,7 @@ fn gain_case(state: &State) -> Record {
     };
     let mut record = Record::of(GAIN);
     state.write(&mut record);
-    record.word(refusal).long(value);
+    record.refusal(refusal).long(value);
     record
 }
 
@@ -131,7 +134,7 @@ fn gain_bits_case(state: &State) -> Record {
     };
     let mut record = Record::of(GAIN_BITS);
     state.write(&mut record);
-    record.word(refusal).word(value);
+    record.refusal(refusal).word(value);
     record
 }
 
@@ -179,7 +182,7 @@ fn damaged(rng: &mut Rng) -> State {
     let mut state = midway(rng, 4096);
     match rng.below(3) {
         0 => state.stages = cic_settings::bad_stages(rng),
-        1 => state.r = cic_settings::bad_factor(rng),
+        1 => state.r = settings::bad_factor(rng),
         _ => state = State::zeros(0, 0),
     }
     state

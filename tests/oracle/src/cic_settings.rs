@@ -1,6 +1,7 @@
 //! The settings of a CIC converter, N and r: within 01's limits, at their ends and outside.
 
 use crate::rng::Rng;
+use crate::settings::bad_factor;
 
 const MOST: u64 = 4096;
 
@@ -49,20 +50,6 @@ pub fn bad_stages(rng: &mut Rng) -> u64 {
     rng.pick(&[0, 0, 9, 9, 10, 4096, 1 << 32, (1 << 32) + 1, u64::MAX])
 }
 
-pub fn bad_factor(rng: &mut Rng) -> u64 {
-    let far = rng.next() | 1 << 40;
-    rng.pick(&[
-        0,
-        0,
-        MOST + 1,
-        MOST + 1,
-        1 << 32,
-        (1 << 32) + 1,
-        u64::MAX,
-        far,
-    ])
-}
-
 /// Settings of which one or both may be outside the limits.
 pub fn any(rng: &mut Rng) -> (u64, u64) {
     match rng.below(8) {
@@ -71,27 +58,4 @@ pub fn any(rng: &mut Rng) -> (u64, u64) {
         2 => (bad_stages(rng), bad_factor(rng)),
         _ => (stages(rng), factor(rng)),
     }
-}
-
-/// Calls a function that is generic over the number of stages with the constant equal to `$stages`.
-macro_rules! with_stages {
-    ($stages:expr, $function:ident($($argument:expr),*)) => {
-        match $stages {
-            1 => $function::<1>($($argument),*),
-            2 => $function::<2>($($argument),*),
-            3 => $function::<3>($($argument),*),
-            4 => $function::<4>($($argument),*),
-            5 => $function::<5>($($argument),*),
-            6 => $function::<6>($($argument),*),
-            7 => $function::<7>($($argument),*),
-            8 => $function::<8>($($argument),*),
-            _ => unreachable!("the refusals come first"),
-        }
-    };
-}
-pub(crate) use with_stages;
-
-/// The first N of eight places.
-pub fn front<const N: usize>(places: &[i32; 8]) -> [i32; N] {
-    std::array::from_fn(|i| places[i])
 }

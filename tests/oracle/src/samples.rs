@@ -21,15 +21,12 @@ pub fn list(rng: &mut Rng, length: u64, listed: u64) -> Lent {
     Lent {
         length: length as usize,
         pattern: one(rng) as u32,
+        stride: 1,
         listed: (0..length.min(listed)).map(|_| one(rng) as u32).collect(),
     }
 }
 
 /// A span as it is before a call: no two places next to each other are equal.
 pub fn span(rng: &mut Rng, length: u64) -> Lent {
-    Lent {
-        length: length as usize,
-        pattern: rng.next() as u32,
-        listed: Vec::new(),
-    }
+    Lent::pattern(length, rng.next() as u32, 1)
 }

@@ -1,0 +1,162 @@
+-- What the contracts of the opening, `process_block` and `push` claim follows from the equations they state: an opened state is valid and its runs are
+-- the whole list's, and a feed of the machine keeps validity and conserves its run.
+use mathlib.Core.Path.{_≡_, refl, sym, _∙_, subst, subst⁻¹}
+use mathlib.Core.Bool.{Bool, true, false, cond, true≢false}
+use mathlib.Core.List.{List, []}
+use Prim.Native.Nat.{ℕ, _*_}
+use native.Mathlib.Omega.{arith}
+use borrow.Author.Tests.{eq-eqb, eqb-true}
+use lib.Dec.{eqb}
+use lib.ListN.{length, take, drop}
+use lib.Seq.{take-append-seam, drop-nil}
+use lib.Ieee.{Float, binary32, sub}
+use Rattle.theory.specs.Feeds.{Fed, feed}
+use Rattle.theory.specs.Runs.{Runs}
+use Rattle.theory.proofs.FeedRules.{feed-keeps, feed-short, feed-conserves}
+use Rattle.refusal.specs.Outcome.{Outcome, Opened}
+use Rattle.float.specs.F32.{one32, aboveZero}
+use Rattle.float.specs.PolyphaseResamp.{inLimits, valid, consumed, resampler, fresh, refusedOpening, opening, ownTaps, reset, Counts, laid, together, RanTo, shiftedIn, block, blockOutcome, blockSpan, push, pushOutcome, pushSpan}
+use Rattle.float.specs.PolyphaseWhole.{Opens, Resets, Conserves, BlockKept, PushKept}
+use Rattle.float.specs.declared.polyphase_resamp.PolyphaseResampF32.{PolyphaseResampF32}
+use Rattle.float.specs.declared.polyphase_resamp.Ran.{Ran}
+use Rattle.float.proofs.PolyphaseRange.{valid-in-limits, valid-above, valid-consumed, valid-passed, valid-fresh}
+use Rattle.float.proofs.PolyphaseWhole.{fresh-becomes, becomes-fresh, becomes-all}
+
+-- ---- the opening
+refused-opens : (P T : ℕ) (h : List Float) (step : Float) (n : ℕ) → (n ≡ 0 → ⊥) → Opens P T h step (refusedOpening n)
+refused-opens P T h step n refused =
+    record {
+      accepted = λ z. absurd (refused z);
+      whole = λ z. absurd (refused z);
+      every = λ z. absurd (refused z);
+      some = λ z. absurd (refused z);
+    }
+
+pub opens : (P T : ℕ) (h : List Float) (step : Float) (r : Opened PolyphaseResampF32) → r ≡ opening P T h step → Opens P T h step r
+unfolding opening
+opens P T h step r e = rw e (go (inLimits P T) refl (eqb (length h) (P * T)) refl (aboveZero step) refl)
+  where
+    go :
+        (a : Bool) → inLimits P T ≡ a → (b : Bool) → eqb (length h) (P * T) ≡ b → (c : Bool) → aboveZero step ≡ c
+        → Opens P T h step (cond a (cond b (cond c (record { number = 0; state = fresh P T h step }) (refusedOpening 14)) (refusedOpening 13)) (refusedOpening 12))
+    go false l b m c s = refused-opens P T h step 12 (λ z. omega arith)
+    go true l false m c s = refused-opens P T h step 13 (λ z. omega arith)
+    go true l true m false s = refused-opens P T h step 14 (λ z. omega arith)
+    go true l true m true s =
+        let n : length h ≡ P * T = eqb-true (length h) (P * T) m in
+        record {
+          accepted = λ z. valid-fresh P T h step l s;
+          whole = λ z xs o r. fresh-becomes P T h l n step xs o r;
+          every = λ z xs o r. becomes-fresh P T h l n step xs o r;
+          some = λ z k xs. (_, becomes-all P T h l n step k xs);
+        }
+
+-- an opening with nothing to refuse
+pub opens-fresh :
+    (P T : ℕ) (h : List Float) (step : Float) → inLimits P T ≡ true → length h ≡ P * T → aboveZero step ≡ true
+    → opening P T h step ≡ record { number = 0; state = fresh P T h step }
+unfolding opening
+opens-fresh P T h step l n a = rw (l, eq-eqb (length h) (P * T) n, a)
+
+-- both clauses of the opening's contract
+pub opening-answer :
+    {P T : ℕ} {h : List Float} {step : Float} {r : Opened PolyphaseResampF32} → r ≡ opening P T h step → (r ≡ opening P T h step) × Opens P T h step r
+opening-answer {P} {T} {h} {step} {r} e = (e, opens P T h step r e)
+
+-- both clauses of a reset's contract, of a state that is refused and of one that is not
+pub reset-refused : (s : PolyphaseResampF32) → valid s ≡ false → (record { number = 15; state = s } ≡ reset s) × Resets s (record { number = 15; state = s })
+unfolding reset Resets
+reset-refused s v = (rw v, λ t. absurd (true≢false (sym t ∙ v)))
+
+pub reset-fresh :
+    (s : PolyphaseResampF32) (r : Opened PolyphaseResampF32) → valid s ≡ true → length (ownTaps s) ≡ s .phases * s .taps
+    → r ≡ record { number = 0; state = fresh (s .phases) (s .taps) (ownTaps s) (s .step) } → (r ≡ reset s) × Resets s r
+unfolding reset Resets
+reset-fresh s r v n e =
+    let o : r ≡ opening (s .phases) (s .taps) (ownTaps s) (s .step) =
+    e ∙ sym (opens-fresh (s .phases) (s .taps) (ownTaps s) (s .step) (valid-in-limits s v) n (valid-above s v))
+    in
+    (rw v o, λ t. (rw e, opens (s .phases) (s .taps) (ownTaps s) (s .step) r o))
+
+-- ---- a feed of the machine
+fed-valid : (s : PolyphaseResampF32) (xs : List Float) (n : ℕ) → valid s ≡ true → valid (feed resampler s xs n .line) ≡ true
+unfolding resampler
+fed-valid s xs n v = feed-keeps resampler (λ t. valid t ≡ true) (λ t g d. valid-passed t g d) (λ t x g d. valid-consumed t x g) s xs n v
+
+fed-conserves : (s : PolyphaseResampF32) (xs : List Float) (n : ℕ) (written : List Float) → written ≡ feed resampler s xs n .written → Conserves s xs written (feed resampler s xs n .taken) (feed resampler s xs n .line)
+fed-conserves s xs n written e = let c = feed-conserves resampler s xs n in rw e (record { onward = c .onward; only = c .only })
+
+-- where two counts leave the same samples
+left-alike : {s t : PolyphaseResampF32} {xs w : List Float} {n k : ℕ} → drop n xs ≡ drop k xs → Conserves s xs w n t → Conserves s xs w k t
+left-alike {s} {t} {xs} {w} e c =
+    record {
+      onward = λ o r. c .onward o (subst⁻¹ (λ (l : List Float). Runs resampler t l o) e r);
+      only = λ o r. let i = c .only o r in (i .0, subst (λ (l : List Float). Runs resampler t l (drop (length w) o)) e (i .1));
+    }
+
+-- the outputs in front of the span
+front : (w o : List Float) → take (length w) (laid w o) ≡ w
+front w o = take-append-seam w (drop (length w) o)
+
+pub block-kept :
+    (s : PolyphaseResampF32) (xs before after : List Float) (r : Outcome Counts PolyphaseResampF32) → r ≡ blockOutcome s xs before → after ≡ blockSpan s xs before
+    → BlockKept s xs before after r
+unfolding blockOutcome blockSpan block
+block-kept s xs before after r er ea =
+    let f : Fed PolyphaseResampF32 Float = feed resampler s xs (length before) in
+    record {
+      accepted = λ v. rw (er, v) (fed-valid s xs (length before) v);
+      conserved = λ v. rw (er, ea, v) (fed-conserves s xs (length before) _ (front (f .written) before));
+      drained = λ v. rw (er, v) (feed-short resampler s xs (length before));
+    }
+
+-- the three clauses of `process_block`
+abbrev pub BlockClauses : PolyphaseResampF32 → List Float → List Float → List Float → Outcome Counts PolyphaseResampF32 → Type 0
+BlockClauses s xs before after r = (r ≡ blockOutcome s xs before) × ((after ≡ blockSpan s xs before) × BlockKept s xs before after r)
+
+block-clauses : (s : PolyphaseResampF32) (xs before after : List Float) (r : Outcome Counts PolyphaseResampF32) → r ≡ blockOutcome s xs before → after ≡ blockSpan s xs before → BlockClauses s xs before after r
+block-clauses s xs before after r er ea = (er, (ea, block-kept s xs before after r er ea))
+
+pub block-refused : (s : PolyphaseResampF32) (xs before : List Float) → valid s ≡ false → BlockClauses s xs before before (record { number = 15; value = record { written = 0; taken = 0 }; state = s })
+unfolding blockOutcome blockSpan
+block-refused s xs before v = block-clauses s xs before before _ (rw v) (rw v)
+
+pub block-ran :
+    (s : PolyphaseResampF32) (xs before : List Float) (r : Ran) (d after : List Float) → valid s ≡ true
+    → RanTo (s .phases) (s .taps) (s .step) (s .mu) (s .prototype) (s .delay) xs before r d after
+    → BlockClauses s xs before after (record { number = 0; value = record { written = r .written; taken = r .taken }; state = together (s .phases) (s .taps) (r .mu) (s .step) d (s .prototype) })
+unfolding blockOutcome blockSpan block
+block-ran s xs before r d after v e =
+    block-clauses s xs before after _ (rw (v, e .written, e .taken, e .state)) (rw v (e .span))
+
+pub push-kept :
+    (s : PolyphaseResampF32) (x : Float) (before after : List Float) (r : Outcome ℕ PolyphaseResampF32) → r ≡ pushOutcome s x before → after ≡ pushSpan s x before
+    → PushKept s x before after r
+unfolding pushOutcome pushSpan push
+push-kept s x before after r er ea =
+    let f : Fed PolyphaseResampF32 Float = feed resampler (consumed s x) [] (length before) in
+    record {
+      accepted = λ v. rw (er, v) (fed-valid (consumed s x) [] (length before) (valid-consumed s x v));
+      conserved = λ v. rw (er, ea, v) (left-alike (drop-nil (f .taken)) (fed-conserves (consumed s x) [] (length before) _ (front (f .written) before)));
+      drained = λ v. rw (er, v) (λ h. feed-short resampler (consumed s x) [] (length before) h .1);
+    }
+
+-- the three clauses of `push`
+abbrev pub PushClauses : PolyphaseResampF32 → Float → List Float → List Float → Outcome ℕ PolyphaseResampF32 → Type 0
+PushClauses s x before after r = (r ≡ pushOutcome s x before) × ((after ≡ pushSpan s x before) × PushKept s x before after r)
+
+push-clauses : (s : PolyphaseResampF32) (x : Float) (before after : List Float) (r : Outcome ℕ PolyphaseResampF32) → r ≡ pushOutcome s x before → after ≡ pushSpan s x before → PushClauses s x before after r
+push-clauses s x before after r er ea = (er, (ea, push-kept s x before after r er ea))
+
+pub push-refused : (s : PolyphaseResampF32) (x : Float) (before : List Float) → valid s ≡ false → PushClauses s x before before (record { number = 15; value = 0; state = s })
+unfolding pushOutcome pushSpan
+push-refused s x before v = push-clauses s x before before _ (rw v) (rw v)
+
+pub push-ran :
+    (s : PolyphaseResampF32) (x : Float) (before : List Float) (r : Ran) (d₀ d after : List Float) → valid s ≡ true → d₀ ≡ shiftedIn (s .taps) x (s .delay)
+    → RanTo (s .phases) (s .taps) (s .step) (sub binary32 (s .mu) one32) (s .prototype) d₀ [] before r d after
+    → PushClauses s x before after (record { number = 0; value = r .written; state = together (s .phases) (s .taps) (r .mu) (s .step) d (s .prototype) })
+unfolding pushOutcome pushSpan push
+push-ran s x before r d₀ d after v k e =
+    let c : together (s .phases) (s .taps) (sub binary32 (s .mu) one32) (s .step) d₀ (s .prototype) ≡ consumed s x = unfold consumed in rw k in
+    push-clauses s x before after _ (rw (v, e .written, e .state, c)) (rw v (e .span ∙ rw c))

@@ -1,0 +1,143 @@
+// What the half-band filters do to a window of the last samples, the newest at its end.
+ghost use mathlib.Core.Path.{_≡_};
+ghost use mathlib.Core.List.{[], _∷_, _++_};
+ghost use Prim.Native.Nat.{_≤_, _-_, _*_};
+ghost use lib.Ieee.{binary32, add, mul};
+ghost use lib.ListN.{length, take, drop, replicate};
+ghost use Rattle.theory.specs.Sections.{state, outs};
+ghost use Rattle.float.specs.HalfBand.{zero32, flat};
+ghost use Rattle.float.specs.Windows.{slid, folded, decValue, intValue, pairs, decimator, interpolator};
+
+// The window moves down by so many places; the last so many stay.
+fn move_down(window: &mut [f32], by: usize)
+    requires { ⌜ by ≤ length (now window) ⌝ }
+    ensures { λ _. ⌜ now (window .exit) ≡ drop by (now (window .entry)) ++ drop (length (now (window .entry)) - by) (now (window .entry)) ⌝ }
+{
+    let n = window.len();
+    let mut i = 0;
+    while i + by < n {
+        window[i] = window[i + by];
+        i += 1;
+    }
+}
+
+// c[t] × (left + right)
+fn gain(tap: f32, left: f32, right: f32) -> f32
+    ensures { λ r. ⌜ r ≡ mul binary32 tap (add binary32 left right) ⌝ }
+{
+    tap * (left + right)
+}
+
+// From start, tap × (sum of two places as far from the window's two ends), tap 0 first.
+fn folded_sum(window: &[f32], taps: &[f32], step: usize, start: f32) -> f32
+    requires { ⌜ (1 ≤ step) × (length (now window) ≡ 2 * step * length (now taps)) ⌝ }
+    ensures { λ r. ⌜ r ≡ folded step (now (taps .entry)) (now (window .entry)) start (length (now (taps .entry))) ⌝ }
+{
+    let n = window.len();
+    let mut acc = start;
+    let mut t = 0;
+    while t < taps.len() {
+        acc = acc + gain(taps[t], window[step * t], window[n - step - step * t]);
+        t += 1;
+    }
+    acc
+}
+
+// The decimator takes a pair in, and gives its output.
+pub(crate) fn take_pair(window: &mut [f32], taps: &[f32], a: f32, b: f32) -> f32
+    requires { ⌜ (1 ≤ length (now taps)) × (length (now window) ≡ 4 * length (now taps)) ⌝ }
+    ensures { λ r. ⌜ (now (window .exit) ≡ slid (now (window .entry)) (a ∷ b ∷ [])) × (r ≡ decValue (now (taps .entry)) (slid (now (window .entry)) (a ∷ b ∷ []))) ⌝ }
+{
+    let n = window.len();
+    move_down(window, 2);
+    window[n - 2] = a;
+    window[n - 1] = b;
+    let centre = window[2 * taps.len() - 1];
+    0.5 * folded_sum(window, taps, 2, centre)
+}
+
+// The decimator takes n pairs of src in, and their outputs stand in front of dst.
+pub(crate) fn decimate(window: &mut [f32], taps: &[f32], src: &[f32], dst: &mut [f32], n: usize)
+    requires { ⌜ (1 ≤ length (now taps)) × (length (now window) ≡ 4 * length (now taps)) × (2 * n ≤ length (now src)) × (n ≤ length (now dst)) ⌝ }
+    ensures { λ _. ⌜ (now (window .exit) ≡ state (decimator (now (taps .entry))) (now (window .entry)) (take n (pairs (now (src .entry))))) × (now (dst .exit) ≡ outs (decimator (now (taps .entry))) (now (window .entry)) (take n (pairs (now (src .entry)))) ++ drop n (now (dst .entry))) ⌝ }
+{
+    let mut i = 0;
+    while i < n {
+        let y = take_pair(window, taps, src[2 * i], src[2 * i + 1]);
+        dst[i] = y;
+        i += 1;
+    }
+}
+
+// The two outputs that the interpolator makes of a sample.
+pub(crate) struct Both {
+    pub even: f32,
+    pub odd: f32,
+}
+
+// The interpolator takes a sample in, and gives its outputs.
+pub(crate) fn take_sample(window: &mut [f32], taps: &[f32], x: f32) -> Both
+    requires { ⌜ (1 ≤ length (now taps)) × (length (now window) ≡ 2 * length (now taps)) ⌝ }
+    ensures { λ r. ⌜ (now (window .exit) ≡ slid (now (window .entry)) (x ∷ [])) × ((r .even, r .odd) ≡ intValue (now (taps .entry)) (slid (now (window .entry)) (x ∷ []))) ⌝ }
+{
+    let n = window.len();
+    move_down(window, 1);
+    window[n - 1] = x;
+    let even = window[taps.len()];
+    let odd = folded_sum(window, taps, 1, 0.0);
+    Both { even, odd }
+}
+
+// The samples stand at the span's end.
+pub(crate) fn put_at_end(span: &mut [f32], src: &[f32])
+    requires { ⌜ length (now src) ≤ length (now span) ⌝ }
+    ensures { λ _. ⌜ now (span .exit) ≡ take (length (now (span .entry)) - length (now (src .entry))) (now (span .entry)) ++ now (src .entry) ⌝ }
+{
+    let from = span.len() - src.len();
+    let mut i = 0;
+    while i < src.len() {
+        span[from + i] = src[i];
+        i += 1;
+    }
+}
+
+// The last n samples of the span go through the interpolator, and their 2n outputs stand at its end. An output is never written over a sample that is
+// still to be read: output 2i + 1 stands n - 1 - i places before sample i.
+pub(crate) fn expand(window: &mut [f32], taps: &[f32], span: &mut [f32], n: usize)
+    requires { ⌜ (1 ≤ length (now taps)) × (length (now window) ≡ 2 * length (now taps)) × (2 * n ≤ length (now span)) ⌝ }
+    ensures { λ _. ⌜ (now (window .exit) ≡ state (interpolator (now (taps .entry))) (now (window .entry)) (drop (length (now (span .entry)) - n) (now (span .entry)))) × (now (span .exit) ≡ take (length (now (span .entry)) - 2 * n) (now (span .entry)) ++ flat (outs (interpolator (now (taps .entry))) (now (window .entry)) (drop (length (now (span .entry)) - n) (now (span .entry))))) ⌝ }
+{
+    let from = span.len() - n;
+    let to = from - n;
+    let mut i = 0;
+    while i < n {
+        let x = span[from + i];
+        let y = take_sample(window, taps, x);
+        span[to + 2 * i] = y.even;
+        span[to + 2 * i + 1] = y.odd;
+        i += 1;
+    }
+}
+
+// The interpolator takes src in, and its outputs fill the span.
+pub(crate) fn interpolate(window: &mut [f32], taps: &[f32], src: &[f32], span: &mut [f32])
+    requires { ⌜ (1 ≤ length (now taps)) × (length (now window) ≡ 2 * length (now taps)) × (length (now span) ≡ 2 * length (now src)) ⌝ }
+    ensures { λ _. ⌜ (now (window .exit) ≡ state (interpolator (now (taps .entry))) (now (window .entry)) (now (src .entry))) × (now (span .exit) ≡ flat (outs (interpolator (now (taps .entry))) (now (window .entry)) (now (src .entry)))) ⌝ }
+{
+    put_at_end(span, src);
+    expand(window, taps, span, src.len());
+}
+
+// The taps in front, and zeros behind them.
+pub(crate) fn padded(taps: &[f32]) -> [f32; 23]
+    requires { ⌜ length (now taps) ≤ 23 ⌝ }
+    ensures { λ r. ⌜ r ≡ now (taps .entry) ++ replicate (23 - length (now (taps .entry))) zero32 ⌝ }
+{
+    let mut coeffs = [0.0f32; 23];
+    let mut i = 0;
+    while i < taps.len() {
+        coeffs[i] = taps[i];
+        i += 1;
+    }
+    coeffs
+}

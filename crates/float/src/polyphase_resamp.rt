@@ -1,0 +1,409 @@
+// 01, section 5: the polyphase resampler of f32 samples.
+ghost use mathlib.Core.Path.{_≡_};
+ghost use mathlib.Core.Bool.{true, cond};
+ghost use Prim.Native.Nat.{_%_, _<_};
+ghost use lib.ListN.{length};
+ghost use Rattle.float.specs.F32.{zero32, aboveZero};
+ghost use Rattle.float.specs.PolyphaseOutput.{cutUnit, output};
+ghost use Rattle.float.specs.PolyphaseResamp as R;
+ghost use Rattle.float.specs.PolyphaseWhole as W;
+ghost use Rattle.refusal.specs.Table.{numberOf};
+use crate::cast::f32_to_usize_saturating;
+use refusal::Count;
+use refusal::Opening;
+use refusal::Refusal;
+
+pub const LEAST_PHASES: usize = 2;
+
+pub const MOST_PHASES: usize = 64;
+
+pub const LEAST_TAPS: usize = 1;
+
+pub const MOST_TAPS: usize = 16;
+
+pub const MOST_CELLS: usize = MOST_PHASES * MOST_TAPS;
+
+// The largest f32: a step above it is not finite.
+const LARGEST: f32 = 3.40282347e38;
+
+const LOWEST_MU: f32 = -16777216.0;
+
+const LEAST_LINE_STEP: f32 = 0.015625;
+
+const MOST_LINE_STEP: f32 = 64.0;
+
+// P and T, where the next output lies between two samples, how far it goes on with each output, the last T samples with the
+// newest first, and the prototype with tap t of phase p at t × P + p.
+pub struct PolyphaseResampF32 {
+    pub phases: usize,
+    pub taps: usize,
+    pub mu: f32,
+    pub step: f32,
+    pub delay: [f32; MOST_TAPS],
+    pub prototype: [f32; MOST_CELLS],
+}
+
+// What an opening or a reset answers, with the state.
+pub struct PolyphaseOpening {
+    pub answer: Opening,
+    pub state: PolyphaseResampF32,
+}
+
+// What a block answers: how many outputs it wrote, how many samples it took, and the next state.
+pub struct PolyphaseBlock {
+    pub answer: Count,
+    pub taken: usize,
+    pub state: PolyphaseResampF32,
+}
+
+// What a pushed sample answers: how many outputs it wrote, and the next state.
+pub struct PolyphasePush {
+    pub answer: Count,
+    pub state: PolyphaseResampF32,
+}
+
+// How far a run came.
+struct Ran {
+    mu: f32,
+    taken: usize,
+    written: usize,
+}
+
+// Whether x is finite and above zero, as a step or a ratio has to be.
+pub fn above_zero(x: f32) -> bool
+    ensures { λ r. ⌜ r ≡ aboveZero x ⌝ }
+{
+    0.0 < x && x <= LARGEST
+}
+
+// Whether n is from least to most.
+fn within(least: usize, most: usize, n: usize) -> bool
+    ensures { λ r. ⌜ r ≡ R.within least most n ⌝ }
+{
+    least <= n && n <= most
+}
+
+// Whether P and T are inside their limits.
+pub fn in_limits(phases: usize, taps: usize) -> bool
+    ensures { λ r. ⌜ r ≡ R.inLimits phases taps ⌝ }
+{
+    within(LEAST_PHASES, MOST_PHASES, phases) && within(LEAST_TAPS, MOST_TAPS, taps)
+}
+
+// Whether mu is from low to 1.0 + step as rounded.
+fn mu_from(low: f32, step: f32, mu: f32) -> bool
+    ensures { λ r. ⌜ r ≡ R.muFrom low step mu ⌝ }
+{
+    low <= mu && mu <= 1.0 + step
+}
+
+// Whether a call on a state with these numbers is not refused by 15.
+pub fn is_valid(phases: usize, taps: usize, step: f32, mu: f32) -> bool
+    ensures { λ r. ⌜ r ≡ R.validAt phases taps step mu ⌝ }
+{
+    if !in_limits(phases, taps) {
+        return false;
+    }
+    above_zero(step) && mu_from(LOWEST_MU, step, mu)
+}
+
+// Whether a step is one that the line takes.
+pub fn step_in_line(step: f32) -> bool
+    ensures { λ r. ⌜ r ≡ R.stepInLine step ⌝ }
+{
+    LEAST_LINE_STEP <= step && step <= MOST_LINE_STEP
+}
+
+// Whether a feed on a state with these numbers is not refused by 15: P = 0 means off.
+pub fn is_valid_in_line(phases: usize, taps: usize, step: f32, mu: f32) -> bool
+    ensures { λ r. ⌜ r ≡ R.validInLineAt phases taps step mu ⌝ }
+{
+    if phases == 0 {
+        return true;
+    }
+    if !in_limits(phases, taps) {
+        return false;
+    }
+    step_in_line(step) && mu_from(0.0, step, mu)
+}
+
+// Rust's `x.clamp(0.0, 1.0)`: a NaN stays a NaN.
+fn cut_unit(x: f32) -> f32
+    ensures { λ r. ⌜ r ≡ cutUnit x ⌝ }
+{
+    if x < 0.0 {
+        return 0.0;
+    }
+    if x > 1.0 {
+        return 1.0;
+    }
+    x
+}
+
+// n modulo m, with no division where n is below 2m.
+fn reduced(n: usize, m: usize) -> usize
+    requires { ⌜ 0 < m ⌝ }
+    ensures { λ r. ⌜ r ≡ n % m ⌝ }
+{
+    if n < m {
+        return n;
+    }
+    let rest = n - m;
+    if rest < m {
+        return rest;
+    }
+    rest % m
+}
+
+// One output at mu, of the prototype and the delay that are lent. Where P or T is outside its limits, 0.0.
+pub fn interpolate(
+    prototype: &[f32; MOST_CELLS],
+    delay: &[f32; MOST_TAPS],
+    phases: usize,
+    taps: usize,
+    mu: f32,
+) -> f32
+    ensures { λ r. ⌜ r ≡ cond (R.inLimits phases taps) (output phases taps mu (now (delay .entry)) (now (prototype .entry))) zero32 ⌝ }
+{
+    if !in_limits(phases, taps) {
+        return 0.0;
+    }
+    let q = (1.0 - cut_unit(mu)) * (phases as f32);
+    let p0 = reduced(f32_to_usize_saturating(q), phases);
+    let p1 = reduced(p0 + 1, phases);
+    let f = q - (p0 as f32);
+    let mut y0 = 0.0f32;
+    let mut y1 = 0.0f32;
+    let mut t = 0;
+    while t < taps {
+        let x = delay[t];
+        y0 = y0 + prototype[t * phases + p0] * x;
+        y1 = y1 + prototype[t * phases + p1] * x;
+        t += 1;
+    }
+    y0 * (1.0 - f) + y1 * f
+}
+
+// An array by value is known to be as long as its type says, and one that is lent is not: this call, which compiles to nothing, tells it.
+fn lent_whole(delay: [f32; MOST_TAPS])
+    ensures { λ _. ⌜ length delay ≡ R.mostTaps ⌝ }
+{}
+
+// The sample x goes in at the front of the delay's first T places. Where there are no T places, nothing moves.
+pub fn shift_in(delay: &mut [f32; MOST_TAPS], taps: usize, x: f32)
+    ensures { λ _. ⌜ now (delay .exit) ≡ R.shiftedIn taps x (now (delay .entry)) ⌝ }
+{
+    if taps > MOST_TAPS {
+        return;
+    }
+    lent_whole(*delay);
+    let mut held = x;
+    let mut t = 0;
+    while t < taps {
+        let next = delay[t];
+        delay[t] = held;
+        held = next;
+        t += 1;
+    }
+}
+
+// While dst has a place: an output that is due is written, else a sample is consumed, else the run stops.
+fn run(
+    prototype: &[f32; MOST_CELLS],
+    delay: &mut [f32; MOST_TAPS],
+    phases: usize,
+    taps: usize,
+    step: f32,
+    mu: f32,
+    src: &[f32],
+    dst: &mut [f32],
+) -> Ran
+    requires { ⌜ R.inLimits phases taps ≡ true ⌝ }
+    ensures { λ r. ⌜ R.RanTo phases taps step mu (now (prototype .entry)) (now (delay .entry)) (now (src .entry)) (now (dst .entry)) r (now (delay .exit)) (now (dst .exit)) ⌝ }
+{
+    let mut at = mu;
+    let mut taken = 0usize;
+    let mut written = 0usize;
+    while written < dst.len() {
+        if at < 1.0 {
+            dst[written] = interpolate(prototype, delay, phases, taps, at);
+            written += 1;
+            at = at + step;
+        } else {
+            if src.len() <= taken {
+                break;
+            }
+            shift_in(delay, taps, src[taken]);
+            taken += 1;
+            at = at - 1.0;
+        }
+    }
+    Ran {
+        mu: at,
+        taken,
+        written,
+    }
+}
+
+// The prototype in front, zeros behind; what is past the last place is not read.
+fn packed(prototype: &[f32]) -> [f32; MOST_CELLS]
+    ensures { λ r. ⌜ r ≡ R.packed (now (prototype .entry)) ⌝ }
+{
+    let mut cells = [0.0f32; MOST_CELLS];
+    let mut i = 0usize;
+    while i < MOST_CELLS && i < prototype.len() {
+        cells[i] = prototype[i];
+        i += 1;
+    }
+    cells
+}
+
+impl PolyphaseResampF32 {
+    // The state of a refused opening, and in the line of a resampler that is off.
+    pub fn zeros() -> Self
+        ensures { λ r. ⌜ r ≡ R.zeros ⌝ }
+    {
+        PolyphaseResampF32 {
+            phases: 0,
+            taps: 0,
+            mu: 0.0,
+            step: 0.0,
+            delay: [0.0f32; MOST_TAPS],
+            prototype: [0.0f32; MOST_CELLS],
+        }
+    }
+
+    // The state of an opening: mu is 1.0 and every delay zero.
+    pub fn fresh(phases: usize, taps: usize, prototype: &[f32], step: f32) -> Self
+        ensures { λ r. ⌜ r ≡ R.fresh phases taps (now (prototype .entry)) step ⌝ }
+    {
+        PolyphaseResampF32 {
+            phases,
+            taps,
+            mu: 1.0,
+            step,
+            delay: [0.0f32; MOST_TAPS],
+            prototype: packed(prototype),
+        }
+    }
+
+    // A resampler of P phases and T taps, whose prototype has tap t of phase p at t × P + p. Refused by 12, 13, 14.
+    pub fn from_taps(phases: usize, taps: usize, prototype: &[f32], step: f32) -> PolyphaseOpening
+        ensures answer { λ r. ⌜ R.toldOpening r ≡ R.opening phases taps (now (prototype .entry)) step ⌝ }
+        ensures whole { λ r. ⌜ W.Opens phases taps (now (prototype .entry)) step (R.toldOpening r) ⌝ }
+    {
+        if !in_limits(phases, taps) {
+            return refused_opening(Refusal::Phases);
+        }
+        if prototype.len() != phases * taps {
+            return refused_opening(Refusal::Prototype);
+        }
+        if !above_zero(step) {
+            return refused_opening(Refusal::Step);
+        }
+        PolyphaseOpening {
+            answer: Opening::Opened,
+            state: PolyphaseResampF32::fresh(phases, taps, prototype, step),
+        }
+    }
+
+    // Samples of src become outputs in dst, as long as dst has a place. Refused by 15.
+    pub fn process_block(mut self, src: &[f32], dst: &mut [f32]) -> PolyphaseBlock
+        ensures answer { λ r. ⌜ R.toldBlock r ≡ R.blockOutcome self (now (src .entry)) (now (dst .entry)) ⌝ }
+        ensures span { λ r. ⌜ now (dst .exit) ≡ R.blockSpan self (now (src .entry)) (now (dst .entry)) ⌝ }
+        ensures kept { λ r. ⌜ W.BlockKept self (now (src .entry)) (now (dst .entry)) (now (dst .exit)) (R.toldBlock r) ⌝ }
+    {
+        if !is_valid(self.phases, self.taps, self.step, self.mu) {
+            return PolyphaseBlock {
+                answer: Count::Refused(Refusal::State),
+                taken: 0,
+                state: self,
+            };
+        }
+        let mut delay = self.delay;
+        let ran = run(
+            &self.prototype,
+            &mut delay,
+            self.phases,
+            self.taps,
+            self.step,
+            self.mu,
+            src,
+            dst,
+        );
+        self.mu = ran.mu;
+        self.delay = delay;
+        PolyphaseBlock {
+            answer: Count::Written(ran.written),
+            taken: ran.taken,
+            state: self,
+        }
+    }
+
+    // The sample x is consumed whatever mu is, and then what is due is written, as long as out has a place. Refused by 15.
+    pub fn push(mut self, x: f32, out: &mut [f32]) -> PolyphasePush
+        ensures answer { λ r. ⌜ R.toldPush r ≡ R.pushOutcome self x (now (out .entry)) ⌝ }
+        ensures span { λ r. ⌜ now (out .exit) ≡ R.pushSpan self x (now (out .entry)) ⌝ }
+        ensures kept { λ r. ⌜ W.PushKept self x (now (out .entry)) (now (out .exit)) (R.toldPush r) ⌝ }
+    {
+        if !is_valid(self.phases, self.taps, self.step, self.mu) {
+            return PolyphasePush {
+                answer: Count::Refused(Refusal::State),
+                state: self,
+            };
+        }
+        let mut delay = self.delay;
+        shift_in(&mut delay, self.taps, x);
+        let none = [0.0f32; 0];
+        let ran = run(
+            &self.prototype,
+            &mut delay,
+            self.phases,
+            self.taps,
+            self.step,
+            self.mu - 1.0,
+            &none,
+            out,
+        );
+        self.mu = ran.mu;
+        self.delay = delay;
+        PolyphasePush {
+            answer: Count::Written(ran.written),
+            state: self,
+        }
+    }
+
+    // The fresh opening with the state's own settings and prototype. Refused by 15.
+    pub fn reset(self) -> PolyphaseOpening
+        ensures answer { λ r. ⌜ R.toldOpening r ≡ R.reset self ⌝ }
+        ensures whole { λ r. ⌜ W.Resets self (R.toldOpening r) ⌝ }
+    {
+        if !is_valid(self.phases, self.taps, self.step, self.mu) {
+            return PolyphaseOpening {
+                answer: Opening::Refused(Refusal::State),
+                state: self,
+            };
+        }
+        let prototype = self.prototype;
+        let cells = self.phases * self.taps;
+        PolyphaseOpening {
+            answer: Opening::Opened,
+            state: PolyphaseResampF32::fresh(
+                self.phases,
+                self.taps,
+                &prototype[..cells],
+                self.step,
+            ),
+        }
+    }
+}
+
+// What a refused opening answers: the refusal, and a state of zeros.
+fn refused_opening(why: Refusal) -> PolyphaseOpening
+    ensures { λ r. ⌜ R.toldOpening r ≡ R.refusedOpening (numberOf why) ⌝ }
+{
+    PolyphaseOpening {
+        answer: Opening::Refused(why),
+        state: PolyphaseResampF32::zeros(),
+    }
+}

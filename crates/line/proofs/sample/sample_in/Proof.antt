@@ -1,0 +1,107 @@
+-- `sample_in` meets its contract: the decimator makes nothing, or a sum that, scaled and cut, the FIR takes.
+use mathlib.Core.Path.{_≡_, refl, sym, ap, _∙_}
+use mathlib.Core.Option.{Option, none, some}
+use Prim.Native.Nat.{ℕ, _^_}
+use native.Mathlib.Omega.{arith}
+use borrow.Author.Needs.{needs}
+use denote.Ref.{now}
+use lib.IntN.{ℤ}
+use mir.Syntax.{w16, w32, w64}
+use mir.Val.{SFits, toZ, ofZ}
+use mir.Facts.{toZ-ofZ, sfits-widen}
+use Rattle.theory.specs.Floor.{floorDiv}
+use Rattle.theory.specs.Sections.{each}
+use Rattle.theory.specs.Machines.{before}
+use Rattle.integer.specs.Gain.{gainBits}
+use Rattle.integer.specs.CicDecimator.{decimator, scaledBy, scaledDecimator, sumOf}
+use Rattle.integer.specs.declared.cic_decimator.CicDecimator.{CicDecimator}
+use Rattle.q15.specs.Fixed.{cut}
+use Rattle.line.specs.Line.{from3}
+use Rattle.line.specs.Together.{cicOf}
+use Rattle.line.proofs.Taking.{takes-none, takes-some, takes-line}
+use Rattle.line.proofs.sample.sample_in.Statement.{statement}
+use Rattle.line.proofs.sample.sample_in.Tie as tie
+
+abbrev start : tie.After-sample-at → tie.Start
+start c = c .before .before .before
+
+-- what the decimator made of the sample
+made : (c : tie.After-sample-at) →
+    let a = start c .args in
+    let d = cicOf (a .f) (a .s .«sample_counter») (now (a .integrators)) (now (a .combs)) in
+    (sumOf (c .sample-at .result .sum) ≡ decimator .out d (a .x))
+    × (cicOf (a .f) (c .sample-at .result .«sample_counter») (c .sample-at .last .1 .1 .1 .0) (c .sample-at .last .1 .1 .1 .1 .0) ≡ decimator .next d (a .x))
+made c = rw (toZ-ofZ (start c .fits .x)) at (c .sample-at .ensures)
+
+-- the sum, scaled and cut
+cut-is : (c : tie.After-cut-q15) →
+    let a = start (c .before .before .before .before .before) .args in
+    c .cut-q15 .result .0 ≡ cut w16 (floorDiv (c .before .before .before .made .given .0 .0) (2 ^ gainBits (a .f .stages) (a .f .r)))
+cut-is c =
+    let f : SFits w32 (c .before .scaled .result) = record { sfits = c .before .scaled .ok } in
+    let v = c .before .before .before .made .given .0 .0 in
+    let g : SFits w32 v = record { sfits = omega arith } in
+    let a = start (c .before .before .before .before .before) .args in
+    c .cut-q15 .ensures
+    ∙ ap (cut w16)
+    (rw (toZ-ofZ f, toZ-ofZ (sfits-widen {w′ = w64} tt f))
+    (c .before .scaled .ensures
+    ∙ ap (λ (z : ℤ). floorDiv z (2 ^ a .f .bits)) (toZ-ofZ g)
+    ∙ ap (λ (n : ℕ). floorDiv v (2 ^ n)) (start (c .before .before .before .before .before) .pre)))
+
+sample-at-requires : tie.Need-sample-at-requires
+sample-at-requires c κs = search needs
+
+enum-told : tie.Need-enum-told
+enum-told c = search needs
+
+enum-known-made : tie.Need-enum-known-made
+enum-known-made c = search needs
+
+scaled-requires : tie.Need-scaled-requires
+scaled-requires c κs = search needs
+
+cast-cut-q15 : tie.Need-cast-cut-q15
+cast-cut-q15 c =
+    let f : SFits w32 (c .scaled .result) = record { sfits = c .scaled .ok } in
+    rw (toZ-ofZ f) (sfits-widen tt f)
+
+cut-q15-requires : tie.Need-cut-q15-requires
+cut-q15-requires c κs = search needs
+
+fir-in-requires : tie.Need-fir-in-requires
+fir-in-requires c κs = search needs
+
+returns : tie.Need-returns
+unfolding scaledDecimator
+returns c = λ h.
+    let k = c .before .before in
+    let a = start k .args in
+    takes-line _ _ _ _
+    (takes-none scaledDecimator (before (each (cut w16)) from3) _ _ _ _
+    (ap (scaledBy (gainBits (a .f .stages) (a .f .r))) (sym (ap sumOf (c .enum-told .given .1)) ∙ made k .0)) (made k .1))
+
+returns-2 : tie.Need-returns-2
+unfolding scaledDecimator
+returns-2 c = λ h.
+    let k = c .before .before .before .before .before .before .before .before .before .before .before in
+    let a = start k .args in
+    let g = gainBits (a .f .stages) (a .f .r) in
+    takes-line _ _ _ _
+    (takes-some scaledDecimator (before (each (cut w16)) from3) _ _ _ _ _ _ _
+    (ap (scaledBy g) (sym (ap sumOf (c .before .before .before .before .before .before .before .before .before .made .given .1)) ∙ made k .0)) (made k .1)
+    (takes-some (each (cut w16)) from3 _ _ _ _ _ _ _ refl refl (rw (cut-is (c .before .before .before .before .before .before)) at (c .fir-in .ensures h))))
+
+pub sample-in-spec : {M : Type 1} → statement M
+sample-in-spec =
+    tie.close
+    (tie.spec
+    sample-at-requires
+    enum-told
+    enum-known-made
+    scaled-requires
+    cast-cut-q15
+    cut-q15-requires
+    fir-in-requires
+    returns
+    returns-2)

@@ -1,0 +1,5 @@
+pub mod Outputs
+pub mod Line
+pub mod Together
+pub mod Demand3
+pub mod Pieces

@@ -1,0 +1,199 @@
+-- 01, section 6: the sections one before the other, as one machine over the line's own record; what a state must be not to be refused; and what a step, a feed,
+-- an opening and a reset come to.
+use mathlib.Core.Path.{_≡_}
+use mathlib.Core.Bool.{Bool, true, false, cond, _&&_, not}
+use mathlib.Core.List.{List, [], _∷_, _++_}
+use mathlib.Core.Option.{Option, none, some}
+use Prim.Native.Nat.{ℕ, zero, suc, _*_}
+use lib.Dec.{leb, ltb, eqb}
+use lib.ListN.{length, take, drop}
+use lib.IntN.{ℤ}
+use lib.Ieee.{Float}
+use mir.Syntax.{w16}
+use Rattle.theory.specs.Sections.{Section, each}
+use Rattle.theory.specs.Machines.{Machine, before, viewed}
+use Rattle.theory.specs.Feeds as F
+use Rattle.refusal.specs.Table.{numberOf}
+use Rattle.refusal.specs.Outcome.{Outcome, Opened, openingNumber, Moved, countsAnswer}
+use Rattle.integer.specs.Limits.{stagesOk, factorOk}
+use Rattle.integer.specs.Gain.{gainBits, mostBits}
+use Rattle.integer.specs.CicDecimator.{scaledDecimator}
+use Rattle.integer.specs.CicDecimator as C
+use Rattle.integer.specs.declared.cic_decimator.CicDecimator.{CicDecimator}
+use Rattle.q15.specs.Fixed.{cut}
+use Rattle.q15.specs.FirDecimator.{fir, settingsNumber}
+use Rattle.q15.specs.FirDecimator as Q
+use Rattle.q15.specs.declared.fir_decimator.FirDecimator.{FirDecimator}
+use Rattle.float.specs.Limits.{mostStages}
+use Rattle.float.specs.HbfStream.{hbfStream, streamFresh, streamRefused}
+use Rattle.float.specs.PolyphaseResamp.{inLine, inLimits, stepInLine, validInLine}
+use Rattle.float.specs.PolyphaseResamp as R
+use Rattle.float.specs.declared.hbf_stream.HbfStream.{HbfStream}
+use Rattle.float.specs.declared.polyphase_resamp.PolyphaseResampF32.{PolyphaseResampF32}
+use Rattle.float.specs.Level.{level}
+use Rattle.line.specs.Outputs.{Opening}
+use Rattle.line.specs.declared.settings.Settings.{Settings}
+use Rattle.line.specs.declared.gauge_line.Line.{Line}
+use Rattle.line.specs.declared.gauge_line.LineStep.{LineStep}
+use Rattle.line.specs.declared.gauge_line.LineStep.the-variants as step
+use Rattle.line.specs.declared.gauge_line.LineStepped.{LineStepped}
+use Rattle.line.specs.declared.gauge_line.LineFed.{LineFed}
+use Rattle.line.specs.declared.gauge_line.LineOpened.{LineOpened}
+
+-- the sections' states, in their order; those that only map a value have none
+abbrev pub Parts : Type 0
+Parts = CicDecimator × (Unit {0} × (FirDecimator × (Unit {0} × (HbfStream × PolyphaseResampF32))))
+
+abbrev pub partsOf : Line → Parts
+partsOf l = (l .cic, (tt, (l .fir, (tt, (l .«half_band», l .resampler)))))
+
+abbrev pub ofParts : Parts → Line
+ofParts p = record { cic = p .0; fir = p .1 .1 .0; «half_band» = p .1 .1 .1 .1 .0; resampler = p .1 .1 .1 .1 .1 }
+
+-- "the next sample is taken through sections 1 to 5 (with the resampler off, a value that results is written)": the machine, from section k on
+abbrev pub from5 : Machine PolyphaseResampF32 Float Float
+from5 = inLine
+
+abbrev pub from4 : Machine (HbfStream × PolyphaseResampF32) Float Float
+from4 = before hbfStream from5
+
+abbrev pub from3 : Machine (FirDecimator × (Unit {0} × (HbfStream × PolyphaseResampF32))) ℤ Float
+from3 = before fir (before (each level) from4)
+
+abbrev pub chain : Machine Parts ℤ Float
+chain = before scaledDecimator (before (each (cut w16)) from3)
+
+abbrev pub line : Machine Line ℤ Float
+line = viewed chain partsOf ofParts
+
+-- row 15 of the table, part by part: "settings that its opening refuses; `sample_counter` not below r; more than one held sample at one half-band stage; FIR wait 0
+-- or above both T and D; mu not in .. (line: 0..1+step); a part that is off is not checked"
+unfoldable pub cicFine : CicDecimator → Bool
+cicFine d = C.valid d && leb (gainBits (d .stages) (d .r)) mostBits
+
+unfoldable pub halfBandFine : HbfStream → Bool
+halfBandFine s = not (streamRefused (s .depth) (s .counts))
+
+unfoldable pub valid : Line → Bool
+valid l = cicFine (l .cic) && (Q.valid (l .fir) && (halfBandFine (l .«half_band») && validInLine (l .resampler)))
+
+-- each case of LineStep in the words of section 6: "it took a sample, wrote one float sample, did both, or stopped", and its number
+abbrev pub eventOf : LineStep → F.Event Float
+eventOf step.Took = F.took
+eventOf (step.Wrote y) = F.wrote y
+eventOf (step.TookAndWrote y) = F.both y
+eventOf step.Stopped = F.stopped
+eventOf (step.Refused q) = F.stopped
+
+abbrev pub stepNumber : LineStep → ℕ
+stepNumber step.Took = 0
+stepNumber (step.Wrote y) = 0
+stepNumber (step.TookAndWrote y) = 0
+stepNumber step.Stopped = 0
+stepNumber (step.Refused q) = numberOf q
+
+abbrev pub toldStep : LineStepped → Outcome (F.Event Float) Line
+toldStep r = record { number = stepNumber (r .step); value = eventOf (r .step); state = r .line }
+
+-- one step, with a place of the span left or not, and the next sample if there is one
+unfoldable pub stepOutcome : Line → Bool → Option ℤ → Outcome (F.Event Float) Line
+stepOutcome l place x =
+    cond (valid l)
+    (record { number = 0; value = F.step line place l x .event; state = F.step line place l x .line })
+    (record { number = 15; value = F.stopped; state = l })
+
+-- a feed: "steps until stopped and gives counts taken and written"; and the span that it leaves
+abbrev pub toldFeed : LineFed → Outcome Moved Line
+toldFeed r = record { number = countsAnswer (r .counts) .number; value = countsAnswer (r .counts) .value; state = r .line }
+
+unfoldable pub fedLine : Line → List ℤ → ℕ → F.Fed Line Float
+fedLine l xs places = F.feed line l xs places
+
+unfoldable pub feedOutcome : Line → List ℤ → ℕ → Outcome Moved Line
+feedOutcome l xs places =
+    cond (valid l)
+    (record { number = 0; value = record { taken = fedLine l xs places .taken; written = length (fedLine l xs places .written) }; state = fedLine l xs places .line })
+    (record { number = 15; value = record { taken = 0; written = 0 }; state = l })
+
+unfoldable pub feedSpan : Line → List ℤ → List Float → List Float
+feedSpan l xs span =
+    cond (valid l)
+    (fedLine l xs (length span) .written ++ drop (length (fedLine l xs (length span) .written)) span)
+    span
+
+-- ---- openings
+
+-- the first refusal that applies, 0 for none
+abbrev pub firstOf : ℕ → ℕ → ℕ
+firstOf zero n = n
+firstOf (suc q) n = suc q
+
+-- rows 1, 2 and 3
+unfoldable pub cicNumber : ℕ → ℕ → ℕ
+cicNumber N r = cond (stagesOk N) (cond (factorOk r) (cond (leb (gainBits N r) mostBits) 0 3) 2) 1
+
+-- row 11, "depth over 5"; 0 means off
+unfoldable pub depthNumber : ℕ → ℕ
+depthNumber depth = cond (ltb mostStages depth) 11 0
+
+-- rows 12, 13 and 14; "P = 0 means off, the other resampler settings and the prototype are not looked at, and step is 1/64 to 64"
+unfoldable pub resamplerNumber : ℕ → ℕ → ℕ → Float → ℕ
+resamplerNumber P T cells step = cond (eqb P 0) 0 (cond (inLimits P T) (cond (eqb cells (P * T)) (cond (stepInLine step) 0 14) 13) 12)
+
+-- in the table's order; 5 and 6 stand in the Q15 layer
+unfoldable pub numberAt : Settings → ℕ → ℕ → ℕ
+numberAt s tapCount cells =
+    firstOf (cicNumber (s .stages) (s .r))
+    (firstOf (settingsNumber tapCount (s .factor)) (firstOf (depthNumber (s .depth)) (resamplerNumber (s .phases) (s .taps) cells (s .step))))
+
+abbrev pub openingNumberOf : Opening → ℕ
+openingNumberOf o = numberAt (o .settings) (length (o .taps)) (length (o .prototype))
+
+-- "A part that is off is opened as zeros, settings too": no taps, depth 0, P = 0
+unfoldable pub resamplerFresh : Settings → List Float → PolyphaseResampF32
+resamplerFresh s prototype = cond (eqb (s .phases) 0) R.zeros (R.fresh (s .phases) (s .taps) prototype (s .step))
+
+unfoldable pub fresh : Opening → Line
+fresh o =
+    record {
+      cic = C.fresh (o .settings .stages) (o .settings .r);
+      fir = Q.fresh (o .taps) (o .settings .factor);
+      «half_band» = streamFresh (o .settings .depth);
+      resampler = resamplerFresh (o .settings) (o .prototype);
+    }
+
+-- "a refused opening's state is all zeros"
+unfoldable pub zeros : Line
+zeros = record { cic = C.fresh 0 0; fir = Q.firZeros; «half_band» = streamFresh 0; resampler = R.zeros }
+
+abbrev pub openedBy : ℕ → Opening → Line
+openedBy zero o = fresh o
+openedBy (suc q) o = zeros
+
+unfoldable pub opened : Opening → Opened Line
+opened o = record { number = openingNumberOf o; state = openedBy (openingNumberOf o) o }
+
+abbrev pub toldOpening : LineOpened → Opened Line
+toldOpening r = record { number = openingNumber (r .answer); state = r .line }
+
+-- what a line was opened with
+unfoldable pub openingOf : Line → Opening
+openingOf l =
+    record {
+      settings =
+          record {
+            stages = l .cic .stages;
+            r = l .cic .r;
+            factor = l .fir .factor;
+            depth = l .«half_band» .depth;
+            phases = l .resampler .phases;
+            taps = l .resampler .taps;
+            step = l .resampler .step;
+          };
+      taps = take (l .fir .«tap_count») (l .fir .taps);
+      prototype = take (l .resampler .phases * l .resampler .taps) (l .resampler .prototype);
+    }
+
+-- "Reset equals a fresh opening"
+unfoldable pub reset : Line → Opened Line
+reset l = cond (valid l) (opened (openingOf l)) (record { number = 15; state = l })

@@ -1,0 +1,95 @@
+-- The line of which a loop holds the settings, the numbers and the arrays apart, and what a value does in a machine: for the contracts of the private functions.
+use mathlib.Core.Path.{_≡_}
+use mathlib.Core.Bool.{Bool, cond, _&&_, not}
+use mathlib.Core.List.{List, _++_}
+use mathlib.Core.Option.{Option}
+use Prim.Native.Nat.{ℕ, _+_, _-_, min}
+use lib.Dec.{eqb, leb}
+use lib.ListN.{length, drop}
+use lib.IntN.{ℤ}
+use lib.Ieee.{Float, lt}
+use Rattle.theory.specs.Machines.{Machine}
+use Rattle.theory.specs.Feeds as F
+use Rattle.integer.specs.Gain.{gainBits, mostBits}
+use Rattle.integer.specs.CicDecimator.{decimatorOf}
+use Rattle.integer.specs.CicDecimator as C
+use Rattle.integer.specs.declared.cic_decimator.CicDecimator.{CicDecimator}
+use Rattle.q15.specs.FirDecimator.{firState, firValid}
+use Rattle.q15.specs.declared.fir_decimator.FirDecimator.{FirDecimator}
+use Rattle.float.specs.F32.{one32}
+use Rattle.float.specs.HbfStream.{streamOf, streamRefused}
+use Rattle.float.specs.PolyphaseResamp as R
+use Rattle.float.specs.declared.hbf_stream.HbfStream.{HbfStream}
+use Rattle.float.specs.declared.polyphase_resamp.PolyphaseResampF32.{PolyphaseResampF32}
+use Rattle.line.specs.Line.{fedLine}
+use Rattle.line.specs.declared.gauge_line.Line.{Line}
+use Rattle.line.specs.declared.sample.Fixed.{Fixed}
+use Rattle.line.specs.declared.sample.Numbers.{Numbers}
+use Rattle.line.specs.declared.step.Did.{Did}
+use Rattle.line.specs.declared.step.Did.the-variants as did
+use Rattle.line.specs.declared.step.NumberStep.{NumberStep}
+
+-- m at the state p takes a: `out` is what it makes at once, and q its next state
+abbrev pub Takes : {S A C : Type 0} → Machine S A C → S → A → Option C → S → Type 0
+Takes m p a out q = (out ≡ m .now p a) × (q ≡ m .next p a)
+
+-- the parts
+abbrev pub cicOf : Fixed → ℕ → List ℤ → List ℤ → CicDecimator
+cicOf f counter integrators combs = decimatorOf (f .stages) (f .r) integrators combs counter
+
+abbrev pub firOf : Fixed → ℕ → List ℤ → List ℤ → FirDecimator
+firOf f wait taps delay = firState taps (f .«tap_count») (f .factor) delay wait
+
+abbrev pub halfBandOf : Fixed → List Float → List Float → List ℕ → HbfStream
+halfBandOf f delays held counts = streamOf (f .depth) delays held counts
+
+abbrev pub resamplerOf : Fixed → Float → List Float → List Float → PolyphaseResampF32
+resamplerOf f mu delay prototype = R.together (f .phases) (f .taps) mu (f .step) delay prototype
+
+-- the whole
+abbrev pub together : Fixed → Numbers → List ℤ → List ℤ → List ℤ → List ℤ → List Float → List Float → List ℕ → List Float → List Float → Line
+together f s integrators combs taps firDelay delays held counts delay prototype =
+    record {
+      cic = cicOf f (s .«sample_counter») integrators combs;
+      fir = firOf f (s .wait) taps firDelay;
+      «half_band» = halfBandOf f delays held counts;
+      resampler = resamplerOf f (s .mu) delay prototype;
+    }
+
+abbrev pub didOf : Did → F.Event Float
+didOf did.Took = F.took
+didOf (did.Wrote y) = F.wrote y
+didOf (did.TookAndWrote y) = F.both y
+didOf did.Stopped = F.stopped
+
+abbrev pub steppedAt : Fixed → NumberStep → List ℤ → List ℤ → List ℤ → List ℤ → List Float → List Float → List ℕ → List Float → List Float → F.Stepped Line Float
+steppedAt f r integrators combs taps firDelay delays held counts delay prototype =
+    record { event = didOf (r .step); line = together f (r .numbers) integrators combs taps firDelay delays held counts delay prototype }
+
+-- "An output is due when the resampler is on and mu < 1."
+unfoldable pub dueAt : Fixed → Float → Bool
+dueAt f mu = not (eqb (f .phases) 0) && lt mu one32
+
+-- how many of `left` samples complete no sum, where a place is left and no output is due: those that go through the integrators at once
+unfoldable pub atOnce : Fixed → Numbers → Bool → ℕ → ℕ
+atOnce f s place left = cond place (cond (dueAt f (s .mu)) 0 (min (f .r - 1 - s .«sample_counter») left)) 0
+
+-- the numbers after k more samples
+abbrev pub counted : Numbers → ℕ → Numbers
+counted s k = record { «sample_counter» = s .«sample_counter» + k; wait = s .wait; mu = s .mu }
+
+-- row 15 of the line held apart: the gain bits of a valid decimator, 64 of another
+unfoldable pub bitsAt : ℕ → ℕ → ℕ → ℕ
+bitsAt N r counter = cond (C.validAt N r counter) (gainBits N r) 64
+
+unfoldable pub validAt : Fixed → Numbers → List ℕ → Bool
+validAt f s counts =
+    leb (f .bits) mostBits
+    && (firValid (f .«tap_count») (f .factor) (s .wait) && (not (streamRefused (f .depth) counts) && R.validInLineAt (f .phases) (f .taps) (f .step) (s .mu)))
+
+-- what a feed of the line l left: the counts, the line k and the span are those of section 6's feed
+pub record RanTo (l : Line) (xs : List ℤ) (before after : List Float) (taken written : ℕ) (k : Line) : Type 0 where
+  pub took : taken ≡ fedLine l xs (length before) .taken
+  pub wrote : written ≡ length (fedLine l xs (length before) .written)
+  pub line : k ≡ fedLine l xs (length before) .line
+  pub span : after ≡ fedLine l xs (length before) .written ++ drop (length (fedLine l xs (length before) .written)) before

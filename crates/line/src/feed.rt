@@ -1,0 +1,124 @@
+// 01, section 6: "A feed steps until stopped". The arrays are lent, and the samples that complete no sum go through the integrators at once.
+ghost use mathlib.Core.Path.{_≡_};
+ghost use mathlib.Core.Bool.{true};
+ghost use Prim.Native.Nat.{_-_, _<_, _≤_, min};
+ghost use lib.IntN.{pos};
+ghost use lib.ListN.{length, take, drop};
+ghost use Rattle.integer.specs.Stages.{ran};
+ghost use Rattle.integer.specs.Gain.{gainBits};
+ghost use Rattle.line.specs.Line as L;
+ghost use Rattle.line.specs.Together as T;
+use crate::sample::Fixed;
+use crate::sample::Numbers;
+use crate::step::Did;
+use crate::step::due;
+use crate::step::step_on;
+use integer::stages::run;
+
+// How far a feed came.
+pub struct Ran {
+    pub numbers: Numbers,
+    pub taken: usize,
+    pub written: usize,
+}
+
+fn least(a: usize, b: usize) -> usize
+    ensures { λ m. ⌜ m ≡ min a b ⌝ }
+{
+    if a < b { a } else { b }
+}
+
+// The samples that complete no sum, where a place is left and no output is due.
+fn at_once(
+    f: Fixed,
+    s: Numbers,
+    integrators: &mut [i32; 8],
+    samples: &[i32],
+    at: usize,
+    place: bool,
+) -> usize
+    requires { ⌜ (s .«sample_counter» < f .r) × (at ≤ length (now samples)) ⌝ }
+    ensures { λ m. ⌜ (m ≡ T.atOnce f s place (length (now (samples .entry)) - at)) × (now (integrators .exit) ≡ ran (f .stages) (now (integrators .entry)) (pos 0) (take m (drop at (now (samples .entry)))) .state) ⌝ }
+{
+    if !place {
+        return 0;
+    }
+    if due(f, s.mu) {
+        return 0;
+    }
+    let m = least(f.r - 1 - s.sample_counter, samples.len() - at);
+    if m == 0 {
+        return 0;
+    }
+    run(f.stages, integrators, samples, at, at + m);
+    m
+}
+
+// Steps until stopped.
+pub(crate) fn feed_on(
+    f: Fixed,
+    s: Numbers,
+    integrators: &mut [i32; 8],
+    combs: &mut [i32; 8],
+    taps: &[i16; 64],
+    fir_delay: &mut [i16; 64],
+    delays: &mut [f32; 480],
+    held: &mut [f32; 5],
+    counts: &mut [usize; 5],
+    delay: &mut [f32; 16],
+    prototype: &[f32; 1024],
+    samples: &[i32],
+    out: &mut [f32],
+) -> Ran
+    requires { ⌜ (f .bits ≡ gainBits (f .stages) (f .r)) × (L.valid (T.together f s (now integrators) (now combs) (now taps) (now «fir_delay») (now delays) (now held) (now counts) (now delay) (now prototype)) ≡ true) ⌝ }
+    ensures { λ r. ⌜ T.RanTo (T.together f s (now (integrators .entry)) (now (combs .entry)) (now (taps .entry)) (now («fir_delay» .entry)) (now (delays .entry)) (now (held .entry)) (now (counts .entry)) (now (delay .entry)) (now (prototype .entry))) (now (samples .entry)) (now (out .entry)) (now (out .exit)) (r .taken) (r .written) (T.together f (r .numbers) (now (integrators .exit)) (now (combs .exit)) (now (taps .entry)) (now («fir_delay» .exit)) (now (delays .exit)) (now (held .exit)) (now (counts .exit)) (now (delay .exit)) (now (prototype .entry))) ⌝ }
+{
+    let mut n = s;
+    let mut taken: usize = 0;
+    let mut written: usize = 0;
+    loop {
+        let m = at_once(f, n, integrators, samples, taken, written < out.len());
+        n.sample_counter = n.sample_counter + m;
+        taken += m;
+        let on = step_on(
+            f,
+            n,
+            integrators,
+            combs,
+            taps,
+            fir_delay,
+            delays,
+            held,
+            counts,
+            delay,
+            prototype,
+            samples,
+            taken,
+            written < out.len(),
+        );
+        let next = on.numbers;
+        n = next;
+        let step = on.step;
+        match step {
+            Did::Took => {
+                taken += 1;
+            }
+            Did::Wrote(y) => {
+                out[written] = y;
+                written += 1;
+            }
+            Did::TookAndWrote(y) => {
+                out[written] = y;
+                taken += 1;
+                written += 1;
+            }
+            Did::Stopped => {
+                return Ran {
+                    numbers: n,
+                    taken,
+                    written,
+                };
+            }
+        }
+    }
+}

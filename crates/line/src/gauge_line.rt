@@ -1,0 +1,389 @@
+// 01, section 6: the gauge line.
+ghost use mathlib.Core.Path.{_≡_};
+ghost use mathlib.Core.Bool.{true};
+ghost use lib.ListN.{length, drop};
+ghost use Rattle.theory.specs.Feeds.{headOf};
+ghost use Rattle.integer.specs.Gain.{gainBits};
+ghost use Rattle.refusal.specs.Outcome.{openingNumber};
+ghost use Rattle.line.specs.Line as L;
+ghost use Rattle.line.specs.Together as T;
+ghost use Rattle.line.specs.Demand3.{Demand3};
+use crate::feed::feed_on;
+use crate::opening::answer;
+use crate::sample::Fixed;
+use crate::sample::Numbers;
+use crate::settings::Settings;
+use crate::step::Did;
+use crate::step::step_on;
+use crate::validity::bits_at;
+use crate::validity::valid_at;
+use float::HbfStream;
+use float::PolyphaseResampF32;
+use integer::CicDecimator;
+use q15::FirDecimator;
+use refusal::Counts;
+use refusal::Opening;
+use refusal::Refusal;
+
+// The parts of a line, each as its layer has it. A part that is off is zeros, settings too.
+pub struct Line {
+    pub cic: CicDecimator,
+    pub fir: FirDecimator,
+    pub half_band: HbfStream,
+    pub resampler: PolyphaseResampF32,
+}
+
+// An opening or a reset, with the line beside it.
+pub struct LineOpened {
+    pub answer: Opening,
+    pub line: Line,
+}
+
+// What a step did: it took a sample, wrote one float sample, did both, stopped, or was refused.
+pub enum LineStep {
+    Took,
+    Wrote(f32),
+    TookAndWrote(f32),
+    Stopped,
+    Refused(Refusal),
+}
+
+pub struct LineStepped {
+    pub step: LineStep,
+    pub line: Line,
+}
+
+// How many samples a feed took and how many outputs it wrote.
+pub struct LineFed {
+    pub counts: Counts,
+    pub line: Line,
+}
+
+fn zeros() -> Line
+    ensures { λ l. ⌜ l ≡ L.zeros ⌝ }
+{
+    let cic = CicDecimator::new(0, 0).state;
+    let none = [0i16; 0];
+    let fir = FirDecimator::new(&none, 0).state;
+    let half_band = HbfStream::new(0).state;
+    let resampler = PolyphaseResampF32::zeros();
+    Line {
+        cic,
+        fir,
+        half_band,
+        resampler,
+    }
+}
+
+fn resampler_of(s: Settings, prototype: &[f32]) -> PolyphaseResampF32
+    ensures { λ r. ⌜ r ≡ L.resamplerFresh s (now (prototype .entry)) ⌝ }
+{
+    if s.phases == 0 {
+        return PolyphaseResampF32::zeros();
+    }
+    PolyphaseResampF32::fresh(s.phases, s.taps, prototype, s.step)
+}
+
+fn fresh(s: Settings, taps: &[i16], prototype: &[f32]) -> Line
+    requires { ⌜ L.numberAt s (length (now taps)) (length (now prototype)) ≡ 0 ⌝ }
+    ensures { λ l. ⌜ l ≡ L.fresh (record { settings = s; taps = now (taps .entry); prototype = now (prototype .entry) }) ⌝ }
+{
+    let cic = CicDecimator::new(s.stages, s.r).state;
+    let fir = FirDecimator::new(taps, s.factor).state;
+    let half_band = HbfStream::new(s.depth).state;
+    let resampler = resampler_of(s, prototype);
+    Line {
+        cic,
+        fir,
+        half_band,
+        resampler,
+    }
+}
+
+fn public_step(step: Did) -> LineStep
+    ensures { λ e. ⌜ (L.stepNumber e ≡ 0) × (L.eventOf e ≡ T.didOf step) ⌝ }
+{
+    match step {
+        Did::Took => LineStep::Took,
+        Did::Wrote(y) => LineStep::Wrote(y),
+        Did::TookAndWrote(y) => LineStep::TookAndWrote(y),
+        Did::Stopped => LineStep::Stopped,
+    }
+}
+
+// A prototype's length, which no parameter carries.
+fn prototype_length(a: [f32; 1024])
+    ensures { λ _. ⌜ length a ≡ 1024 ⌝ }
+{}
+
+// The line put together from what a call held apart.
+fn assembled(
+    f: Fixed,
+    s: Numbers,
+    integrators: [i32; 8],
+    combs: [i32; 8],
+    taps: [i16; 64],
+    fir_delay: [i16; 64],
+    delays: [f32; 480],
+    held: [f32; 5],
+    counts: [usize; 5],
+    delay: [f32; 16],
+    prototype: [f32; 1024],
+) -> Line
+    ensures { λ l. ⌜ l ≡ T.together f s integrators combs taps «fir_delay» delays held counts delay prototype ⌝ }
+{
+    let cic = CicDecimator {
+        stages: f.stages,
+        r: f.r,
+        integrator_state: integrators,
+        comb_state: combs,
+        sample_counter: s.sample_counter,
+    };
+    let fir = FirDecimator {
+        taps,
+        tap_count: f.tap_count,
+        factor: f.factor,
+        delay: fir_delay,
+        wait: s.wait,
+    };
+    let half_band = HbfStream {
+        depth: f.depth,
+        delays,
+        held,
+        counts,
+    };
+    let resampler = PolyphaseResampF32 {
+        phases: f.phases,
+        taps: f.taps,
+        mu: s.mu,
+        step: f.step,
+        delay,
+        prototype,
+    };
+    Line {
+        cic,
+        fir,
+        half_band,
+        resampler,
+    }
+}
+
+impl Line {
+    // The first refusal of 01's table that applies, in its order, or the line. No taps: no FIR. Depth 0: no half-band stages. No phases: no resampler.
+    pub fn open(settings: Settings, taps: &[i16], prototype: &[f32]) -> LineOpened
+        ensures answer { λ o. ⌜ L.toldOpening o ≡ L.opened (record { settings = settings; taps = now (taps .entry); prototype = now (prototype .entry) }) ⌝ }
+    {
+        let refusal = answer(settings, taps.len(), prototype.len());
+        match refusal {
+            Opening::Refused(q) => LineOpened {
+                answer: Opening::Refused(q),
+                line: zeros(),
+            },
+            Opening::Opened => LineOpened {
+                answer: Opening::Opened,
+                line: fresh(settings, taps, prototype),
+            },
+        }
+    }
+
+    // One step, where the span has a place or not, with the sample at `at` of those lent as the next, if there is one. Refusal 15.
+    pub fn step(self, samples: &[i32], at: usize, place: bool) -> LineStepped
+        ensures answer { λ r. ⌜ L.toldStep r ≡ L.stepOutcome self place (headOf (drop at (now (samples .entry)))) ⌝ }
+    {
+        let cic = self.cic;
+        let fir = self.fir;
+        let half_band = self.half_band;
+        let resampler = self.resampler;
+        let f = Fixed {
+            stages: cic.stages,
+            r: cic.r,
+            bits: bits_at(cic.stages, cic.r, cic.sample_counter),
+            tap_count: fir.tap_count,
+            factor: fir.factor,
+            depth: half_band.depth,
+            phases: resampler.phases,
+            taps: resampler.taps,
+            step: resampler.step,
+        };
+        let s = Numbers {
+            sample_counter: cic.sample_counter,
+            wait: fir.wait,
+            mu: resampler.mu,
+        };
+        let mut counts = half_band.counts;
+        if !valid_at(f, s, counts) {
+            return LineStepped {
+                step: LineStep::Refused(Refusal::State),
+                line: self,
+            };
+        }
+        let mut integrators = cic.integrator_state;
+        let mut combs = cic.comb_state;
+        let mut fir_delay = fir.delay;
+        let mut delays = half_band.delays;
+        let mut held = half_band.held;
+        let mut delay = resampler.delay;
+        let taps = fir.taps;
+        let prototype = resampler.prototype;
+        let on = step_on(
+            f,
+            s,
+            &mut integrators,
+            &mut combs,
+            &taps,
+            &mut fir_delay,
+            &mut delays,
+            &mut held,
+            &mut counts,
+            &mut delay,
+            &prototype,
+            samples,
+            at,
+            place,
+        );
+        let did = on.step;
+        let numbers = on.numbers;
+        let step = public_step(did);
+        let line = assembled(
+            f,
+            numbers,
+            integrators,
+            combs,
+            taps,
+            fir_delay,
+            delays,
+            held,
+            counts,
+            delay,
+            prototype,
+        );
+        LineStepped { step, line }
+    }
+
+    // Steps until stopped. The clause `demand3` is the whole claim over every list of feeds. Refusal 15, and no other.
+    pub fn feed(self, samples: &[i32], out: &mut [f32]) -> LineFed
+        ensures answer { λ r. ⌜ L.toldFeed r ≡ L.feedOutcome self (now (samples .entry)) (length (now (out .entry))) ⌝ }
+        ensures span { λ r. ⌜ now (out .exit) ≡ L.feedSpan self (now (samples .entry)) (now (out .entry)) ⌝ }
+        ensures demand3 { λ r. ⌜ Demand3 self (now (samples .entry)) (now (out .entry)) (now (out .exit)) (L.toldFeed r) ⌝ }
+    {
+        let cic = self.cic;
+        let fir = self.fir;
+        let half_band = self.half_band;
+        let resampler = self.resampler;
+        let f = Fixed {
+            stages: cic.stages,
+            r: cic.r,
+            bits: bits_at(cic.stages, cic.r, cic.sample_counter),
+            tap_count: fir.tap_count,
+            factor: fir.factor,
+            depth: half_band.depth,
+            phases: resampler.phases,
+            taps: resampler.taps,
+            step: resampler.step,
+        };
+        let s = Numbers {
+            sample_counter: cic.sample_counter,
+            wait: fir.wait,
+            mu: resampler.mu,
+        };
+        let mut counts = half_band.counts;
+        if !valid_at(f, s, counts) {
+            return LineFed {
+                counts: Counts::Refused(Refusal::State),
+                line: self,
+            };
+        }
+        let mut integrators = cic.integrator_state;
+        let mut combs = cic.comb_state;
+        let mut fir_delay = fir.delay;
+        let mut delays = half_band.delays;
+        let mut held = half_band.held;
+        let mut delay = resampler.delay;
+        let taps = fir.taps;
+        let prototype = resampler.prototype;
+        let ran = feed_on(
+            f,
+            s,
+            &mut integrators,
+            &mut combs,
+            &taps,
+            &mut fir_delay,
+            &mut delays,
+            &mut held,
+            &mut counts,
+            &mut delay,
+            &prototype,
+            samples,
+            out,
+        );
+        let numbers = ran.numbers;
+        let line = assembled(
+            f,
+            numbers,
+            integrators,
+            combs,
+            taps,
+            fir_delay,
+            delays,
+            held,
+            counts,
+            delay,
+            prototype,
+        );
+        LineFed {
+            counts: Counts::Moved {
+                taken: ran.taken,
+                written: ran.written,
+            },
+            line,
+        }
+    }
+
+    // The fresh opening with the line's own settings, taps and prototype. Refusal 15.
+    pub fn reset(self) -> LineOpened
+        ensures answer { λ o. ⌜ L.toldOpening o ≡ L.reset self ⌝ }
+    {
+        let cic = self.cic;
+        let fir = self.fir;
+        let half_band = self.half_band;
+        let resampler = self.resampler;
+        let f = Fixed {
+            stages: cic.stages,
+            r: cic.r,
+            bits: bits_at(cic.stages, cic.r, cic.sample_counter),
+            tap_count: fir.tap_count,
+            factor: fir.factor,
+            depth: half_band.depth,
+            phases: resampler.phases,
+            taps: resampler.taps,
+            step: resampler.step,
+        };
+        let s = Numbers {
+            sample_counter: cic.sample_counter,
+            wait: fir.wait,
+            mu: resampler.mu,
+        };
+        let counts = half_band.counts;
+        if !valid_at(f, s, counts) {
+            return LineOpened {
+                answer: Opening::Refused(Refusal::State),
+                line: self,
+            };
+        }
+        let settings = Settings {
+            stages: cic.stages,
+            r: cic.r,
+            factor: fir.factor,
+            depth: half_band.depth,
+            phases: resampler.phases,
+            taps: resampler.taps,
+            step: resampler.step,
+        };
+        let taps = fir.taps;
+        let prototype = resampler.prototype;
+        prototype_length(prototype);
+        let t = fir.tap_count;
+        let cells = resampler.phases * resampler.taps;
+        Line::open(settings, &taps[..t], &prototype[..cells])
+    }
+}

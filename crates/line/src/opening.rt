@@ -1,0 +1,83 @@
+// 01's table from 1 down, as the line's opening has it: the first refusal that applies.
+ghost use mathlib.Core.Path.{_≡_};
+ghost use Rattle.refusal.specs.Outcome.{openingNumber};
+ghost use Rattle.line.specs.Line as L;
+use crate::settings::Settings;
+use float::MOST_STAGES;
+use float::polyphase_resamp::in_limits;
+use float::polyphase_resamp::step_in_line;
+use integer::gain::bits_of;
+use integer::gain::gain_of;
+use integer::limits::factor_ok;
+use integer::limits::stages_ok;
+use q15::fir_decimator::settings_answer;
+use refusal::Opening;
+use refusal::Refusal;
+
+// 01, section 1: "for g up to 31".
+pub const MAX_BITS: u32 = 31;
+
+fn cic_answer(stages: usize, r: usize) -> Opening
+    ensures { λ a. ⌜ openingNumber a ≡ L.cicNumber stages r ⌝ }
+{
+    if !stages_ok(stages) {
+        return Opening::Refused(Refusal::Stages);
+    }
+    if !factor_ok(r) {
+        return Opening::Refused(Refusal::Factor);
+    }
+    let bits = bits_of(gain_of(stages, r));
+    if MAX_BITS < bits {
+        return Opening::Refused(Refusal::GainBits);
+    }
+    Opening::Opened
+}
+
+fn depth_answer(depth: usize) -> Opening
+    ensures { λ a. ⌜ openingNumber a ≡ L.depthNumber depth ⌝ }
+{
+    if MOST_STAGES < depth {
+        return Opening::Refused(Refusal::Depth);
+    }
+    Opening::Opened
+}
+
+// No phases: off, and nothing else is looked at.
+fn resampler_answer(phases: usize, taps: usize, cells: usize, step: f32) -> Opening
+    ensures { λ a. ⌜ openingNumber a ≡ L.resamplerNumber phases taps cells step ⌝ }
+{
+    if phases == 0 {
+        return Opening::Opened;
+    }
+    if !in_limits(phases, taps) {
+        return Opening::Refused(Refusal::Phases);
+    }
+    if cells != phases * taps {
+        return Opening::Refused(Refusal::Prototype);
+    }
+    if !step_in_line(step) {
+        return Opening::Refused(Refusal::Step);
+    }
+    Opening::Opened
+}
+
+fn first(a: Opening, b: Opening) -> Opening
+    ensures { λ r. ⌜ openingNumber r ≡ L.firstOf (openingNumber a) (openingNumber b) ⌝ }
+{
+    match a {
+        Opening::Refused(q) => Opening::Refused(q),
+        Opening::Opened => b,
+    }
+}
+
+pub(crate) fn answer(s: Settings, tap_count: usize, cells: usize) -> Opening
+    ensures { λ a. ⌜ openingNumber a ≡ L.numberAt s «tap_count» cells ⌝ }
+{
+    let cic = cic_answer(s.stages, s.r);
+    let fir = settings_answer(tap_count, s.factor);
+    let half_band = depth_answer(s.depth);
+    let resampler = resampler_answer(s.phases, s.taps, cells, s.step);
+    let behind = first(half_band, resampler);
+    let after = first(fir, behind);
+    first(cic, after)
+}

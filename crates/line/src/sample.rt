@@ -1,0 +1,188 @@
+// A sample on its way through sections 1 to 5, the numbers by value and the arrays lent.
+ghost use mathlib.Core.Path.{_≡_};
+ghost use mathlib.Core.List.{List};
+ghost use lib.Ieee.{Float};
+ghost use Rattle.integer.specs.Gain.{gainBits};
+ghost use Rattle.float.specs.HbfStream.{valueOf};
+ghost use Rattle.line.specs.Line as L;
+ghost use Rattle.line.specs.Together as T;
+use float::hbf_stream::HbfOut;
+use float::hbf_stream::hbf_stream_at;
+use float::polyphase_resamp::shift_in;
+use float::q15_to_f32;
+use integer::cic_decimator::CicSum;
+use integer::cic_decimator::sample_at;
+use integer::gain::scaled;
+use q15::FirMade;
+use q15::Q15;
+use q15::cut_q15;
+use q15::fir_at;
+
+// What a feed never changes: the settings, and the gain bits that follow from them.
+pub struct Fixed {
+    pub stages: usize,
+    pub r: usize,
+    pub bits: u32,
+    pub tap_count: usize,
+    pub factor: usize,
+    pub depth: usize,
+    pub phases: usize,
+    pub taps: usize,
+    pub step: f32,
+}
+
+// The numbers that it does change.
+pub struct Numbers {
+    pub sample_counter: usize,
+    pub wait: usize,
+    pub mu: f32,
+}
+
+// What came of a level: nothing, or a level that is written at once.
+struct Resampled {
+    out: HbfOut,
+    mu: f32,
+}
+
+// The same of a value before the FIR.
+struct Filtered {
+    out: HbfOut,
+    wait: usize,
+    mu: f32,
+}
+
+// And of a sample.
+pub struct Sampled {
+    pub out: HbfOut,
+    pub numbers: Numbers,
+}
+
+// A level into the resampler, or past it where it is off.
+fn resampler_in(f: Fixed, mu: f32, delay: &mut [f32; 16], level: f32) -> Resampled
+    ensures { λ r. ⌜ ((h : List Float) → T.Takes L.from5 (T.resamplerOf f mu (now (delay .entry)) h) level (valueOf (r .out)) (T.resamplerOf f (r .mu) (now (delay .exit)) h)) ⌝ }
+{
+    if f.phases == 0 {
+        return Resampled {
+            out: HbfOut::Value(level),
+            mu,
+        };
+    }
+    shift_in(delay, f.taps, level);
+    Resampled {
+        out: HbfOut::Nothing,
+        mu: mu - 1.0,
+    }
+}
+
+// A level into the half-band stages, and what they make into the resampler.
+fn half_band_in(
+    f: Fixed,
+    mu: f32,
+    delays: &mut [f32; 480],
+    held: &mut [f32; 5],
+    counts: &mut [usize; 5],
+    delay: &mut [f32; 16],
+    level: f32,
+) -> Resampled
+    ensures { λ r. ⌜ ((h : List Float) → T.Takes L.from4 (T.halfBandOf f (now (delays .entry)) (now (held .entry)) (now (counts .entry)), T.resamplerOf f mu (now (delay .entry)) h) level (valueOf (r .out)) (T.halfBandOf f (now (delays .exit)) (now (held .exit)) (now (counts .exit)), T.resamplerOf f (r .mu) (now (delay .exit)) h)) ⌝ }
+{
+    let made = hbf_stream_at(f.depth, delays, held, counts, level);
+    match made {
+        HbfOut::Nothing => Resampled {
+            out: HbfOut::Nothing,
+            mu,
+        },
+        HbfOut::Value(y) => resampler_in(f, mu, delay, y),
+    }
+}
+
+// A value into the FIR, and what it makes into the half-band stages.
+fn fir_in(
+    f: Fixed,
+    wait: usize,
+    mu: f32,
+    taps: &[i16; 64],
+    fir_delay: &mut [i16; 64],
+    delays: &mut [f32; 480],
+    held: &mut [f32; 5],
+    counts: &mut [usize; 5],
+    delay: &mut [f32; 16],
+    value: Q15,
+) -> Filtered
+    ensures { λ r. ⌜ ((h : List Float) → T.Takes L.from3 (T.firOf f wait (now (taps .entry)) (now («fir_delay» .entry)), (tt, (T.halfBandOf f (now (delays .entry)) (now (held .entry)) (now (counts .entry)), T.resamplerOf f mu (now (delay .entry)) h))) (value .0) (valueOf (r .out)) (T.firOf f (r .wait) (now (taps .entry)) (now («fir_delay» .exit)), (tt, (T.halfBandOf f (now (delays .exit)) (now (held .exit)) (now (counts .exit)), T.resamplerOf f (r .mu) (now (delay .exit)) h)))) ⌝ }
+{
+    let at = fir_at(fir_delay, taps, f.tap_count, f.factor, wait, value);
+    let made = at.made;
+    match made {
+        FirMade::Nothing => Filtered {
+            out: HbfOut::Nothing,
+            wait: at.wait,
+            mu,
+        },
+        FirMade::Value(y) => {
+            let level = q15_to_f32(y);
+            let on = half_band_in(f, mu, delays, held, counts, delay, level);
+            let out = on.out;
+            Filtered {
+                out,
+                wait: at.wait,
+                mu: on.mu,
+            }
+        }
+    }
+}
+
+// A sample into the CIC decimator, and what it makes, scaled and cut, into the FIR.
+pub(crate) fn sample_in(
+    f: Fixed,
+    s: Numbers,
+    integrators: &mut [i32; 8],
+    combs: &mut [i32; 8],
+    taps: &[i16; 64],
+    fir_delay: &mut [i16; 64],
+    delays: &mut [f32; 480],
+    held: &mut [f32; 5],
+    counts: &mut [usize; 5],
+    delay: &mut [f32; 16],
+    x: i32,
+) -> Sampled
+    requires { ⌜ f .bits ≡ gainBits (f .stages) (f .r) ⌝ }
+    ensures { λ r. ⌜ ((h : List Float) → T.Takes L.line (T.together f s (now (integrators .entry)) (now (combs .entry)) (now (taps .entry)) (now («fir_delay» .entry)) (now (delays .entry)) (now (held .entry)) (now (counts .entry)) (now (delay .entry)) h) x (valueOf (r .out)) (T.together f (r .numbers) (now (integrators .exit)) (now (combs .exit)) (now (taps .entry)) (now («fir_delay» .exit)) (now (delays .exit)) (now (held .exit)) (now (counts .exit)) (now (delay .exit)) h)) ⌝ }
+{
+    let at = sample_at(f.stages, f.r, s.sample_counter, integrators, combs, x);
+    let made = at.sum;
+    match made {
+        CicSum::Nothing => Sampled {
+            out: HbfOut::Nothing,
+            numbers: Numbers {
+                sample_counter: at.sample_counter,
+                wait: s.wait,
+                mu: s.mu,
+            },
+        },
+        CicSum::Value(v) => {
+            let value = cut_q15(scaled(v, f.bits) as i64);
+            let on = fir_in(
+                f,
+                s.wait,
+                s.mu,
+                taps,
+                fir_delay,
+                delays,
+                held,
+                counts,
+                delay,
+                value,
+            );
+            let out = on.out;
+            Sampled {
+                out,
+                numbers: Numbers {
+                    sample_counter: at.sample_counter,
+                    wait: on.wait,
+                    mu: on.mu,
+                },
+            }
+        }
+    }
+}

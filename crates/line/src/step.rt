@@ -1,0 +1,113 @@
+// 01, section 6: "One step of the line: a full span stops it; else a due output is written; else the next sample is taken ..; else it stops."
+ghost use mathlib.Core.Path.{_≡_};
+ghost use mathlib.Core.Bool.{true};
+ghost use lib.ListN.{drop};
+ghost use Rattle.theory.specs.Feeds.{step, headOf, taking};
+ghost use Rattle.integer.specs.Gain.{gainBits};
+ghost use Rattle.float.specs.HbfStream.{valueOf};
+ghost use Rattle.float.specs.PolyphaseResamp.{inLimits};
+ghost use Rattle.line.specs.Line as L;
+ghost use Rattle.line.specs.Together as T;
+use crate::sample::Fixed;
+use crate::sample::Numbers;
+use crate::sample::sample_in;
+use float::hbf_stream::HbfOut;
+use float::polyphase_resamp::interpolate;
+
+// What a step of a valid line did.
+pub enum Did {
+    Took,
+    Wrote(f32),
+    TookAndWrote(f32),
+    Stopped,
+}
+
+// The same, and the numbers after it.
+pub struct NumberStep {
+    pub step: Did,
+    pub numbers: Numbers,
+}
+
+// "An output is due when the resampler is on and mu < 1."
+pub(crate) fn due(f: Fixed, mu: f32) -> bool
+    ensures { λ b. ⌜ b ≡ T.dueAt f mu ⌝ }
+{
+    if f.phases == 0 {
+        return false;
+    }
+    mu < 1.0
+}
+
+fn taking(out: HbfOut) -> Did
+    ensures { λ e. ⌜ T.didOf e ≡ taking (valueOf out) ⌝ }
+{
+    match out {
+        HbfOut::Nothing => Did::Took,
+        HbfOut::Value(y) => Did::TookAndWrote(y),
+    }
+}
+
+// One step, the numbers by value and the arrays lent.
+pub(crate) fn step_on(
+    f: Fixed,
+    s: Numbers,
+    integrators: &mut [i32; 8],
+    combs: &mut [i32; 8],
+    taps: &[i16; 64],
+    fir_delay: &mut [i16; 64],
+    delays: &mut [f32; 480],
+    held: &mut [f32; 5],
+    counts: &mut [usize; 5],
+    delay: &mut [f32; 16],
+    prototype: &[f32; 1024],
+    samples: &[i32],
+    at: usize,
+    place: bool,
+) -> NumberStep
+    requires { ⌜ (f .bits ≡ gainBits (f .stages) (f .r)) × (T.dueAt f (s .mu) ≡ true → inLimits (f .phases) (f .taps) ≡ true) ⌝ }
+    ensures steps { λ r. ⌜ T.steppedAt f r (now (integrators .exit)) (now (combs .exit)) (now (taps .entry)) (now («fir_delay» .exit)) (now (delays .exit)) (now (held .exit)) (now (counts .exit)) (now (delay .exit)) (now (prototype .entry)) ≡ step L.line place (T.together f s (now (integrators .entry)) (now (combs .entry)) (now (taps .entry)) (now («fir_delay» .entry)) (now (delays .entry)) (now (held .entry)) (now (counts .entry)) (now (delay .entry)) (now (prototype .entry))) (headOf (drop at (now (samples .entry)))) ⌝ }
+{
+    if !place {
+        return NumberStep {
+            step: Did::Stopped,
+            numbers: s,
+        };
+    }
+    if due(f, s.mu) {
+        let y = interpolate(prototype, delay, f.phases, f.taps, s.mu);
+        return NumberStep {
+            step: Did::Wrote(y),
+            numbers: Numbers {
+                sample_counter: s.sample_counter,
+                wait: s.wait,
+                mu: s.mu + f.step,
+            },
+        };
+    }
+    if samples.len() <= at {
+        return NumberStep {
+            step: Did::Stopped,
+            numbers: s,
+        };
+    }
+    let x = samples[at];
+    let on = sample_in(
+        f,
+        s,
+        integrators,
+        combs,
+        taps,
+        fir_delay,
+        delays,
+        held,
+        counts,
+        delay,
+        x,
+    );
+    let out = on.out;
+    let numbers = on.numbers;
+    NumberStep {
+        step: taking(out),
+        numbers,
+    }
+}

@@ -1,0 +1,134 @@
+-- One sample of the streaming FIR: the four ways it goes, and that a valid state stays valid, so that no sample after an opening is refused.
+use mathlib.Core.Path.{_≡_, refl, ap, _∙_}
+use mathlib.Core.Bool.{Bool, true, false, not, _&&_, cond, true≢false, false≢true}
+use mathlib.Core.List.{List, [], _∷_}
+use mathlib.Core.Option.{none, some}
+use Prim.Native.Nat.{ℕ, _-_, _≤_, _<_, max}
+use native.Mathlib.Decide.{decLe}
+use native.Mathlib.Omega.{arith}
+use borrow.Author.Tests.{eq-eqb, ne-eqb, eqb-true, eqb-false, lt-ltb, le-ltb, ltb-false, le-leb, lt-leb, leb-false, not-true}
+use lib.Dec.{leb, ltb, eqb}
+use lib.IntN.{ℤ}
+use Rattle.theory.specs.Sections.{onto, outs, state}
+use Rattle.theory.proofs.Sections.{state-keeps}
+use Rattle.q15.specs.Block.{mostFactor, outsideOf}
+use Rattle.q15.specs.PolyphaseDecimate.{filtered}
+use Rattle.q15.specs.FirDecimator.{mostTaps, firState, stored, moved, firNext, firOut, fir, settingsNumber, badWait, firValid, valid, firStep, steps}
+use Rattle.q15.specs.declared.fir_decimator.FirDecimator.{FirDecimator}
+use Rattle.q15.proofs.Rows.{inside}
+
+-- what the section makes of a sample: off, over 64 taps, still waiting, and with the sample that the wait was for
+module _ (c : List ℤ) (T D : ℕ) (d : List ℤ) (w : ℕ) (x : ℤ) where
+  pub off : T ≡ 0 → (some x ≡ firOut (firState c T D d w) x) × (firState c T D d w ≡ firNext (firState c T D d w) x)
+  unfolding firOut firNext
+  off e = rw (eq-eqb T 0 e) (refl, refl)
+
+  pub over : (T ≡ 0 → ⊥) → mostTaps < T → (none ≡ firOut (firState c T D d w) x) × (firState c T D d w ≡ firNext (firState c T D d w) x)
+  unfolding firOut firNext
+  over n l = rw (ne-eqb T 0 n, lt-ltb mostTaps T l) (refl, refl)
+
+  pub quiet :
+      (e : List ℤ) → e ≡ stored T w x d → (T ≡ 0 → ⊥) → T ≤ mostTaps → 1 < w
+      → (none ≡ firOut (firState c T D d w) x) × (firState c T D e (w - 1) ≡ firNext (firState c T D d w) x)
+  unfolding firOut firNext
+  quiet e h n t l = rw (ne-eqb T 0 n, le-ltb mostTaps T t, lt-leb w 1 l) (refl, ap (λ (p : List ℤ). firState c T D p (w - 1)) h)
+
+  pub makes :
+      (e f : List ℤ) (y : ℤ) → e ≡ stored T w x d → f ≡ moved T D e → y ≡ filtered c T e 0 → (T ≡ 0 → ⊥) → T ≤ mostTaps → w ≤ 1
+      → (some y ≡ firOut (firState c T D d w) x) × (firState c T D f D ≡ firNext (firState c T D d w) x)
+  unfolding firOut firNext
+  makes e f y h k v n t l =
+      rw (ne-eqb T 0 n, le-ltb mostTaps T t, le-leb w 1 l)
+      (ap some (v ∙ ap (λ (p : List ℤ). filtered c T p 0) h), ap (λ (p : List ℤ). firState c T D p D) (k ∙ ap (moved T D) h))
+
+-- settings that are not refused, of a part that is on
+pub settings-in : (T D : ℕ) → (T ≡ 0 → ⊥) → settingsNumber T D ≡ 0 → (T ≤ mostTaps) × (1 ≤ D)
+unfolding settingsNumber
+settings-in T D n e = go (outsideOf D 1 mostFactor) refl (ltb mostTaps T) refl (rw (ne-eqb T 0 n) at e)
+  where
+    go : (a : Bool) → outsideOf D 1 mostFactor ≡ a → (b : Bool) → ltb mostTaps T ≡ b → _≡_ {A = ℕ} (cond a 5 (cond b 6 0)) 0 → (T ≤ mostTaps) × (1 ≤ D)
+    go true p b q e = absurd (omega (arith, e))
+    go false p true q e = absurd (omega (arith, e))
+    go false p false q e = (ltb-false mostTaps T q, inside D 1 mostFactor p .0)
+
+-- a wait that is not bad, both ways
+good-wait : (T D w : ℕ) → badWait T D w ≡ false → (0 < w) × (w ≤ max T D)
+unfolding badWait
+good-wait T D w e = go (eqb w 0) refl (ltb T w) refl (ltb D w) refl e
+  where
+    go : (a : Bool) → eqb w 0 ≡ a → (b : Bool) → ltb T w ≡ b → (d : Bool) → ltb D w ≡ d → cond a true (b && d) ≡ false → (0 < w) × (w ≤ max T D)
+    go true p b q d r e = absurd (true≢false e)
+    go false p true q true r e = absurd (true≢false e)
+    go false p true q false r e = let z = eqb-false w 0 p in let l = ltb-false D w r in (omega arith, omega arith)
+    go false p false q d r e = let z = eqb-false w 0 p in let l = ltb-false T w q in (omega arith, omega arith)
+
+wait-good : (T D w : ℕ) → 0 < w → w ≤ max T D → badWait T D w ≡ false
+unfolding badWait
+wait-good T D w p l =
+    let z : w ≡ 0 → ⊥ = omega arith in
+    rw (ne-eqb w 0 z)
+    (elim (decLe w T) [
+      | yes h ↦ rw (le-ltb T w h)
+      | no h ↦ rw (lt-ltb T w (omega arith), le-ltb D w (omega arith))
+    ])
+
+-- a valid state of a part that is on
+pub record On (T D w : ℕ) : Type 0 where
+  pub settings : settingsNumber T D ≡ 0
+  pub few : T ≤ mostTaps
+  pub factor : 1 ≤ D
+  pub waits : (0 < w) × (w ≤ max T D)
+
+pub valid-on : (T D w : ℕ) → (T ≡ 0 → ⊥) → firValid T D w ≡ true → On T D w
+unfolding firValid
+valid-on T D w n e = go (eqb (settingsNumber T D) 0) refl (rw (ne-eqb T 0 n) at e)
+  where
+    go : (b : Bool) → eqb (settingsNumber T D) 0 ≡ b → cond b (not (badWait T D w)) false ≡ true → On T D w
+    go true p e =
+        let s = eqb-true (settingsNumber T D) 0 p in
+        let i = settings-in T D n s in
+        record { settings = s; few = i .0; factor = i .1; waits = good-wait T D w (not-true (badWait T D w) e) }
+    go false p e = absurd (false≢true e)
+
+pub on-valid : (T D w : ℕ) → settingsNumber T D ≡ 0 → 0 < w → w ≤ max T D → firValid T D w ≡ true
+unfolding firValid
+on-valid T D w s p l = go (eqb T 0)
+  where
+    go : (b : Bool) → cond b true (cond (eqb (settingsNumber T D) 0) (not (badWait T D w)) false) ≡ true
+    go true = refl
+    go false = rw (eq-eqb (settingsNumber T D) 0 s, wait-good T D w p l)
+
+-- a valid state has at most 64 taps
+pub valid-few : (T D w : ℕ) → firValid T D w ≡ true → T ≤ mostTaps
+valid-few T D w v = elim (decLe 1 T) [
+  | yes h ↦ valid-on T D w (let n : T ≡ 0 → ⊥ = omega arith in n) v .few
+  | no h ↦ (let l : T ≤ mostTaps = omega arith in l)
+]
+
+-- every sample keeps a state valid
+pub valid-next : (s : FirDecimator) (x : ℤ) → valid s ≡ true → valid (firNext s x) ≡ true
+unfolding firNext
+valid-next s x v = go (eqb (s .«tap_count») 0) refl (ltb mostTaps (s .«tap_count»)) (leb (s .wait) 1) refl _ _
+  where
+    go :
+        (a : Bool) → eqb (s .«tap_count») 0 ≡ a → (b e : Bool) → leb (s .wait) 1 ≡ e → (p q : List ℤ)
+        → valid (cond a s (cond b s (cond e (firState (s .taps) (s .«tap_count») (s .factor) p (s .factor)) (firState (s .taps) (s .«tap_count») (s .factor) q (s .wait - 1))))) ≡ true
+    go true n b e l p q = v
+    go false n true e l p q = v
+    go false n false true l p q =
+        let o = valid-on (s .«tap_count») (s .factor) (s .wait) (eqb-false (s .«tap_count») 0 n) v in
+        on-valid (s .«tap_count») (s .factor) (s .factor) (o .settings) (o .factor) (omega arith)
+    go false n false false l p q =
+        let o = valid-on (s .«tap_count») (s .factor) (s .wait) (eqb-false (s .«tap_count») 0 n) v in
+        let h = leb-false (s .wait) 1 l in
+        on-valid (s .«tap_count») (s .factor) (s .wait - 1) (o .settings) (omega arith) (omega (arith, o .waits))
+
+-- what a caller sees of a valid state is the section, and no sample is refused
+pub outs-steps : (s : FirDecimator) (w : List ℤ) → valid s ≡ true → outs steps s w ≡ outs fir s w
+outs-steps s [] v = refl
+outs-steps s (a ∷ w) v = rw v (ap (onto (firOut s a)) (outs-steps (firNext s a) w (valid-next s a v)))
+
+pub never-refused : (s : FirDecimator) → valid s ≡ true → (w : List ℤ) (x : ℤ) → firStep (state steps s w) x .number ≡ 0
+never-refused s v w x =
+    let k : valid (state steps s w) ≡ true = state-keeps steps (λ r. valid r ≡ true) (λ r a h. rw h (valid-next r a h)) s w v in
+    rw k

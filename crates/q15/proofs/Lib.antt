@@ -1,0 +1,10 @@
+mod Sums
+mod Filling
+mod Rows
+mod Counts
+mod Between
+mod Windows
+pub mod FirSteps
+pub mod FirStream
+pub mod FirOpening
+pub mod Readings

@@ -1,0 +1,33 @@
+-- 01, section 3, `polyphase_decimate_q15`: taps c of length T, factor D, a list s of n samples.
+use mathlib.Core.Bool.{cond}
+use mathlib.Core.List.{List}
+use Prim.Native.Nat.{ℕ, _+_, _-_, _*_, _/_, min}
+use lib.Dec.{leb}
+use lib.IntN.{ℤ}
+use lib.ListN.{length}
+use mir.Syntax.{w16}
+use Rattle.refusal.specs.Outcome.{Answer}
+use Rattle.theory.specs.Lists.{listed}
+use Rattle.q15.specs.Fixed.{cut}
+use Rattle.q15.specs.FirSum.{firSum}
+use Rattle.q15.specs.Block.{blockNumber, blockAnswer, blockSpan}
+
+-- "the cut to 16 bits of the sum over t of floor(s[iD+t] × c[t] / 32768), t from 0 to T−1", for the samples from `from` = iD on
+unfoldable pub filtered : List ℤ → ℕ → List ℤ → ℕ → ℤ
+filtered c T s from = cut w16 (firSum (λ t. t) c T s from)
+
+-- "floor((n−T)/D)+1, or 0 where n < T"
+abbrev pub decimatedCount : ℕ → ℕ → ℕ → ℕ
+decimatedCount T D n = cond (leb T n) ((n - T) / D + 1) 0
+
+-- the outputs of the whole list, output i at the samples from iD on
+unfoldable pub decimated : List ℤ → ℕ → List ℤ → List ℤ
+decimated c D s = listed (decimatedCount (length c) D (length s)) (λ i. filtered c (length c) s (i * D))
+
+module _ (c : List ℤ) (D : ℕ) (s dst : List ℤ) where
+  -- "Count: the smaller of the span and .."
+  abbrev pub decimateAnswer : Answer ℕ
+  decimateAnswer = blockAnswer (blockNumber D (length c) (length s) (length dst)) (min (length dst) (decimatedCount (length c) D (length s)))
+
+  abbrev pub decimateSpan : List ℤ
+  decimateSpan = blockSpan (blockNumber D (length c) (length s) (length dst)) (decimated c D s) dst

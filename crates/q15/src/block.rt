@@ -1,0 +1,50 @@
+// 01, "Where each call is turned back": the rows that the Q15 blocks share.
+ghost use mathlib.Core.Path.{_≡_};
+ghost use Rattle.q15.specs.Block.{outsideOf, samplesNumber, blockNumber, rowsNumber};
+use refusal::Refusal;
+
+// The largest factor.
+pub const MOST_FACTOR: usize = 4096;
+// The most taps, samples and places of a block.
+pub const MOST_BLOCK: usize = 65536;
+
+// What the table's rows say of a block: none applies, or the first that does.
+pub(crate) enum Rows {
+    Passed,
+    Refused(Refusal),
+}
+
+pub(crate) fn outside(n: usize, low: usize, high: usize) -> bool
+    ensures { λ r. ⌜ r ≡ outsideOf n low high ⌝ }
+{
+    if n < low {
+        return true;
+    }
+    high < n
+}
+
+// Row 7, for n samples and a span of m places.
+pub(crate) fn samples_row(n: usize, m: usize) -> Rows
+    ensures { λ r. ⌜ rowsNumber r ≡ samplesNumber n m ⌝ }
+{
+    if outside(n, 1, MOST_BLOCK) {
+        return Rows::Refused(Refusal::Samples);
+    }
+    if MOST_BLOCK < m {
+        return Rows::Refused(Refusal::Samples);
+    }
+    Rows::Passed
+}
+
+// Rows 5, 6 and 7, for t taps.
+pub(crate) fn block_rows(factor: usize, t: usize, n: usize, m: usize) -> Rows
+    ensures { λ r. ⌜ rowsNumber r ≡ blockNumber factor t n m ⌝ }
+{
+    if outside(factor, 1, MOST_FACTOR) {
+        return Rows::Refused(Refusal::FirFactor);
+    }
+    if outside(t, 1, MOST_BLOCK) {
+        return Rows::Refused(Refusal::Taps);
+    }
+    samples_row(n, m)
+}

@@ -1,0 +1,69 @@
+// 01, section 3: FIR decimation of a block.
+ghost use mathlib.Core.Path.{_≡_};
+ghost use mathlib.Core.List.{_++_};
+ghost use Prim.Native.Nat.{ℕ, _+_, _*_, _≤_, _<_, min};
+ghost use lib.ListN.{length, drop};
+ghost use Rattle.refusal.specs.Outcome.{countAnswer};
+ghost use Rattle.theory.specs.Lists.{listed};
+ghost use Rattle.q15.specs.Block.{mostBlock};
+ghost use Rattle.q15.specs.PolyphaseDecimate.{filtered, decimatedCount, decimateAnswer, decimateSpan};
+use crate::block::Rows;
+use crate::block::block_rows;
+use crate::fir_sum::fir_sum;
+use crate::fixed::cut_q15;
+use refusal::Count;
+
+// How many outputs n samples, t taps and factor d make, in a span of m places.
+fn decimated_count(n: usize, t: usize, d: usize, m: usize) -> usize
+    requires { ⌜ (0 < d) × (0 < t) ⌝ }
+    ensures { λ r. ⌜ r ≡ min m (decimatedCount t d n) ⌝ }
+{
+    if n < t {
+        return 0;
+    }
+    let k = (n - t) / d + 1;
+    if m < k {
+        return m;
+    }
+    k
+}
+
+// So many outputs from the front of the span.
+fn decimate(src: &[i16], coeffs: &[i16], d: usize, count: usize, dst: &mut [i16])
+    requires { ⌜ (count ≤ length (now dst)) × (length (now coeffs) ≤ mostBlock) × (length (now src) ≤ mostBlock) × ((i : ℕ) → i < count → i * d + length (now coeffs) ≤ length (now src)) ⌝ }
+    ensures { λ _. ⌜ now (dst .exit) ≡ listed count (λ i. filtered (now (coeffs .entry)) (length (now (coeffs .entry))) (now (src .entry)) (i * d)) ++ drop count (now (dst .entry)) ⌝ }
+{
+    let t = coeffs.len();
+    let mut i = 0;
+    while i < count {
+        let sum = fir_sum(src, i * d, coeffs, t);
+        let y = cut_q15(sum);
+        let bits = y.0;
+        dst[i] = bits;
+        i += 1;
+    }
+}
+
+// Filters by `coeffs` and keeps every decimation_factor-th output; answers how many stand in front of the span. Refusals 5, 6, 7.
+pub fn polyphase_decimate_q15(
+    src: &[i16],
+    coeffs: &[i16],
+    decimation_factor: usize,
+    dst: &mut [i16],
+) -> Count
+    ensures answer { λ r. ⌜ countAnswer r ≡ decimateAnswer (now (coeffs .entry)) «decimation_factor» (now (src .entry)) (now (dst .entry)) ⌝ }
+    ensures span { λ _. ⌜ now (dst .exit) ≡ decimateSpan (now (coeffs .entry)) «decimation_factor» (now (src .entry)) (now (dst .entry)) ⌝ }
+{
+    let n = src.len();
+    let t = coeffs.len();
+    let m = dst.len();
+    let rows = block_rows(decimation_factor, t, n, m);
+    match rows {
+        Rows::Refused(q) => Count::Refused(q),
+        Rows::Passed => {
+            let count = decimated_count(n, t, decimation_factor, m);
+            decimate(src, coeffs, decimation_factor, count, dst);
+            Count::Written(count)
+        }
+    }
+}

@@ -1,0 +1,94 @@
+// The operations of HbfInt. `w` is the words behind an operation's code: its inputs, then the answers. Slices that it lends are read before.
+use crate::answers::same_written;
+use float::HbfInt;
+use float::HbfIntOpening;
+use float::HbfIntOut;
+use float::HbfIntStep;
+use records::answers::same_opening;
+use records::answers::same_refusal;
+use records::slices::behind;
+use records::slices::lend_floats;
+use records::slices::same_floats;
+use records::words::first;
+use records::words::float;
+use records::words::long;
+use records::words::rest;
+use records::words::same;
+use records::words::same_float;
+use records::words::same_long;
+use records::words::word;
+
+// Where a state's taps begin, behind their number; its delay follows them.
+const TAPS: usize = 2;
+
+fn state_of(w: &[u32]) -> HbfInt {
+    let mut coeffs = [0.0f32; 23];
+    let mut delay = [0.0f32; 48];
+    let lent = rest(w, TAPS);
+    lend_floats(lent, &mut coeffs);
+    lend_floats(behind(lent), &mut delay);
+    HbfInt {
+        m: long(w, 0),
+        coeffs,
+        delay,
+    }
+}
+
+// The words behind a state.
+pub fn behind_state(w: &[u32]) -> &[u32] {
+    behind(behind(rest(w, TAPS)))
+}
+
+// The state after a call on the one that `lent` begins with; on none, that is of zeros, after an opening.
+fn same_state(w: &[u32], at: usize, lent: &[u32], state: HbfInt) -> usize {
+    let coeffs = state.coeffs;
+    let delay = state.delay;
+    let lent_taps = rest(lent, TAPS);
+    let mut next = same_long(w, at, state.m);
+    next = same_floats(w, next, lent_taps, &coeffs);
+    same_floats(w, next, behind(lent_taps), &delay)
+}
+
+fn same_opened(w: &[u32], lent: &[u32], opened: HbfIntOpening) -> bool {
+    let answer = opened.answer;
+    let state = opened.state;
+    same_state(w, same_opening(w, 0, answer), lent, state) == w.len()
+}
+
+pub fn new(w: &[u32], taps: &[f32]) -> bool {
+    let opened = HbfInt::new(taps);
+    same_opened(behind(w), first(w, 0), opened)
+}
+
+pub fn reset(w: &[u32]) -> bool {
+    let opened = state_of(w).reset();
+    same_opened(behind_state(w), w, opened)
+}
+
+fn same_output(w: &[u32], output: HbfIntOut) -> usize {
+    match output {
+        HbfIntOut::Values { even, odd } => same_float(w, same_float(w, same(w, 0, 0), even), odd),
+        HbfIntOut::Refused(refusal) => same(w, same(w, same_refusal(w, 0, refusal), 0), 0),
+    }
+}
+
+fn same_step(w: &[u32], lent: &[u32], step: HbfIntStep) -> bool {
+    let output = step.out;
+    let state = step.state;
+    same_state(w, same_output(w, output), lent, state) == w.len()
+}
+
+pub fn process_sample(w: &[u32]) -> bool {
+    let given = behind_state(w);
+    let step = state_of(w).process_sample(float(word(given, 0)));
+    same_step(rest(given, 1), w, step)
+}
+
+pub fn process(w: &[u32], lent_span: &[u32], samples: &[f32], span: &mut [f32]) -> bool {
+    let block = state_of(w).process(samples, span);
+    let answer = block.answer;
+    let state = block.state;
+    let expected = behind(lent_span);
+    let next = same_written(expected, answer, lent_span, span);
+    same_state(expected, next, w, state) == expected.len()
+}

@@ -1,0 +1,67 @@
+//! Factors, lengths and spans around 01's limits, for every converter but the CIC ones.
+
+use crate::rng::Rng;
+
+/// 01's limit of a factor.
+const MOST_FACTOR: u64 = 4096;
+
+/// 01's limit of samples, taps and places in a block.
+pub const MOST: u64 = 65_536;
+
+pub fn bad_factor(rng: &mut Rng) -> u64 {
+    let far = rng.next() | 1 << 40;
+    rng.pick(&[
+        0,
+        0,
+        MOST_FACTOR + 1,
+        MOST_FACTOR + 1,
+        1 << 32,
+        (1 << 32) + 1,
+        u64::MAX,
+        far,
+    ])
+}
+
+/// A factor within the limits: small, around the number of taps, anything.
+pub fn factor_around(rng: &mut Rng, taps: u64) -> u64 {
+    let factor = match rng.below(16) {
+        0 => rng.pick(&[MOST_FACTOR, MOST_FACTOR - 1]),
+        1 => rng.within(1, MOST_FACTOR),
+        2 => rng.within(1, 64),
+        3..=8 => (taps + rng.below(3)).saturating_sub(1),
+        _ => rng.within(1, 8),
+    };
+    factor.clamp(1, MOST_FACTOR)
+}
+
+/// The places of a span for so many outputs: none, short, exact, more.
+pub fn places_around(rng: &mut Rng, outputs: u64) -> u64 {
+    match rng.below(8) {
+        0 => 0,
+        1 => rng.below(outputs + 1),
+        2 => outputs.saturating_sub(1),
+        3 | 4 => outputs,
+        5 => outputs + 1,
+        _ => outputs + rng.within(2, 9),
+    }
+}
+
+/// A number of samples or taps that a block refuses; `replay` has room for it.
+pub fn bad_length(rng: &mut Rng) -> usize {
+    rng.pick(&[0, 0, MOST as usize + 1, MOST as usize + 64])
+}
+
+/// A number of places that a block refuses.
+pub fn bad_places(rng: &mut Rng) -> usize {
+    rng.pick(&[MOST as usize + 1, MOST as usize + 64])
+}
+
+/// Just below 01's limit, at it and just past it.
+pub fn length_around(rng: &mut Rng) -> u64 {
+    rng.pick(&[MOST - 1, MOST, MOST, MOST + 1])
+}
+
+/// A depth that every cascade refuses, and 0, which the line's takes for off.
+pub fn bad_depth(rng: &mut Rng) -> u64 {
+    rng.pick(&[0, 6, 6, 7, 1 << 32, (1 << 32) + 1, u64::MAX])
+}
