@@ -2,9 +2,11 @@
 use line::Line;
 use line::LineFed;
 use line::LineOpened;
+use line::LineStep;
 use line::Settings;
 use records::answers::same_counts;
 use records::answers::same_opening;
+use records::answers::same_refusal;
 use records::slices::behind;
 use records::slices::front;
 use records::slices::front_floats;
@@ -21,6 +23,8 @@ use records::words::LOST;
 use records::words::float;
 use records::words::long;
 use records::words::rest;
+use records::words::same_float;
+use records::words::same_long;
 use records::words::word;
 
 // Where the FIR taps begin, behind the settings; the prototype follows them.
@@ -128,4 +132,91 @@ fn same_feeds(w: &[u32], opened: Line) -> bool {
 pub fn feeds(w: &[u32]) -> bool {
     let line = opened(w).line;
     same_feeds(behind_opening(w), line)
+}
+
+// The numbers of a line that row 15 looks at, in words.
+const NUMBERS: usize = 30;
+
+// The line with other numbers.
+fn with_numbers(w: &[u32], line: Line) -> Line {
+    let mut cic = line.cic;
+    cic.stages = long(w, 0);
+    cic.r = long(w, 2);
+    cic.sample_counter = long(w, 4);
+    let mut fir = line.fir;
+    fir.tap_count = long(w, 6);
+    fir.factor = long(w, 8);
+    fir.wait = long(w, 10);
+    let mut half_band = line.half_band;
+    half_band.depth = long(w, 12);
+    half_band.counts = [
+        long(w, 14),
+        long(w, 16),
+        long(w, 18),
+        long(w, 20),
+        long(w, 22),
+    ];
+    let mut resampler = line.resampler;
+    resampler.phases = long(w, 24);
+    resampler.taps = long(w, 26);
+    resampler.step = float(word(w, 28));
+    resampler.mu = float(word(w, 29));
+    Line {
+        cic,
+        fir,
+        half_band,
+        resampler,
+    }
+}
+
+fn same_cic_and_fir(w: &[u32], line: Line) -> usize {
+    let cic = line.cic;
+    let fir = line.fir;
+    let stages = same_long(w, 0, cic.stages);
+    let r = same_long(w, stages, cic.r);
+    let counter = same_long(w, r, cic.sample_counter);
+    let taps = same_long(w, counter, fir.tap_count);
+    let factor = same_long(w, taps, fir.factor);
+    same_long(w, factor, fir.wait)
+}
+
+fn same_held(w: &[u32], at: usize, counts: [usize; 5]) -> usize {
+    let mut next = same_long(w, at, counts[0]);
+    next = same_long(w, next, counts[1]);
+    next = same_long(w, next, counts[2]);
+    next = same_long(w, next, counts[3]);
+    same_long(w, next, counts[4])
+}
+
+fn same_numbers_of(w: &[u32], line: Line) -> usize {
+    let half_band = line.half_band;
+    let resampler = line.resampler;
+    let counts = half_band.counts;
+    let depth = same_long(w, same_cic_and_fir(w, line), half_band.depth);
+    let held = same_held(w, depth, counts);
+    let phases = same_long(w, held, resampler.phases);
+    let taps = same_long(w, phases, resampler.taps);
+    let step = same_float(w, taps, resampler.step);
+    same_float(w, step, resampler.mu)
+}
+
+fn same_step(w: &[u32], at: usize, step: LineStep) -> usize {
+    match step {
+        LineStep::Refused(refusal) => same_refusal(w, at, refusal),
+        _ => LOST,
+    }
+}
+
+// A feed, a reset and a step of a line that row 15 names: each is refused, and the feed hands the line back as it was.
+pub fn damaged(w: &[u32]) -> bool {
+    let numbers = behind_opening(w);
+    let line = with_numbers(numbers, opened(w).line);
+    let compared = feed(rest(numbers, NUMBERS), line);
+    if same_numbers_of(numbers, compared.line) != NUMBERS {
+        return false;
+    }
+    let answers = last(numbers, compared.left);
+    let reset = line.reset().answer;
+    let step = line.step(&[0], 0, true).step;
+    same_step(answers, same_opening(answers, 0, reset), step) == answers.len()
 }

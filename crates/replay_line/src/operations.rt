@@ -6,6 +6,7 @@ pub fn agrees(operation: u32, w: &[u32]) -> bool {
     match operation {
         0xc1 => gauge_line::open(w),
         0xc2 => gauge_line::feeds(w),
+        0xc3 => gauge_line::damaged(w),
         _ => false,
     }
 }

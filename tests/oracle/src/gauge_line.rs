@@ -16,6 +16,7 @@ use embedded_dsp::types::q15;
 
 const OPEN: u32 = 0xc1;
 const FEEDS: u32 = 0xc2;
+const DAMAGED: u32 = 0xc3;
 
 /// 01's limits of the line's step, and what lies beside them and between.
 const STEPS: [f32; 10] = [
@@ -137,6 +138,70 @@ impl Opening {
             .words(&[self.step])
             .lent(&self.fir)
             .lent(&self.prototype);
+    }
+}
+
+/// The numbers of a line that row 15 looks at.
+struct Numbers {
+    stages: u64,
+    r: u64,
+    sample_counter: u64,
+    tap_count: u64,
+    factor: u64,
+    wait: u64,
+    depth: u64,
+    counts: [u64; 5],
+    phases: u64,
+    taps: u64,
+    step: f32,
+    mu: f32,
+}
+
+impl Numbers {
+    /// Those of a fresh line.
+    fn of(opening: &Opening) -> Self {
+        let tap_count = opening.fir.length as u64;
+        Self {
+            stages: opening.stages,
+            r: opening.r,
+            sample_counter: 0,
+            tap_count,
+            factor: opening.factor,
+            wait: tap_count,
+            depth: opening.depth,
+            counts: [0; 5],
+            phases: opening.phases,
+            taps: opening.taps,
+            step: opening.step,
+            mu: 1.0,
+        }
+    }
+
+    fn refusal(&self) -> u32 {
+        refusals::first([
+            refusals::line_cic_state(self.stages, self.r, self.sample_counter),
+            refusals::fir_state(self.tap_count, self.factor, self.wait),
+            refusals::held_cascade(self.depth, &self.counts),
+            refusals::line_resampler_state(self.phases, self.taps, self.step, self.mu),
+        ])
+    }
+
+    fn write(&self, record: &mut Record) {
+        record
+            .long(self.stages)
+            .long(self.r)
+            .long(self.sample_counter)
+            .long(self.tap_count)
+            .long(self.factor)
+            .long(self.wait)
+            .long(self.depth);
+        for count in self.counts {
+            record.long(count);
+        }
+        record
+            .long(self.phases)
+            .long(self.taps)
+            .words(&[self.step, self.mu]);
     }
 }
 
@@ -366,10 +431,98 @@ fn feeds_case(rng: &mut Rng) -> Record {
     record
 }
 
+/// The numbers of the decimator and the FIR.
+fn damage_integers(rng: &mut Rng, numbers: &mut Numbers, faults: u64) {
+    if faults & 1 != 0 {
+        numbers.stages = cic_settings::bad_stages(rng);
+    }
+    if faults & 2 != 0 {
+        numbers.r = settings::bad_factor(rng);
+    }
+    if faults & 4 != 0 {
+        numbers.sample_counter = rng.pick(&[numbers.r, numbers.r.wrapping_add(1), u64::MAX]);
+    }
+    if faults & 8 != 0 {
+        numbers.tap_count = rng.pick(&[1, 64, 65, 1 << 32, u64::MAX]);
+    }
+    if faults & 16 != 0 {
+        numbers.factor = settings::bad_factor(rng);
+    }
+    if faults & 32 != 0 {
+        let most = numbers.tap_count.max(numbers.factor);
+        numbers.wait = rng.pick(&[0, most, most.wrapping_add(1), u64::MAX]);
+    }
+}
+
+/// The numbers of the half-band stages and the resampler.
+fn damage_floats(rng: &mut Rng, numbers: &mut Numbers, faults: u64) {
+    if faults & 64 != 0 {
+        numbers.depth = settings::bad_depth(rng);
+    }
+    if faults & 128 != 0 {
+        numbers.counts[rng.below(5) as usize] = rng.pick(&[1, 2, 1 << 32, u64::MAX]);
+    }
+    if faults & 256 != 0 {
+        numbers.phases = rng.pick(&[1, 65, 1 << 32, u64::MAX]);
+    }
+    if faults & 512 != 0 {
+        numbers.taps = rng.pick(&[0, 17, 1 << 32, u64::MAX]);
+    }
+    if faults & 1024 != 0 {
+        numbers.step = rng.pick(&BAD_STEPS);
+    }
+    if faults & 2048 != 0 {
+        let above = f32::from_bits((1.0 + numbers.step).to_bits().wrapping_add(1));
+        numbers.mu = rng.pick(&[-1e-45, -0.5, above, f32::INFINITY, f32::NAN]);
+    }
+}
+
+/// An opening, and numbers of which row 15 names one or several.
+fn damage(rng: &mut Rng) -> (Opening, Numbers) {
+    loop {
+        let opening = good(rng);
+        let mut numbers = Numbers::of(&opening);
+        let faults = match rng.one_in(4) {
+            true => rng.below(4096),
+            false => 1 << rng.below(12),
+        };
+        damage_integers(rng, &mut numbers, faults);
+        damage_floats(rng, &mut numbers, faults);
+        if numbers.refusal() != 0 {
+            return (opening, numbers);
+        }
+    }
+}
+
+/// A feed, a reset and a step are refused, and the feed leaves line and span as lent.
+fn damaged_case(rng: &mut Rng) -> Record {
+    let (opening, numbers) = damage(rng);
+    let refusal = numbers.refusal();
+    let length = rng.below(12);
+    let lent = lent_samples(rng, length);
+    let places = rng.below(12);
+    let span = samples::span(rng, places);
+    let before = span.elements::<f32>();
+    let mut record = Record::of(DAMAGED);
+    opening.write(&mut record);
+    numbers.write(&mut record);
+    record
+        .lent(&lent)
+        .lent(&span)
+        .refusal(refusal)
+        .long(0)
+        .long(0)
+        .left(&before, &before)
+        .refusal(refusal)
+        .refusal(refusal);
+    record
+}
+
 pub fn cases(rng: &mut Rng) -> Vec<Record> {
     vec![match rng.below(8) {
         0 => open_case(&good(rng)),
-        1 | 2 => open_case(&spoilt(rng)),
+        1 => open_case(&spoilt(rng)),
+        2 => damaged_case(rng),
         _ => feeds_case(rng),
     }]
 }

@@ -228,6 +228,26 @@ pub fn line_resampler(phases: u64, taps: u64, prototype: usize, step: f32) -> u3
     }
 }
 
+/// "any call on a state" of the line's resampler: settings that its opening refuses; mu not in 0..1+step as rounded; "a part that is off is not checked".
+pub fn line_resampler_state(phases: u64, taps: u64, step: f32, mu: f32) -> u32 {
+    let whole = phases.wrapping_mul(taps) as usize;
+    let good_mu = mu >= 0.0 && mu <= 1.0 + step;
+    if phases != 0 && (line_resampler(phases, taps, whole, step) != 0 || !good_mu) {
+        STATE
+    } else {
+        0
+    }
+}
+
+/// "any call on a state" of the line's decimator: what the line's opening refuses is gain bits over 31 too.
+pub fn line_cic_state(stages: u64, r: u64, sample_counter: u64) -> u32 {
+    if line_cic(stages, r) != 0 || sample_counter >= r {
+        STATE
+    } else {
+        0
+    }
+}
+
 /// "any call on a state": settings that its opening refuses; mu not in −2^24..1+step as rounded.
 pub fn resampler(phases: u64, taps: u64, step: f32, mu: f32) -> u32 {
     let whole = phases.wrapping_mul(taps) as usize;
