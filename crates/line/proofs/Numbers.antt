@@ -18,6 +18,7 @@ use Rattle.float.proofs.PolyphaseOutput.{limits-say}
 use Rattle.float.proofs.PolyphaseRange.{on-in-limits}
 use Rattle.line.specs.Line.{valid, cicFine, halfBandFine}
 use Rattle.line.specs.Together.{together, resamplerOf, dueAt, bitsAt, validAt}
+use Rattle.line.specs.Lent.{numbersIn, fixedIn, changingIn}
 use Rattle.line.specs.declared.gauge_line.Line.{Line}
 use Rattle.line.specs.declared.sample.Fixed.{Fixed}
 use Rattle.line.specs.declared.sample.Numbers.{Numbers}
@@ -36,40 +37,18 @@ due-limits f s integrators combs taps firDelay delays held counts delay prototyp
     on-in-limits (resamplerOf f (s .mu) delay prototype) (and-left (not (eqb (f .phases) 0)) _ d)
     (to-parts (together f s integrators combs taps firDelay delays held counts delay prototype) v .1 .1 .1 .1 .1)
 
--- a line held apart
-abbrev pub fixedOf : Line → ℕ → Fixed
-fixedOf l bits =
-    record {
-      stages = l .cic .stages;
-      r = l .cic .r;
-      bits = bits;
-      «tap_count» = l .fir .«tap_count»;
-      factor = l .fir .factor;
-      depth = l .«half_band» .depth;
-      phases = l .resampler .phases;
-      taps = l .resampler .taps;
-      step = l .resampler .step;
-    }
-
-abbrev pub numbersOf : Line → Numbers
-numbersOf l = record { «sample_counter» = l .cic .«sample_counter»; wait = l .fir .wait; mu = l .resampler .mu }
-
-abbrev bitsIn : Line → ℕ
-bitsIn l = bitsAt (l .cic .stages) (l .cic .r) (l .cic .«sample_counter»)
-
-pub valid-apart : (l : Line) (bits : ℕ) → bits ≡ bitsIn l → validAt (fixedOf l bits) (numbersOf l) (l .«half_band» .counts) ≡ valid l
+-- the tests of a line held apart are those of the line
+pub valid-apart : (l : Line) → validAt (fixedIn (numbersIn l)) (changingIn (numbersIn l)) (l .«half_band» .counts) ≡ valid l
 unfolding validAt valid cicFine halfBandFine bitsAt validInLine
-valid-apart l bits e = ap (λ (b : Bool). b && (Q.valid (l .fir) && (halfBandFine (l .«half_band») && validInLine (l .resampler)))) (ap (λ (n : ℕ). leb n mostBits) e ∙ go (C.valid (l .cic)))
+valid-apart l = ap (λ (b : Bool). b && (Q.valid (l .fir) && (halfBandFine (l .«half_band») && validInLine (l .resampler)))) (go (C.valid (l .cic)))
   where
     go : (v : Bool) → leb (cond v (gainBits (l .cic .stages) (l .cic .r)) 64) mostBits ≡ (v && leb (gainBits (l .cic .stages) (l .cic .r)) mostBits)
     go true = refl
     go false = refl
 
-pub bits-apart : (l : Line) (bits : ℕ) → bits ≡ bitsIn l → valid l ≡ true → bits ≡ gainBits (l .cic .stages) (l .cic .r)
+pub bits-apart : (l : Line) → valid l ≡ true → fixedIn (numbersIn l) .bits ≡ gainBits (l .cic .stages) (l .cic .r)
 unfolding cicFine bitsAt
-bits-apart l bits e v =
-    let d : C.valid (l .cic) ≡ true = and-left (C.valid (l .cic)) _ (to-parts l v .0) in
-    e ∙ ap (λ (b : Bool). cond b (gainBits (l .cic .stages) (l .cic .r)) 64) d
+bits-apart l v = ap (λ (b : Bool). cond b (gainBits (l .cic .stages) (l .cic .r)) 64) (and-left (C.valid (l .cic)) _ (to-parts l v .0))
 
 -- the taps and the prototype of a valid line lie in its arrays
 pub few-taps : (l : Line) → valid l ≡ true → l .fir .«tap_count» ≤ 64

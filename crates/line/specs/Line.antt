@@ -34,8 +34,8 @@ use Rattle.float.specs.Level.{level}
 use Rattle.line.specs.Outputs.{Opening}
 use Rattle.line.specs.declared.settings.Settings.{Settings}
 use Rattle.line.specs.declared.gauge_line.Line.{Line}
-use Rattle.line.specs.declared.gauge_line.LineStep.{LineStep}
-use Rattle.line.specs.declared.gauge_line.LineStep.the-variants as step
+use Rattle.line.specs.declared.lent.LineStep.{LineStep}
+use Rattle.line.specs.declared.lent.LineStep.the-variants as step
 use Rattle.line.specs.declared.gauge_line.LineStepped.{LineStepped}
 use Rattle.line.specs.declared.gauge_line.LineFed.{LineFed}
 use Rattle.line.specs.declared.gauge_line.LineOpened.{LineOpened}

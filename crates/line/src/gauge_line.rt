@@ -1,21 +1,19 @@
 // 01, section 6: the gauge line.
 ghost use mathlib.Core.Path.{_≡_};
-ghost use mathlib.Core.Bool.{true};
 ghost use lib.ListN.{length, drop};
 ghost use Rattle.theory.specs.Feeds.{headOf};
-ghost use Rattle.integer.specs.Gain.{gainBits};
 ghost use Rattle.refusal.specs.Outcome.{openingNumber};
 ghost use Rattle.line.specs.Line as L;
-ghost use Rattle.line.specs.Together as T;
+ghost use Rattle.line.specs.Lent as N;
 ghost use Rattle.line.specs.Demand3.{Demand3};
-use crate::feed::feed_on;
+use crate::lent::LineNumbers;
+use crate::lent::LineStep;
+use crate::lent::changing;
+use crate::lent::feed_lent;
+use crate::lent::fixed;
+use crate::lent::step_lent;
 use crate::opening::answer;
-use crate::sample::Fixed;
-use crate::sample::Numbers;
 use crate::settings::Settings;
-use crate::step::Did;
-use crate::step::step_on;
-use crate::validity::bits_at;
 use crate::validity::valid_at;
 use float::HbfStream;
 use float::PolyphaseResampF32;
@@ -37,15 +35,6 @@ pub struct Line {
 pub struct LineOpened {
     pub answer: Opening,
     pub line: Line,
-}
-
-// What a step did: it took a sample, wrote one float sample, did both, stopped, or was refused.
-pub enum LineStep {
-    Took,
-    Wrote(f32),
-    TookAndWrote(f32),
-    Stopped,
-    Refused(Refusal),
 }
 
 pub struct LineStepped {
@@ -100,26 +89,36 @@ fn fresh(s: Settings, taps: &[i16], prototype: &[f32]) -> Line
     }
 }
 
-fn public_step(step: Did) -> LineStep
-    ensures { λ e. ⌜ (L.stepNumber e ≡ 0) × (L.eventOf e ≡ T.didOf step) ⌝ }
-{
-    match step {
-        Did::Took => LineStep::Took,
-        Did::Wrote(y) => LineStep::Wrote(y),
-        Did::TookAndWrote(y) => LineStep::TookAndWrote(y),
-        Did::Stopped => LineStep::Stopped,
-    }
-}
-
 // A prototype's length, which no parameter carries.
 fn prototype_length(a: [f32; 1024])
     ensures { λ _. ⌜ length a ≡ 1024 ⌝ }
 {}
 
+fn numbers_in(l: Line) -> LineNumbers
+    ensures { λ n. ⌜ n ≡ N.numbersIn l ⌝ }
+{
+    let cic = l.cic;
+    let fir = l.fir;
+    let half_band = l.half_band;
+    let resampler = l.resampler;
+    LineNumbers {
+        stages: cic.stages,
+        r: cic.r,
+        sample_counter: cic.sample_counter,
+        tap_count: fir.tap_count,
+        factor: fir.factor,
+        wait: fir.wait,
+        depth: half_band.depth,
+        phases: resampler.phases,
+        taps: resampler.taps,
+        mu: resampler.mu,
+        step: resampler.step,
+    }
+}
+
 // The line put together from what a call held apart.
 fn assembled(
-    f: Fixed,
-    s: Numbers,
+    n: LineNumbers,
     integrators: [i32; 8],
     combs: [i32; 8],
     taps: [i16; 64],
@@ -130,33 +129,33 @@ fn assembled(
     delay: [f32; 16],
     prototype: [f32; 1024],
 ) -> Line
-    ensures { λ l. ⌜ l ≡ T.together f s integrators combs taps «fir_delay» delays held counts delay prototype ⌝ }
+    ensures { λ l. ⌜ l ≡ N.lineOf n integrators combs taps «fir_delay» delays held counts delay prototype ⌝ }
 {
     let cic = CicDecimator {
-        stages: f.stages,
-        r: f.r,
+        stages: n.stages,
+        r: n.r,
         integrator_state: integrators,
         comb_state: combs,
-        sample_counter: s.sample_counter,
+        sample_counter: n.sample_counter,
     };
     let fir = FirDecimator {
         taps,
-        tap_count: f.tap_count,
-        factor: f.factor,
+        tap_count: n.tap_count,
+        factor: n.factor,
         delay: fir_delay,
-        wait: s.wait,
+        wait: n.wait,
     };
     let half_band = HbfStream {
-        depth: f.depth,
+        depth: n.depth,
         delays,
         held,
         counts,
     };
     let resampler = PolyphaseResampF32 {
-        phases: f.phases,
-        taps: f.taps,
-        mu: s.mu,
-        step: f.step,
+        phases: n.phases,
+        taps: n.taps,
+        mu: n.mu,
+        step: n.step,
         delay,
         prototype,
     };
@@ -187,47 +186,25 @@ impl Line {
     }
 
     // One step, where the span has a place or not, with the sample at `at` of those lent as the next, if there is one. Refusal 15.
-    pub fn step(self, samples: &[i32], at: usize, place: bool) -> LineStepped
+    pub fn step(mut self, samples: &[i32], at: usize, place: bool) -> LineStepped
         ensures answer { λ r. ⌜ L.toldStep r ≡ L.stepOutcome self place (headOf (drop at (now (samples .entry)))) ⌝ }
     {
+        let n = numbers_in(self);
         let cic = self.cic;
         let fir = self.fir;
         let half_band = self.half_band;
         let resampler = self.resampler;
-        let f = Fixed {
-            stages: cic.stages,
-            r: cic.r,
-            bits: bits_at(cic.stages, cic.r, cic.sample_counter),
-            tap_count: fir.tap_count,
-            factor: fir.factor,
-            depth: half_band.depth,
-            phases: resampler.phases,
-            taps: resampler.taps,
-            step: resampler.step,
-        };
-        let s = Numbers {
-            sample_counter: cic.sample_counter,
-            wait: fir.wait,
-            mu: resampler.mu,
-        };
-        let mut counts = half_band.counts;
-        if !valid_at(f, s, counts) {
-            return LineStepped {
-                step: LineStep::Refused(Refusal::State),
-                line: self,
-            };
-        }
         let mut integrators = cic.integrator_state;
         let mut combs = cic.comb_state;
+        let taps = fir.taps;
         let mut fir_delay = fir.delay;
         let mut delays = half_band.delays;
         let mut held = half_band.held;
+        let mut counts = half_band.counts;
         let mut delay = resampler.delay;
-        let taps = fir.taps;
         let prototype = resampler.prototype;
-        let on = step_on(
-            f,
-            s,
+        let done = step_lent(
+            n,
             &mut integrators,
             &mut combs,
             &taps,
@@ -241,11 +218,8 @@ impl Line {
             at,
             place,
         );
-        let did = on.step;
-        let numbers = on.numbers;
-        let step = public_step(did);
-        let line = assembled(
-            f,
+        let numbers = done.numbers;
+        self = assembled(
             numbers,
             integrators,
             combs,
@@ -257,53 +231,32 @@ impl Line {
             delay,
             prototype,
         );
-        LineStepped { step, line }
+        let step = done.step;
+        LineStepped { step, line: self }
     }
 
     // Steps until stopped. The clause `demand3` is the whole claim over every list of feeds. Refusal 15, and no other.
-    pub fn feed(self, samples: &[i32], out: &mut [f32]) -> LineFed
+    pub fn feed(mut self, samples: &[i32], out: &mut [f32]) -> LineFed
         ensures answer { λ r. ⌜ L.toldFeed r ≡ L.feedOutcome self (now (samples .entry)) (length (now (out .entry))) ⌝ }
         ensures span { λ r. ⌜ now (out .exit) ≡ L.feedSpan self (now (samples .entry)) (now (out .entry)) ⌝ }
         ensures demand3 { λ r. ⌜ Demand3 self (now (samples .entry)) (now (out .entry)) (now (out .exit)) (L.toldFeed r) ⌝ }
     {
+        let n = numbers_in(self);
         let cic = self.cic;
         let fir = self.fir;
         let half_band = self.half_band;
         let resampler = self.resampler;
-        let f = Fixed {
-            stages: cic.stages,
-            r: cic.r,
-            bits: bits_at(cic.stages, cic.r, cic.sample_counter),
-            tap_count: fir.tap_count,
-            factor: fir.factor,
-            depth: half_band.depth,
-            phases: resampler.phases,
-            taps: resampler.taps,
-            step: resampler.step,
-        };
-        let s = Numbers {
-            sample_counter: cic.sample_counter,
-            wait: fir.wait,
-            mu: resampler.mu,
-        };
-        let mut counts = half_band.counts;
-        if !valid_at(f, s, counts) {
-            return LineFed {
-                counts: Counts::Refused(Refusal::State),
-                line: self,
-            };
-        }
         let mut integrators = cic.integrator_state;
         let mut combs = cic.comb_state;
+        let taps = fir.taps;
         let mut fir_delay = fir.delay;
         let mut delays = half_band.delays;
         let mut held = half_band.held;
+        let mut counts = half_band.counts;
         let mut delay = resampler.delay;
-        let taps = fir.taps;
         let prototype = resampler.prototype;
-        let ran = feed_on(
-            f,
-            s,
+        let done = feed_lent(
+            n,
             &mut integrators,
             &mut combs,
             &taps,
@@ -316,9 +269,8 @@ impl Line {
             samples,
             out,
         );
-        let numbers = ran.numbers;
-        let line = assembled(
-            f,
+        let numbers = done.numbers;
+        self = assembled(
             numbers,
             integrators,
             combs,
@@ -330,40 +282,19 @@ impl Line {
             delay,
             prototype,
         );
-        LineFed {
-            counts: Counts::Moved {
-                taken: ran.taken,
-                written: ran.written,
-            },
-            line,
-        }
+        let counts = done.moved;
+        LineFed { counts, line: self }
     }
 
     // The fresh opening with the line's own settings, taps and prototype. Refusal 15.
     pub fn reset(self) -> LineOpened
         ensures answer { λ o. ⌜ L.toldOpening o ≡ L.reset self ⌝ }
     {
-        let cic = self.cic;
-        let fir = self.fir;
+        let n = numbers_in(self);
         let half_band = self.half_band;
-        let resampler = self.resampler;
-        let f = Fixed {
-            stages: cic.stages,
-            r: cic.r,
-            bits: bits_at(cic.stages, cic.r, cic.sample_counter),
-            tap_count: fir.tap_count,
-            factor: fir.factor,
-            depth: half_band.depth,
-            phases: resampler.phases,
-            taps: resampler.taps,
-            step: resampler.step,
-        };
-        let s = Numbers {
-            sample_counter: cic.sample_counter,
-            wait: fir.wait,
-            mu: resampler.mu,
-        };
         let counts = half_band.counts;
+        let f = fixed(n);
+        let s = changing(n);
         if !valid_at(f, s, counts) {
             return LineOpened {
                 answer: Opening::Refused(Refusal::State),
@@ -371,19 +302,21 @@ impl Line {
             };
         }
         let settings = Settings {
-            stages: cic.stages,
-            r: cic.r,
-            factor: fir.factor,
-            depth: half_band.depth,
-            phases: resampler.phases,
-            taps: resampler.taps,
-            step: resampler.step,
+            stages: n.stages,
+            r: n.r,
+            factor: n.factor,
+            depth: n.depth,
+            phases: n.phases,
+            taps: n.taps,
+            step: n.step,
         };
+        let fir = self.fir;
+        let resampler = self.resampler;
         let taps = fir.taps;
         let prototype = resampler.prototype;
         prototype_length(prototype);
-        let t = fir.tap_count;
-        let cells = resampler.phases * resampler.taps;
+        let t = n.tap_count;
+        let cells = n.phases * n.taps;
         Line::open(settings, &taps[..t], &prototype[..cells])
     }
 }

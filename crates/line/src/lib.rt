@@ -1,6 +1,7 @@
 // 01, section 6: the gauge line, which joins the converters of the layers below.
 mod feed;
 pub mod gauge_line;
+pub mod lent;
 mod opening;
 mod pieces;
 mod sample;
@@ -11,7 +12,12 @@ mod validity;
 pub use crate::gauge_line::Line;
 pub use crate::gauge_line::LineFed;
 pub use crate::gauge_line::LineOpened;
-pub use crate::gauge_line::LineStep;
 pub use crate::gauge_line::LineStepped;
+pub use crate::lent::LentFed;
+pub use crate::lent::LentStepped;
+pub use crate::lent::LineNumbers;
+pub use crate::lent::LineStep;
+pub use crate::lent::feed_lent;
+pub use crate::lent::step_lent;
 pub use crate::pieces::next_piece;
 pub use crate::settings::Settings;

@@ -13,14 +13,23 @@ use Rattle.line.proofs.Numbers.{valid-apart, few-taps, few-cells}
 use Rattle.line.proofs.gauge_line.Line.reset.Statement.{statement}
 use Rattle.line.proofs.gauge_line.Line.reset.Tie as tie
 
-abbrev lent : tie.Else1 → Line
-lent c = c .before .before .before .before .before .before .before .before .args .self
+abbrev lent : tie.After-valid-at → Line
+lent c = c .before .before .before .before .before .before .args .self
 
-good : (c : tie.Else1) → valid (lent c) ≡ true
-good c = sym (valid-apart (lent c) _ (c .before .before .before .bits-at .ensures)) ∙ sym (c .before .valid-at .ensures) ∙ not-false _ (c .if1 .left)
+tested : (c : tie.After-valid-at) → c .valid-at .result ≡ valid (lent c)
+tested c = rw (c .before .before .fixed .ensures, c .before .changing .ensures, c .before .before .before .before .before .numbers-in .ensures) at (c .valid-at .ensures) ∙ valid-apart (lent c)
 
-bits-at-requires : tie.Need-bits-at-requires
-bits-at-requires c κs = tt
+good : (c : tie.Else1) → valid (lent (c .before)) ≡ true
+good c = sym (tested (c .before)) ∙ not-false _ (c .if1 .left)
+
+numbers-in-requires : tie.Need-numbers-in-requires
+numbers-in-requires c κs = tt
+
+fixed-requires : tie.Need-fixed-requires
+fixed-requires c κs = tt
+
+changing-requires : tie.Need-changing-requires
+changing-requires c κs = tt
 
 valid-at-requires : tie.Need-valid-at-requires
 valid-at-requires c κs = tt
@@ -28,52 +37,53 @@ valid-at-requires c κs = tt
 returns : tie.Need-returns
 unfolding reset
 returns c =
-    let l = c .before .before .before .before .before .before .before .before .args .self in
-    let v : valid l ≡ false = sym (valid-apart l _ (c .before .before .before .bits-at .ensures)) ∙ sym (c .before .valid-at .ensures) ∙ not-true _ (c .if1 .taken) in
+    let v : valid (lent (c .before)) ≡ false = sym (tested (c .before)) ∙ not-true _ (c .if1 .taken) in
     rw v
 
 prototype-length-requires : tie.Need-prototype-length-requires
 prototype-length-requires c κs = tt
 
 mul-cells : tie.Need-mul-cells
-mul-cells c = record { fits = omega (arith, few-cells (lent (c .before .before .before .before)) (good (c .before .before .before .before))) }
+mul-cells c = rw (c .before .before .before .before .before .before .before .before .before .before .before .before .numbers-in .ensures) (record { fits = omega (arith, few-cells _ (good (c .before .before .before .before .before .before))) })
 
-all-taps : (c : tie.After-struct-known) → length (lent (c .before .before .before .before) .fir .taps) ≡ 64
-all-taps c = search needs
+all-taps : (c : tie.After-struct-known) → length (lent (c .before .before .before .before .before .before .before) .fir .taps) ≡ 64
+all-taps c = search (needs, c .before .before .before .before .before .before .before .before .before .before .before .before .before .good)
 
-all-cells : (c : tie.After-struct-known) → length (lent (c .before .before .before .before) .resampler .prototype) ≡ 1024
+all-cells : (c : tie.After-struct-known) → length (lent (c .before .before .before .before .before .before .before) .resampler .prototype) ≡ 1024
 all-cells c = c .before .prototype-length .ensures
 
-taps-inside : (c : tie.After-struct-known) → lent (c .before .before .before .before) .fir .«tap_count» ≤ length (lent (c .before .before .before .before) .fir .taps)
-taps-inside c = omega (arith, few-taps _ (good (c .before .before .before .before)), all-taps c)
+taps-inside : (c : tie.After-struct-known) → lent (c .before .before .before .before .before .before .before) .fir .«tap_count» ≤ length (lent (c .before .before .before .before .before .before .before) .fir .taps)
+taps-inside c = omega (arith, few-taps _ (good (c .before .before .before .before .before .before)), all-taps c)
 
-cells-inside : (c : tie.After-struct-known) → lent (c .before .before .before .before) .resampler .phases * lent (c .before .before .before .before) .resampler .taps ≤ length (lent (c .before .before .before .before) .resampler .prototype)
-cells-inside c = omega (arith, few-cells _ (good (c .before .before .before .before)), all-cells c)
+cells-inside : (c : tie.After-struct-known) → lent (c .before .before .before .before .before .before .before) .resampler .phases * lent (c .before .before .before .before .before .before .before) .resampler .taps ≤ length (lent (c .before .before .before .before .before .before .before) .resampler .prototype)
+cells-inside c = omega (arith, few-cells _ (good (c .before .before .before .before .before .before)), all-cells c)
 
 array-share-prefix-taps : tie.Need-array-share-prefix-taps
-array-share-prefix-taps c = taps-inside c
+array-share-prefix-taps c = rw (c .before .before .before .before .before .before .before .before .before .before .before .before .numbers-in .ensures) (taps-inside c)
 
 slice-aggregate-open : tie.Need-slice-aggregate-open
-slice-aggregate-open c = sym (length-take-le _ _ (taps-inside (c .before)))
+slice-aggregate-open c = rw (c .before .before .before .before .before .before .before .before .before .before .before .before .before .numbers-in .ensures) (sym (length-take-le _ _ (taps-inside (c .before))))
 
 array-share-prefix-prototype : tie.Need-array-share-prefix-prototype
-array-share-prefix-prototype c = cells-inside (c .before)
+array-share-prefix-prototype c = rw (c .before .before .before .before .before .before .before .before .before .before .before .before .before .numbers-in .ensures) (cells-inside (c .before))
 
 slice-aggregate-open-2 : tie.Need-slice-aggregate-open-2
-slice-aggregate-open-2 c = sym (length-take-le _ _ (cells-inside (c .before .before)))
+slice-aggregate-open-2 c = rw (c .before .before .before .before .before .before .before .before .before .before .before .before .before .before .numbers-in .ensures) (sym (length-take-le _ _ (cells-inside (c .before .before))))
 
 open-requires : tie.Need-open-requires
 open-requires c κs = tt
 
 returns-2 : tie.Need-returns-2
 unfolding reset openingOf
-returns-2 c = rw (good (c .before .before .before .before .before .before .before)) (c .«open» .ensures)
+returns-2 c = rw (good (c .before .before .before .before .before .before .before .before .before)) (rw (c .before .before .before .before .before .before .before .before .before .before .before .before .before .before .before .numbers-in .ensures) at (c .«open» .ensures))
 
 pub reset-spec : {M : Type 1} → statement M
 reset-spec =
     tie.close
     (tie.spec
-    bits-at-requires
+    numbers-in-requires
+    fixed-requires
+    changing-requires
     valid-at-requires
     returns
     prototype-length-requires

@@ -1,8 +1,8 @@
 -- `public_step` meets its contract, case by case.
 use mathlib.Core.Path.{refl}
 use borrow.Author.Needs.{needs}
-use Rattle.line.proofs.gauge_line.public_step.Statement.{statement}
-use Rattle.line.proofs.gauge_line.public_step.Tie as tie
+use Rattle.line.proofs.lent.public_step.Statement.{statement}
+use Rattle.line.proofs.lent.public_step.Tie as tie
 
 enum-told : tie.Need-enum-told
 enum-told c = search needs

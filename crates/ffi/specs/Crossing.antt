@@ -1,0 +1,39 @@
+-- How an answer crosses to a caller in C or Rust: 01's number comes back, 0 for none, and the values stand in places that the caller lends.
+use mathlib.Core.Option.{Option, none, some}
+use Prim.Native.Nat.{ℕ}
+use lib.Ieee.{Float}
+use Rattle.theory.specs.Feeds.{Event, took, wrote, both, stopped}
+use Rattle.refusal.specs.Table.{numberOf}
+use Rattle.refusal.specs.Outcome.{Outcome}
+use Rattle.float.specs.HalfBand.{zero32}
+use Rattle.float.specs.declared.hbf_stream.HbfStreamOut.{HbfStreamOut}
+use Rattle.float.specs.declared.hbf_stream.HbfStreamOut.the-variants as stream
+
+-- an output that may be missing: how many there are, and the output, or a zero where there is none
+abbrev pub optional : {A : Type 0} → A → Option A → ℕ × A
+optional z none = (0, z)
+optional z (some y) = (1, y)
+
+abbrev pub crossed : {A S : Type 0} → A → Outcome (Option A) S → Outcome (ℕ × A) S
+crossed z o = record { number = o .number; value = optional z (o .value); state = o .state }
+
+-- each case of HbfStreamOut: its number, and the output
+abbrev pub streamNumber : HbfStreamOut → ℕ
+streamNumber stream.Nothing = 0
+streamNumber (stream.Value y) = 0
+streamNumber (stream.Refused q) = numberOf q
+
+abbrev pub streamValue : HbfStreamOut → Option Float
+streamValue stream.Nothing = none
+streamValue (stream.Value y) = some y
+streamValue (stream.Refused q) = none
+
+-- a step of the line: how many samples it took, how many outputs it wrote, and the output
+abbrev pub moves : Event Float → ℕ × (ℕ × Float)
+moves took = (1, (0, zero32))
+moves (wrote y) = (0, (1, y))
+moves (both y) = (1, (1, y))
+moves stopped = (0, (0, zero32))
+
+abbrev pub crossedStep : {S : Type 0} → Outcome (Event Float) S → Outcome (ℕ × (ℕ × Float)) S
+crossedStep o = record { number = o .number; value = moves (o .value); state = o .state }

@@ -1,0 +1,210 @@
+// The line held apart: its numbers by value, its arrays lent. No call copies them, so that short feeds cost little.
+ghost use mathlib.Core.Path.{_≡_};
+ghost use lib.ListN.{length, drop};
+ghost use Rattle.theory.specs.Feeds.{headOf};
+ghost use Rattle.line.specs.Line as L;
+ghost use Rattle.line.specs.Together as T;
+ghost use Rattle.line.specs.Lent as N;
+ghost use Rattle.line.specs.Demand3.{Demand3};
+use crate::feed::feed_on;
+use crate::sample::Fixed;
+use crate::sample::Numbers;
+use crate::step::Did;
+use crate::step::step_on;
+use crate::validity::bits_at;
+use crate::validity::valid_at;
+use refusal::Counts;
+use refusal::Refusal;
+
+// The settings of a line, and the numbers that feeds change.
+pub struct LineNumbers {
+    pub stages: usize,
+    pub r: usize,
+    pub sample_counter: usize,
+    pub tap_count: usize,
+    pub factor: usize,
+    pub wait: usize,
+    pub depth: usize,
+    pub phases: usize,
+    pub taps: usize,
+    pub mu: f32,
+    pub step: f32,
+}
+
+// What a step did: it took a sample, wrote one float sample, did both, stopped, or was refused.
+pub enum LineStep {
+    Took,
+    Wrote(f32),
+    TookAndWrote(f32),
+    Stopped,
+    Refused(Refusal),
+}
+
+// A step, and the numbers after it.
+pub struct LentStepped {
+    pub step: LineStep,
+    pub numbers: LineNumbers,
+}
+
+// How many samples a feed took and how many outputs it wrote, and the numbers after it.
+pub struct LentFed {
+    pub moved: Counts,
+    pub numbers: LineNumbers,
+}
+
+pub(crate) fn fixed(n: LineNumbers) -> Fixed
+    ensures { λ f. ⌜ f ≡ N.fixedIn n ⌝ }
+{
+    Fixed {
+        stages: n.stages,
+        r: n.r,
+        bits: bits_at(n.stages, n.r, n.sample_counter),
+        tap_count: n.tap_count,
+        factor: n.factor,
+        depth: n.depth,
+        phases: n.phases,
+        taps: n.taps,
+        step: n.step,
+    }
+}
+
+pub(crate) fn changing(n: LineNumbers) -> Numbers
+    ensures { λ s. ⌜ s ≡ N.changingIn n ⌝ }
+{
+    Numbers {
+        sample_counter: n.sample_counter,
+        wait: n.wait,
+        mu: n.mu,
+    }
+}
+
+fn gone_on(n: LineNumbers, s: Numbers) -> LineNumbers
+    ensures { λ m. ⌜ m ≡ N.goneOn n s ⌝ }
+{
+    LineNumbers {
+        stages: n.stages,
+        r: n.r,
+        sample_counter: s.sample_counter,
+        tap_count: n.tap_count,
+        factor: n.factor,
+        wait: s.wait,
+        depth: n.depth,
+        phases: n.phases,
+        taps: n.taps,
+        mu: s.mu,
+        step: n.step,
+    }
+}
+
+fn public_step(step: Did) -> LineStep
+    ensures { λ e. ⌜ (L.stepNumber e ≡ 0) × (L.eventOf e ≡ T.didOf step) ⌝ }
+{
+    match step {
+        Did::Took => LineStep::Took,
+        Did::Wrote(y) => LineStep::Wrote(y),
+        Did::TookAndWrote(y) => LineStep::TookAndWrote(y),
+        Did::Stopped => LineStep::Stopped,
+    }
+}
+
+// One step, where the span has a place or not, with the sample at `at` of those lent as the next, if there is one. Refusal 15.
+pub fn step_lent(
+    n: LineNumbers,
+    integrators: &mut [i32; 8],
+    combs: &mut [i32; 8],
+    taps: &[i16; 64],
+    fir_delay: &mut [i16; 64],
+    delays: &mut [f32; 480],
+    held: &mut [f32; 5],
+    counts: &mut [usize; 5],
+    delay: &mut [f32; 16],
+    prototype: &[f32; 1024],
+    samples: &[i32],
+    at: usize,
+    place: bool,
+) -> LentStepped
+    ensures answer { λ r. ⌜ N.toldStep r (N.lineOf (r .numbers) (now (integrators .exit)) (now (combs .exit)) (now (taps .entry)) (now («fir_delay» .exit)) (now (delays .exit)) (now (held .exit)) (now (counts .exit)) (now (delay .exit)) (now (prototype .entry))) ≡ L.stepOutcome (N.lineOf n (now (integrators .entry)) (now (combs .entry)) (now (taps .entry)) (now («fir_delay» .entry)) (now (delays .entry)) (now (held .entry)) (now (counts .entry)) (now (delay .entry)) (now (prototype .entry))) place (headOf (drop at (now (samples .entry)))) ⌝ }
+{
+    let f = fixed(n);
+    let s = changing(n);
+    if !valid_at(f, s, *counts) {
+        return LentStepped {
+            step: LineStep::Refused(Refusal::State),
+            numbers: n,
+        };
+    }
+    let on = step_on(
+        f,
+        s,
+        integrators,
+        combs,
+        taps,
+        fir_delay,
+        delays,
+        held,
+        counts,
+        delay,
+        prototype,
+        samples,
+        at,
+        place,
+    );
+    let did = on.step;
+    let after = on.numbers;
+    LentStepped {
+        step: public_step(did),
+        numbers: gone_on(n, after),
+    }
+}
+
+// Steps until stopped. The clause `demand3` is the whole claim over every list of feeds. Refusal 15, and no other.
+pub fn feed_lent(
+    n: LineNumbers,
+    integrators: &mut [i32; 8],
+    combs: &mut [i32; 8],
+    taps: &[i16; 64],
+    fir_delay: &mut [i16; 64],
+    delays: &mut [f32; 480],
+    held: &mut [f32; 5],
+    counts: &mut [usize; 5],
+    delay: &mut [f32; 16],
+    prototype: &[f32; 1024],
+    samples: &[i32],
+    out: &mut [f32],
+) -> LentFed
+    ensures answer { λ r. ⌜ N.toldFeed r (N.lineOf (r .numbers) (now (integrators .exit)) (now (combs .exit)) (now (taps .entry)) (now («fir_delay» .exit)) (now (delays .exit)) (now (held .exit)) (now (counts .exit)) (now (delay .exit)) (now (prototype .entry))) ≡ L.feedOutcome (N.lineOf n (now (integrators .entry)) (now (combs .entry)) (now (taps .entry)) (now («fir_delay» .entry)) (now (delays .entry)) (now (held .entry)) (now (counts .entry)) (now (delay .entry)) (now (prototype .entry))) (now (samples .entry)) (length (now (out .entry))) ⌝ }
+    ensures span { λ r. ⌜ now (out .exit) ≡ L.feedSpan (N.lineOf n (now (integrators .entry)) (now (combs .entry)) (now (taps .entry)) (now («fir_delay» .entry)) (now (delays .entry)) (now (held .entry)) (now (counts .entry)) (now (delay .entry)) (now (prototype .entry))) (now (samples .entry)) (now (out .entry)) ⌝ }
+    ensures demand3 { λ r. ⌜ Demand3 (N.lineOf n (now (integrators .entry)) (now (combs .entry)) (now (taps .entry)) (now («fir_delay» .entry)) (now (delays .entry)) (now (held .entry)) (now (counts .entry)) (now (delay .entry)) (now (prototype .entry))) (now (samples .entry)) (now (out .entry)) (now (out .exit)) (N.toldFeed r (N.lineOf (r .numbers) (now (integrators .exit)) (now (combs .exit)) (now (taps .entry)) (now («fir_delay» .exit)) (now (delays .exit)) (now (held .exit)) (now (counts .exit)) (now (delay .exit)) (now (prototype .entry)))) ⌝ }
+{
+    let f = fixed(n);
+    let s = changing(n);
+    if !valid_at(f, s, *counts) {
+        return LentFed {
+            moved: Counts::Refused(Refusal::State),
+            numbers: n,
+        };
+    }
+    let ran = feed_on(
+        f,
+        s,
+        integrators,
+        combs,
+        taps,
+        fir_delay,
+        delays,
+        held,
+        counts,
+        delay,
+        prototype,
+        samples,
+        out,
+    );
+    let after = ran.numbers;
+    LentFed {
+        moved: Counts::Moved {
+            taken: ran.taken,
+            written: ran.written,
+        },
+        numbers: gone_on(n, after),
+    }
+}

@@ -1,0 +1,425 @@
+//! The archive's functions as they are exported: crates/ffi/src has their contracts. A slice is a pointer and a length; a state is its fields, each lent.
+
+unsafe extern "C" {
+    pub fn gauge_cic_decimator_new(
+        wanted_stages: u64,
+        wanted_r: u64,
+        stages: &mut u64,
+        r: &mut u64,
+        integrators: &mut [i32; 8],
+        combs: &mut [i32; 8],
+        sample_counter: &mut u64,
+    ) -> u64;
+    pub fn gauge_cic_decimator_gain(
+        stages: u64,
+        r: u64,
+        integrators: &[i32; 8],
+        combs: &[i32; 8],
+        sample_counter: u64,
+        gain: &mut u64,
+    ) -> u64;
+    pub fn gauge_cic_decimator_gain_bits(
+        stages: u64,
+        r: u64,
+        integrators: &[i32; 8],
+        combs: &[i32; 8],
+        sample_counter: u64,
+        bits: &mut u32,
+    ) -> u64;
+    pub fn gauge_cic_decimator_process_sample(
+        stages: &mut u64,
+        r: &mut u64,
+        integrators: &mut [i32; 8],
+        combs: &mut [i32; 8],
+        sample_counter: &mut u64,
+        input: i32,
+        made: &mut u64,
+        sum: &mut i32,
+    ) -> u64;
+    pub fn gauge_cic_decimator_process_sample_scaled(
+        stages: &mut u64,
+        r: &mut u64,
+        integrators: &mut [i32; 8],
+        combs: &mut [i32; 8],
+        sample_counter: &mut u64,
+        input: i32,
+        made: &mut u64,
+        sum: &mut i32,
+    ) -> u64;
+    pub fn gauge_cic_decimator_process_block(
+        stages: &mut u64,
+        r: &mut u64,
+        integrators: &mut [i32; 8],
+        combs: &mut [i32; 8],
+        sample_counter: &mut u64,
+        src: *const i32,
+        src_len: u64,
+        dst: *mut i32,
+        dst_len: u64,
+        taken: &mut u64,
+        written: &mut u64,
+    ) -> u64;
+    pub fn gauge_cic_interpolator_new(
+        wanted_stages: u64,
+        wanted_r: u64,
+        stages: &mut u64,
+        r: &mut u64,
+        combs: &mut [i32; 8],
+        integrators: &mut [i32; 8],
+    ) -> u64;
+    pub fn gauge_cic_interpolator_gain(
+        stages: u64,
+        r: u64,
+        combs: &[i32; 8],
+        integrators: &[i32; 8],
+        gain: &mut u64,
+    ) -> u64;
+    pub fn gauge_cic_interpolator_gain_bits(
+        stages: u64,
+        r: u64,
+        combs: &[i32; 8],
+        integrators: &[i32; 8],
+        bits: &mut u32,
+    ) -> u64;
+    pub fn gauge_cic_interpolator_process_sample(
+        stages: &mut u64,
+        r: &mut u64,
+        combs: &mut [i32; 8],
+        integrators: &mut [i32; 8],
+        input: i32,
+        out_buf: *mut i32,
+        out_buf_len: u64,
+        written: &mut u64,
+    ) -> u64;
+    pub fn gauge_fir_decimator_new(
+        wanted_taps: *const i16,
+        wanted_taps_len: u64,
+        wanted_factor: u64,
+        taps: &mut [i16; 64],
+        tap_count: &mut u64,
+        factor: &mut u64,
+        delay: &mut [i16; 64],
+        wait: &mut u64,
+    ) -> u64;
+    pub fn gauge_fir_decimator_reset(
+        taps: &mut [i16; 64],
+        tap_count: &mut u64,
+        factor: &mut u64,
+        delay: &mut [i16; 64],
+        wait: &mut u64,
+    ) -> u64;
+    pub fn gauge_fir_decimator_process_sample(
+        taps: &mut [i16; 64],
+        tap_count: &mut u64,
+        factor: &mut u64,
+        delay: &mut [i16; 64],
+        wait: &mut u64,
+        sample: i16,
+        made: &mut u64,
+        value: &mut i16,
+    ) -> u64;
+    pub fn gauge_line_open(
+        wanted_stages: u64,
+        wanted_r: u64,
+        wanted_factor: u64,
+        wanted_depth: u64,
+        wanted_phases: u64,
+        wanted_phase_taps: u64,
+        wanted_step: f32,
+        wanted_taps: *const i16,
+        wanted_taps_len: u64,
+        wanted_prototype: *const f32,
+        wanted_prototype_len: u64,
+        stages: &mut u64,
+        r: &mut u64,
+        integrators: &mut [i32; 8],
+        combs: &mut [i32; 8],
+        sample_counter: &mut u64,
+        taps: &mut [i16; 64],
+        tap_count: &mut u64,
+        factor: &mut u64,
+        fir_delay: &mut [i16; 64],
+        wait: &mut u64,
+        depth: &mut u64,
+        delays: &mut [f32; 480],
+        held: &mut [f32; 5],
+        counts: &mut [u64; 5],
+        phases: &mut u64,
+        phase_taps: &mut u64,
+        mu: &mut f32,
+        step: &mut f32,
+        delay: &mut [f32; 16],
+        prototype: &mut [f32; 1024],
+    ) -> u64;
+    pub fn gauge_line_reset(
+        stages: &mut u64,
+        r: &mut u64,
+        integrators: &mut [i32; 8],
+        combs: &mut [i32; 8],
+        sample_counter: &mut u64,
+        taps: &mut [i16; 64],
+        tap_count: &mut u64,
+        factor: &mut u64,
+        fir_delay: &mut [i16; 64],
+        wait: &mut u64,
+        depth: &mut u64,
+        delays: &mut [f32; 480],
+        held: &mut [f32; 5],
+        counts: &mut [u64; 5],
+        phases: &mut u64,
+        phase_taps: &mut u64,
+        mu: &mut f32,
+        step: &mut f32,
+        delay: &mut [f32; 16],
+        prototype: &mut [f32; 1024],
+    ) -> u64;
+    pub fn gauge_line_step(
+        stages: &mut u64,
+        r: &mut u64,
+        integrators: &mut [i32; 8],
+        combs: &mut [i32; 8],
+        sample_counter: &mut u64,
+        taps: &mut [i16; 64],
+        tap_count: &mut u64,
+        factor: &mut u64,
+        fir_delay: &mut [i16; 64],
+        wait: &mut u64,
+        depth: &mut u64,
+        delays: &mut [f32; 480],
+        held: &mut [f32; 5],
+        counts: &mut [u64; 5],
+        phases: &mut u64,
+        phase_taps: &mut u64,
+        mu: &mut f32,
+        step: &mut f32,
+        delay: &mut [f32; 16],
+        prototype: &mut [f32; 1024],
+        samples: *const i32,
+        samples_len: u64,
+        at: u64,
+        places: u64,
+        taken: &mut u64,
+        written: &mut u64,
+        value: &mut f32,
+    ) -> u64;
+    pub fn gauge_line_feed(
+        stages: &mut u64,
+        r: &mut u64,
+        integrators: &mut [i32; 8],
+        combs: &mut [i32; 8],
+        sample_counter: &mut u64,
+        taps: &mut [i16; 64],
+        tap_count: &mut u64,
+        factor: &mut u64,
+        fir_delay: &mut [i16; 64],
+        wait: &mut u64,
+        depth: &mut u64,
+        delays: &mut [f32; 480],
+        held: &mut [f32; 5],
+        counts: &mut [u64; 5],
+        phases: &mut u64,
+        phase_taps: &mut u64,
+        mu: &mut f32,
+        step: &mut f32,
+        delay: &mut [f32; 16],
+        prototype: &mut [f32; 1024],
+        samples: *const i32,
+        samples_len: u64,
+        out: *mut f32,
+        out_len: u64,
+        taken: &mut u64,
+        written: &mut u64,
+    ) -> u64;
+    pub fn gauge_hbf_dec_new(
+        taps: *const f32,
+        taps_len: u64,
+        m: &mut u64,
+        coeffs: &mut [f32; 23],
+        delay: &mut [f32; 96],
+    ) -> u64;
+    pub fn gauge_hbf_dec_reset(m: &mut u64, coeffs: &mut [f32; 23], delay: &mut [f32; 96]) -> u64;
+    pub fn gauge_hbf_dec_process_pair(
+        m: &mut u64,
+        coeffs: &mut [f32; 23],
+        delay: &mut [f32; 96],
+        a: f32,
+        b: f32,
+        value: &mut f32,
+    ) -> u64;
+    pub fn gauge_hbf_dec_process(
+        m: &mut u64,
+        coeffs: &mut [f32; 23],
+        delay: &mut [f32; 96],
+        src: *const f32,
+        src_len: u64,
+        dst: *mut f32,
+        dst_len: u64,
+        written: &mut u64,
+    ) -> u64;
+    pub fn gauge_hbf_dec_cascade_new(
+        wanted_depth: u64,
+        depth: &mut u64,
+        delays: &mut [f32; 480],
+    ) -> u64;
+    pub fn gauge_hbf_dec_cascade_reset(depth: &mut u64, delays: &mut [f32; 480]) -> u64;
+    pub fn gauge_hbf_dec_cascade_process(
+        depth: &mut u64,
+        delays: &mut [f32; 480],
+        src: *const f32,
+        src_len: u64,
+        dst: *mut f32,
+        dst_len: u64,
+        written: &mut u64,
+    ) -> u64;
+    pub fn gauge_hbf_int_new(
+        taps: *const f32,
+        taps_len: u64,
+        m: &mut u64,
+        coeffs: &mut [f32; 23],
+        delay: &mut [f32; 48],
+    ) -> u64;
+    pub fn gauge_hbf_int_reset(m: &mut u64, coeffs: &mut [f32; 23], delay: &mut [f32; 48]) -> u64;
+    pub fn gauge_hbf_int_process_sample(
+        m: &mut u64,
+        coeffs: &mut [f32; 23],
+        delay: &mut [f32; 48],
+        x: f32,
+        even: &mut f32,
+        odd: &mut f32,
+    ) -> u64;
+    pub fn gauge_hbf_int_process(
+        m: &mut u64,
+        coeffs: &mut [f32; 23],
+        delay: &mut [f32; 48],
+        src: *const f32,
+        src_len: u64,
+        dst: *mut f32,
+        dst_len: u64,
+        written: &mut u64,
+    ) -> u64;
+    pub fn gauge_hbf_int_cascade_new(
+        wanted_depth: u64,
+        depth: &mut u64,
+        delays: &mut [f32; 240],
+    ) -> u64;
+    pub fn gauge_hbf_int_cascade_reset(depth: &mut u64, delays: &mut [f32; 240]) -> u64;
+    pub fn gauge_hbf_int_cascade_process(
+        depth: &mut u64,
+        delays: &mut [f32; 240],
+        src: *const f32,
+        src_len: u64,
+        dst: *mut f32,
+        dst_len: u64,
+        written: &mut u64,
+    ) -> u64;
+    pub fn gauge_hbf_stream_new(
+        wanted_depth: u64,
+        depth: &mut u64,
+        delays: &mut [f32; 480],
+        held: &mut [f32; 5],
+        counts: &mut [u64; 5],
+    ) -> u64;
+    pub fn gauge_hbf_stream_reset(
+        depth: &mut u64,
+        delays: &mut [f32; 480],
+        held: &mut [f32; 5],
+        counts: &mut [u64; 5],
+    ) -> u64;
+    pub fn gauge_hbf_stream_process_sample(
+        depth: &mut u64,
+        delays: &mut [f32; 480],
+        held: &mut [f32; 5],
+        counts: &mut [u64; 5],
+        x: f32,
+        made: &mut u64,
+        value: &mut f32,
+    ) -> u64;
+    pub fn gauge_polyphase_resamp_from_taps(
+        wanted_phases: u64,
+        wanted_taps: u64,
+        wanted_prototype: *const f32,
+        wanted_prototype_len: u64,
+        wanted_step: f32,
+        phases: &mut u64,
+        taps: &mut u64,
+        mu: &mut f32,
+        step: &mut f32,
+        delay: &mut [f32; 16],
+        prototype: &mut [f32; 1024],
+    ) -> u64;
+    pub fn gauge_polyphase_resamp_reset(
+        phases: &mut u64,
+        taps: &mut u64,
+        mu: &mut f32,
+        step: &mut f32,
+        delay: &mut [f32; 16],
+        prototype: &mut [f32; 1024],
+    ) -> u64;
+    pub fn gauge_polyphase_resamp_process_block(
+        phases: &mut u64,
+        taps: &mut u64,
+        mu: &mut f32,
+        step: &mut f32,
+        delay: &mut [f32; 16],
+        prototype: &mut [f32; 1024],
+        src: *const f32,
+        src_len: u64,
+        dst: *mut f32,
+        dst_len: u64,
+        taken: &mut u64,
+        written: &mut u64,
+    ) -> u64;
+    pub fn gauge_polyphase_resamp_push(
+        phases: &mut u64,
+        taps: &mut u64,
+        mu: &mut f32,
+        step: &mut f32,
+        delay: &mut [f32; 16],
+        prototype: &mut [f32; 1024],
+        x: f32,
+        out: *mut f32,
+        out_len: u64,
+        written: &mut u64,
+    ) -> u64;
+    pub fn gauge_polyphase_decimate_q15(
+        src: *const i16,
+        src_len: u64,
+        coeffs: *const i16,
+        coeffs_len: u64,
+        decimation_factor: u64,
+        dst: *mut i16,
+        dst_len: u64,
+        written: &mut u64,
+    ) -> u64;
+    pub fn gauge_polyphase_interpolate_q15(
+        src: *const i16,
+        src_len: u64,
+        coeffs: *const i16,
+        coeffs_len: u64,
+        interpolation_factor: u64,
+        dst: *mut i16,
+        dst_len: u64,
+        written: &mut u64,
+    ) -> u64;
+    pub fn gauge_resample_linear_q15(
+        src: *const i16,
+        src_len: u64,
+        dst: *mut i16,
+        dst_len: u64,
+        ratio_q16: i32,
+        written: &mut u64,
+    ) -> u64;
+    pub fn gauge_resample_linear_f32(
+        src: *const f32,
+        src_len: u64,
+        dst: *mut f32,
+        dst_len: u64,
+        ratio: f32,
+        written: &mut u64,
+    ) -> u64;
+    pub fn gauge_cut_q15(sum: i64, value: &mut i16);
+    pub fn gauge_q15_to_f32(bits: i16, level: &mut f32);
+    pub fn gauge_hbf_dec_response_length(depth: u64, length: &mut u64) -> u64;
+    pub fn gauge_hbf_int_response_length(depth: u64, length: &mut u64) -> u64;
+    pub fn gauge_hbf_tap_table(taps: &mut [f32; 45]);
+}
