@@ -1,7 +1,9 @@
 # make run: 01's readings through the proved converters. make test: the whole gate; SEEDS="7 8" gives the comparison other seeds.
-.PHONY: run test
+# make bench: what a sample costs here and in the Rust; BENCH="--rounds 100" gives it other options. make bench-instructions: the same in instructions.
+.PHONY: run test bench bench-instructions
 
 SEEDS =
+BENCH =
 
 run:
 	@rt check readings >/dev/null
@@ -9,3 +11,9 @@ run:
 
 test:
 	@tests/run.sh $(SEEDS)
+
+bench:
+	@bench/run.sh $(BENCH)
+
+bench-instructions:
+	@bench/run.sh --callgrind $(BENCH)

@@ -1,0 +1,75 @@
+//! Half-band decimators and interpolators, single and in cascade.
+
+use super::{BLOCKS, STREAM};
+use crate::blocks::{Cut, side};
+use crate::case::{Case, Unit};
+use crate::port;
+use crate::samples::levels;
+use embedded_dsp::resampling::{HBF_TAPS, HbfDec, HbfDecCascade, HbfInt, HbfIntCascade};
+
+pub fn cases() -> Vec<Case> {
+    vec![
+        decimator(HBF_TAPS.4.0),
+        decimator(HBF_TAPS.1.0),
+        decimator(HBF_TAPS.0.0),
+        interpolator(HBF_TAPS.4.0),
+        interpolator(HBF_TAPS.1.0),
+        interpolator(HBF_TAPS.0.0),
+        decimator_cascade::<1>(),
+        decimator_cascade::<3>(),
+        decimator_cascade::<5>(),
+        interpolator_cascade::<1>(),
+        interpolator_cascade::<3>(),
+        interpolator_cascade::<5>(),
+    ]
+}
+
+fn down(block: usize, depth: usize) -> Cut {
+    Cut::apart(STREAM / block, block, block >> depth)
+}
+
+fn up(block: usize, depth: usize) -> Cut {
+    Cut::apart(STREAM / block, block >> depth, block)
+}
+
+fn decimator<const M: usize>(taps: [f32; M]) -> Case {
+    Case {
+        name: format!("HbfDec M={M}"),
+        unit: Unit::Input,
+        blocks: BLOCKS,
+        ours: Box::new(move |block| side(port::HbfDec::new(&taps), down(block, 1), levels)),
+        rust: Box::new(move |block| side(HbfDec::new(taps), down(block, 1), levels)),
+    }
+}
+
+fn interpolator<const M: usize>(taps: [f32; M]) -> Case {
+    Case {
+        name: format!("HbfInt M={M}"),
+        unit: Unit::Output,
+        blocks: BLOCKS,
+        ours: Box::new(move |block| side(port::HbfInt::new(&taps), up(block, 1), levels)),
+        rust: Box::new(move |block| side(HbfInt::new(taps), up(block, 1), levels)),
+    }
+}
+
+fn decimator_cascade<const DEPTH: usize>() -> Case {
+    let cut = |block| down(block, DEPTH);
+    Case {
+        name: format!("HbfDecCascade depth {DEPTH}"),
+        unit: Unit::Input,
+        blocks: BLOCKS,
+        ours: Box::new(move |block| side(port::HbfDecCascade::new(DEPTH), cut(block), levels)),
+        rust: Box::new(move |block| side(HbfDecCascade::<DEPTH>::new(), cut(block), levels)),
+    }
+}
+
+fn interpolator_cascade<const DEPTH: usize>() -> Case {
+    let cut = |block| up(block, DEPTH);
+    Case {
+        name: format!("HbfIntCascade depth {DEPTH}"),
+        unit: Unit::Output,
+        blocks: BLOCKS,
+        ours: Box::new(move |block| side(port::HbfIntCascade::new(DEPTH), cut(block), levels)),
+        rust: Box::new(move |block| side(HbfIntCascade::<DEPTH>::new(), cut(block), levels)),
+    }
+}

@@ -1,0 +1,78 @@
+//! The five gauge lines.
+
+use crate::blocks::{Cut, side};
+use crate::case::{Case, Unit};
+use crate::race::Side;
+use crate::samples::{cells, prototype, taps, to_q15};
+use crate::settings::Settings;
+use crate::{original, port};
+
+/// The lengths of pieces, the whole stream first.
+pub const PIECES: [usize; 4] = [65_536, 4_096, 64, 1];
+
+pub fn cases() -> Vec<Case> {
+    vec![
+        case::<3, 32, 8>('A', 16, 32, 2, 2, 0.9),
+        case::<3, 32, 8>('B', 1, 32, 2, 2, 0.9),
+        case::<1, 32, 8>('C', 1, 0, 0, 0, 0.9),
+        case::<3, 64, 16>('D', 4, 64, 4, 5, 0.9),
+        case::<8, 64, 16>('E', 8, 64, 1, 1, 0.5),
+    ]
+}
+
+/// A line of N stages and a resampler of P phases and T taps each.
+fn case<const N: usize, const P: usize, const T: usize>(
+    letter: char,
+    r: usize,
+    tap_count: usize,
+    factor: usize,
+    depth: usize,
+    step: f32,
+) -> Case {
+    let settings = Settings {
+        stages: N,
+        r,
+        factor,
+        depth,
+        phases: P,
+        phase_taps: T,
+        step,
+    };
+    let fir = match tap_count {
+        0 => "no FIR".to_string(),
+        _ => format!("T={tap_count} D={factor}"),
+    };
+    Case {
+        name: format!("{letter}: N={N} r={r} {fir} depth {depth} {P}x{T} step {step}"),
+        unit: Unit::Input,
+        blocks: &PIECES[..1],
+        ours: Box::new(move |piece| ours(settings, tap_count, piece)),
+        rust: Box::new(move |piece| rust::<N, P, T>(settings, tap_count, piece)),
+    }
+}
+
+fn cut(settings: Settings, piece: usize) -> Cut {
+    // What a resampler makes of a piece whose every sample reaches it, and one output more for the rounding of mu.
+    let places = (piece as f32 / settings.step) as usize + 2;
+    Cut::apart(PIECES[0] / piece, piece, places)
+}
+
+fn ours(settings: Settings, tap_count: usize, piece: usize) -> Box<dyn Side> {
+    let prototype = prototype(settings.phases * settings.phase_taps);
+    let line = port::Line::open(settings, &taps(tap_count), &prototype);
+    side(line, cut(settings, piece), cells)
+}
+
+fn rust<const N: usize, const P: usize, const T: usize>(
+    settings: Settings,
+    tap_count: usize,
+    piece: usize,
+) -> Box<dyn Side> {
+    let line = original::Line::<N, P, T>::open(
+        settings,
+        to_q15(taps(tap_count)),
+        &prototype(P * T),
+        piece,
+    );
+    side(line, cut(settings, piece), cells)
+}

@@ -1,0 +1,48 @@
+//! Races our archive against the unchanged Rust originals, in one process, and prints what a sample costs on each side.
+
+#![deny(unsafe_code)]
+
+mod blocks;
+mod case;
+mod cases;
+mod once;
+mod options;
+mod original;
+// The archive's functions are foreign: their wrappers hold all the unsafe code there is.
+#[allow(unsafe_code)]
+mod port;
+mod race;
+mod report;
+mod samples;
+mod settings;
+
+use options::Options;
+use std::process::ExitCode;
+
+fn main() -> ExitCode {
+    let options = match Options::parse(std::env::args().skip(1)) {
+        Ok(options) => options,
+        Err(why) => {
+            eprintln!("{why}\n{}", options::USAGE);
+            return ExitCode::from(2);
+        }
+    };
+    let mut converters = cases::converters();
+    let mut lines = cases::line::cases();
+    converters.retain(|case| case.name.contains(&options.only));
+    lines.retain(|case| case.name.contains(&options.only));
+
+    if options.list {
+        for case in converters.iter().chain(&lines) {
+            println!("{}", case.name);
+        }
+    } else if let Some(named) = &options.case {
+        let all = converters.iter().chain(&lines);
+        return once::run(all, named, options.side, options.repeat);
+    } else {
+        report::converters(&converters, options.rounds);
+        report::lines(&lines, options.rounds);
+        report::pieces(&lines, options.rounds);
+    }
+    ExitCode::SUCCESS
+}

@@ -1,0 +1,71 @@
+//! The command line.
+
+pub const USAGE: &str = "usage: bench [--rounds N] [--only SUBSTRING]
+       bench --list [--only SUBSTRING]
+       bench --case NAME --side ours|rust [--repeat K]";
+
+#[derive(Clone, Copy)]
+pub enum SideName {
+    Ours,
+    Rust,
+}
+
+pub struct Options {
+    pub rounds: usize,
+    pub only: String,
+    pub list: bool,
+    pub case: Option<String>,
+    pub side: SideName,
+    pub repeat: usize,
+}
+
+impl Options {
+    pub fn parse(mut arguments: impl Iterator<Item = String>) -> Result<Self, String> {
+        let mut options = Options {
+            rounds: 30,
+            only: String::new(),
+            list: false,
+            case: None,
+            side: SideName::Ours,
+            repeat: 1,
+        };
+        while let Some(flag) = arguments.next() {
+            if flag == "--list" {
+                options.list = true;
+                continue;
+            }
+            let value = arguments
+                .next()
+                .ok_or_else(|| format!("{flag} wants a value"))?;
+            options.set(&flag, value)?;
+        }
+        Ok(options)
+    }
+
+    fn set(&mut self, flag: &str, value: String) -> Result<(), String> {
+        match flag {
+            "--rounds" => self.rounds = count(&value)?,
+            "--only" => self.only = value,
+            "--case" => self.case = Some(value),
+            "--side" => self.side = side(&value)?,
+            "--repeat" => self.repeat = count(&value)?,
+            _ => return Err(format!("no option {flag}")),
+        }
+        Ok(())
+    }
+}
+
+fn count(value: &str) -> Result<usize, String> {
+    match value.parse() {
+        Ok(count) if count > 0 => Ok(count),
+        _ => Err(format!("{value} is no count")),
+    }
+}
+
+fn side(value: &str) -> Result<SideName, String> {
+    match value {
+        "ours" => Ok(SideName::Ours),
+        "rust" => Ok(SideName::Rust),
+        _ => Err(format!("{value} is no side")),
+    }
+}

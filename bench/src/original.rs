@@ -1,0 +1,12 @@
+//! The unchanged Rust's converters behind one trait. Where the Rust has no block form, its calls are looped over here.
+
+mod cic;
+mod half_band;
+mod line;
+mod q15;
+mod resampler;
+
+pub use cic::{CicDecimatorLoop, CicInterpolatorLoop};
+pub use line::Line;
+pub use q15::{LinearQ15, PolyphaseDecimate, PolyphaseInterpolate};
+pub use resampler::{LinearF32, resampler};

@@ -1,0 +1,93 @@
+//! The tables.
+
+use crate::case::{Case, Unit};
+use crate::cases::line::PIECES;
+use crate::cases::{BLOCK, SHORT_BLOCK};
+use crate::race::least_times;
+
+const SIDES: &str = "      ours      Rust ours/Rust";
+
+pub fn converters(cases: &[Case], rounds: usize) {
+    println!(
+        "1. Converters: ns per sample, the least of {rounds} rounds by turns
+
+A sample is an input of a decimator, an output of an interpolator or resampler; a block is of
+such samples, of a resampler's inputs. Outputs of the two sides are equal by bits. Bounds
+checks are as each side has them: ours looks at the refusal of every call, the Rust keeps its
+own bounds checks.
+"
+    );
+    let long = format!("blocks of {BLOCK}");
+    let short = format!("blocks of {SHORT_BLOCK}");
+    println!("{:44}{long:>30}{short:>30}", "");
+    println!("{:36}{:8}{SIDES}{SIDES}", "converter", "sample");
+    for case in cases {
+        print!("{:36}{:8}", case.name, case.unit.name());
+        for block in case.blocks {
+            print!("{}", raced(case, *block, rounds));
+        }
+        println!();
+    }
+}
+
+pub fn lines(cases: &[Case], rounds: usize) {
+    let piece = PIECES[0];
+    println!(
+        "
+2. Lines: ns per input sample, the least of {rounds} rounds by turns
+
+Ours is one feed of {piece} samples; the Rust is its converters, each over the whole list of
+the one before. Both begin at a fresh opening; outputs are equal by bits.
+"
+    );
+    println!("{:48}{SIDES}", "line");
+    for case in cases {
+        println!("{:48}{}", case.name, raced(case, piece, rounds));
+    }
+}
+
+fn raced(case: &Case, block: usize, rounds: usize) -> String {
+    let mut sides = case.sides(block);
+    let times = least_times(&mut sides, rounds, &case.name);
+    let samples = case.unit.samples(&*sides[0]);
+    let [ours, rust] = times.map(|time| nanoseconds(time, samples));
+    format!("{ours:10.2}{rust:10.2}{:10.2}", ours / rust)
+}
+
+pub fn pieces(cases: &[Case], rounds: usize) {
+    let whole = PIECES[0];
+    println!(
+        "
+3. Pieces: ns per input sample of {whole} samples through our line, by the length of a piece,
+the least of {rounds} rounds by turns, and the ratio to one piece of {whole}
+"
+    );
+    println!("{:48}{:>36}{:>27}", "", "pieces of", "ratio of pieces of");
+    print!("{:48}", "line");
+    for piece in PIECES {
+        print!("{piece:>9}");
+    }
+    for piece in &PIECES[1..] {
+        print!("{piece:>9}");
+    }
+    println!();
+    for case in cases {
+        println!("{:48}{}", case.name, cut(case, rounds));
+    }
+}
+
+fn cut(case: &Case, rounds: usize) -> String {
+    let mut sides = PIECES.map(|piece| (case.ours)(piece));
+    let times = least_times(&mut sides, rounds, &case.name);
+    let samples = Unit::Input.samples(&*sides[0]);
+    let costs = times.map(|time| format!("{:9.2}", nanoseconds(time, samples)));
+    let ratios: String = times[1..]
+        .iter()
+        .map(|time| format!("{:9.2}", time / times[0]))
+        .collect();
+    costs.concat() + &ratios
+}
+
+fn nanoseconds(time: f64, samples: usize) -> f64 {
+    time * 1e9 / samples as f64
+}
