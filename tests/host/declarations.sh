@@ -1,5 +1,5 @@
 #!/usr/bin/env bash
-# Compares what crates/ffi/src exports with the headers and with raw.rs: every function, parameter, type and result, the states' members, the refusals' numbers and names.
+# Compares what crates/ffi/src exports with the headers and with raw.rs: every function, parameter, type and result, the states' members, the refusals' numbers and names; and the limits of C with those of Rust.
 # Fails where any differs. An argument names another tree to look at.
 set -euo pipefail
 here=$(cd "$(dirname "$0")" && pwd)
@@ -39,12 +39,19 @@ states=$(grep -c ' members ' "$scratch/openings")
 
 read_as rattle refusals "$root"/crates/refusal/src/*.rt >"$scratch/table"
 read_as c refusals "$root/include/gauge_refusal.h" >"$scratch/gauge_refusal.h"
+read_as rust refusals "$rust/refusal.rs" >"$scratch/refusal.rs"
 same refusals table gauge_refusal.h
+same refusals table refusal.rs
 refusals=$(wc -l <"$scratch/table")
 
+awk -f "$here/limits.awk" "$root/include/gauge_refusal.h" | sort >"$scratch/limits.h"
+awk -f "$here/limits.awk" "$rust/limits.rs" | sort >"$scratch/limits.rs"
+same limits limits.h limits.rs
+limits=$(wc -l <"$scratch/limits.h")
+
 # A pattern that finds nothing on either side would compare as equal.
-if ((functions == 0 || states == 0 || refusals == 0)); then
+if ((functions == 0 || states == 0 || refusals == 0 || limits == 0)); then
     echo "declarations: nothing found" >&2
     exit 1
 fi
-echo "declarations: $functions functions, $states states, $refusals refusals agree"
+echo "declarations: $functions functions, $states states, $refusals refusals, $limits limits agree"

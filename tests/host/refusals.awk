@@ -1,12 +1,13 @@
 # The refusals as each language numbers them (-v language=rattle, rust or c), one a line: number, name, the name in capitals. Runs after text.awk.
 END {
     if (language == "c") c_refusals()
-    else rust_refusals()
+    else rust_refusals(language == "rust" ? " = " : " => ")
 }
 
-function rust_refusals(   arm, name, number) {
-    while (match(text, /Refusal::[A-Za-z0-9]+ => [0-9]+/)) {
-        arm = substr(text, RSTART + length("Refusal::"), RLENGTH - length("Refusal::"))
+# An arm of Rattle, `Refusal::Stages => 1`, or a variant of Rust, `Stages = 1,`.
+function rust_refusals(sign,   arm, name, number) {
+    while (match(text, "[A-Z][A-Za-z]+" sign "[0-9]+,")) {
+        arm = substr(text, RSTART, RLENGTH - 1)
         text = substr(text, RSTART + RLENGTH)
         name = arm
         sub(/ .*/, "", name)

@@ -1,5 +1,5 @@
 #!/usr/bin/env bash
-# The interfaces for C and Rust: declarations, programs. GAUGE_ARCHIVE names another archive to link.
+# The interfaces for C and Rust: declarations, programs, pages, the crate. GAUGE_ARCHIVE names another archive to link.
 set -euo pipefail
 cd "$(dirname "$0")/../.."
 
@@ -15,3 +15,4 @@ tests/host/declarations.sh
 tests/host/differences.sh
 tests/host/symbols.sh
 tests/host/c.sh
+tests/host/cargo.sh
