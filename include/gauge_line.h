@@ -1,5 +1,6 @@
 // The gauge line: cell samples in, float levels out, through a CIC decimator, a 16-bit FIR, a cascade of half-band
-// stages and a polyphase resampler. Each function below is proved to do what its comment says, in crates/ffi/src.
+// stages and a polyphase resampler. The archive is proved, in crates/ffi/src, to do what the comments below say; the
+// inline functions only lend it the members of a struct.
 //
 // The caller owns the line and every buffer; nothing is allocated and there is no global state, so two threads may use
 // two lines at once. What no proof covers is the caller: a pointer must point to as many elements as its length says,

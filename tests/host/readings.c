@@ -181,6 +181,7 @@ static void line_readings(void) {
     CHECK(taken == 1 && written == 1 && out[0] == -0.5f);
     CHECK(GaugeLine_feed(&line, samples + 1, 1, out, 3, &taken, &written) == GAUGE_NOT_REFUSED);
     CHECK(taken == 1 && written == 3 && out[0] == 0.0f && out[1] == 0.0f && out[2] == 0.0f);
+    CHECK(GaugeLine_feed(&line, NULL, 0, NULL, 0, &taken, &written) == GAUGE_NOT_REFUSED && taken + written == 0);
     CHECK(GaugeLine_reset(&line) == GAUGE_NOT_REFUSED && line.mu == 1.0f);
     CHECK(GaugeLine_step(&line, samples, 2, 0, 1, &taken, &written, &value) == GAUGE_NOT_REFUSED);
     CHECK(taken == 1 && written == 0);

@@ -1,5 +1,5 @@
 #!/usr/bin/env bash
-# The archive that GAUGE_ARCHIVE names has the functions that crates/ffi/src exports, and no others.
+# The archive that GAUGE_ARCHIVE names has the functions that crates/ffi/src exports and no others, wants three functions of the C library at most, and has no data that can be written.
 set -euo pipefail
 cd "$(dirname "$0")/../.."
 
@@ -11,5 +11,11 @@ archived() {
     nm -g --defined-only "$GAUGE_ARCHIVE" | awk '$2 == "T" { print $3 }' | sort
 }
 
+# Symbols beside code, constants and the three functions.
+others() {
+    nm "$GAUGE_ARCHIVE" | awk 'NF >= 2 && $(NF - 1) !~ /^[TtrR]$/ && $0 !~ / U (memcpy|memmove|memset)$/'
+}
+
 diff <(exported) <(archived)
-echo "symbols: the archive has the exported functions"
+diff /dev/null <(others)
+echo "symbols: the archive has the exported functions, and no state"

@@ -1,5 +1,5 @@
-//! The gauge line and its rate converters for Rust: safe types over the archive that `rt staticlib ffi` makes. Each function is proved, in crates/ffi/src, to do what its
-//! comment says; this crate only lends its places. No allocation, no global state, no dependency.
+//! The gauge line and its rate converters for Rust: safe types over the archive that `rt staticlib ffi` makes. The archive is proved, in crates/ffi/src, to do what the
+//! comments here say; this crate only lends it places. No allocation, no global state, no dependency.
 //!
 //! [`Line`] takes cell samples and gives levels; the other types are its parts and their inverses. docs/rust.md is the page for a user.
 //!
@@ -53,3 +53,8 @@ pub use resample_linear::{resample_linear_f32, resample_linear_q15};
 pub use values::{
     cut_q15, hbf_dec_response_length, hbf_int_response_length, hbf_tap_table, q15_to_f32,
 };
+
+// The page's examples are doc tests too.
+#[cfg(doctest)]
+#[doc = include_str!("../../../docs/rust.md")]
+struct Page;

@@ -43,7 +43,7 @@ pub enum Refusal {
     Prototype = 13,
     /// Step not finite or not above zero; in the line not 1/64 to 64.
     Step = 14,
-    /// A state with settings that its opening refuses, or a counter out of range. No state that this crate hands out is one.
+    /// A state with settings that its opening refuses, or a counter out of range. No opening makes one.
     State = 15,
 }
 
