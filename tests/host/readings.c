@@ -168,6 +168,25 @@ static void resamplers(void) {
     CHECK(written == 3 && dst[0] == 0.5f && dst[1] == 0.25f && dst[2] == 0.0f);
 }
 
+// Each setting reaches the member of its name.
+static void line_members(void) {
+    GaugeLine line;
+    const GaugeSettings settings = {3, 5, 7, 2, 4, 1, 1.5f};
+    const int16_t taps[2] = {11, 12};
+    const float prototype[4] = {0.1f, 0.2f, 0.3f, 0.4f};
+    const int32_t sample[1] = {9};
+    float value;
+    uint64_t taken, written;
+    CHECK(GaugeLine_open(&line, &settings, taps, 2, prototype, 4) == GAUGE_NOT_REFUSED);
+    CHECK(line.stages == 3 && line.r == 5 && line.sample_counter == 0);
+    CHECK(line.factor == 7 && line.tap_count == 2 && line.wait == 2 && line.taps[1] == 12 && line.fir_delay[1] == 0);
+    CHECK(line.depth == 2 && line.phases == 4 && line.phase_taps == 1);
+    CHECK(line.mu == 1.0f && line.step == 1.5f && line.prototype[3] == 0.4f && line.delay[0] == 0.0f);
+    CHECK(GaugeLine_feed(&line, sample, 1, NULL, 0, &taken, &written) == GAUGE_NOT_REFUSED && taken == 0);
+    CHECK(GaugeLine_step(&line, sample, 1, 0, 1, &taken, &written, &value) == GAUGE_NOT_REFUSED);
+    CHECK(taken == 1 && line.integrators[0] == 9 && line.combs[0] == 0 && line.sample_counter == 1);
+}
+
 // 01's reading of a line, then the same by steps.
 static void line_readings(void) {
     GaugeLine line;
@@ -214,6 +233,7 @@ int main(void) {
     half_band_cascades();
     half_band_values();
     resamplers();
+    line_members();
     line_readings();
     pieces_and_names();
     return failures != 0;
