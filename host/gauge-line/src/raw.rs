@@ -418,7 +418,7 @@ unsafe extern "C" {
         written: &mut u64,
     ) -> u64;
     pub fn gauge_cut_q15(sum: i64, value: &mut i16);
-    pub fn gauge_q15_to_f32(bits: i16, level: &mut f32);
+    pub fn gauge_q15_to_f32(bits: i16, value: &mut f32);
     pub fn gauge_hbf_dec_response_length(depth: u64, length: &mut u64) -> u64;
     pub fn gauge_hbf_int_response_length(depth: u64, length: &mut u64) -> u64;
     pub fn gauge_hbf_tap_table(taps: &mut [f32; 45]);

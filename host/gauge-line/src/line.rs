@@ -1,0 +1,339 @@
+//! The gauge line.
+
+use crate::moved::Moved;
+use crate::raw;
+use crate::refusal::{Refusal, answered};
+
+/// What a line is opened with, beside its FIR taps and its prototype. The limits stand in [`limits`](crate::limits).
+#[derive(Clone, Copy, Debug, PartialEq)]
+pub struct Settings {
+    /// CIC stages, 1 to 8.
+    pub stages: usize,
+    /// CIC factor, 1 to 4,096; r^stages is at most 2^31.
+    pub r: usize,
+    /// FIR factor, 1 to 4,096. Not looked at without FIR taps.
+    pub factor: usize,
+    /// Half-band stages, 0 (off) to 5; each halves the rate. The crate's page says what each depth holds off.
+    pub depth: usize,
+    /// Phases of the resampler, 0 (off) or 2 to 64. The next two are not looked at when it is off.
+    pub phases: usize,
+    /// Taps of each phase, 1 to 16.
+    pub phase_taps: usize,
+    /// Input samples for each output of the resampler, 1/64 to 64.
+    pub step: f32,
+}
+
+/// What one step of the line did.
+#[derive(Clone, Copy, Debug, PartialEq)]
+pub enum Step {
+    /// It took a sample.
+    Took,
+    /// It wrote a level.
+    Wrote(f32),
+    /// It took a sample and wrote a level.
+    TookAndWrote(f32),
+    /// It stopped: no place, or no level due and no sample.
+    Stopped,
+}
+
+/// A gauge line: cell samples in, float levels out, through a CIC decimator, a 16-bit FIR, a cascade of half-band stages and a polyphase resampler.
+///
+/// ```
+/// use gauge_line::{Line, Moved, Settings};
+///
+/// // One stage, r = 1, no FIR, no half-band stages, a resampler of two phases and one tap.
+/// let settings = Settings { stages: 1, r: 1, factor: 0, depth: 0, phases: 2, phase_taps: 1, step: 0.5 };
+/// let mut line = Line::open(settings, &[], &[1.0, 0.0])?;
+/// let mut out = [0.0];
+/// assert_eq!(line.feed(&[16384, 0], &mut out)?, Moved { taken: 1, written: 1 });
+/// assert_eq!(out, [-0.5]);
+/// # Ok::<(), gauge_line::Refusal>(())
+/// ```
+#[derive(Clone, Debug, PartialEq)]
+pub struct Line {
+    stages: u64,
+    r: u64,
+    integrators: [i32; 8],
+    combs: [i32; 8],
+    sample_counter: u64,
+    taps: [i16; 64],
+    tap_count: u64,
+    factor: u64,
+    fir_delay: [i16; 64],
+    wait: u64,
+    depth: u64,
+    delays: [f32; 480],
+    held: [f32; 5],
+    counts: [u64; 5],
+    phases: u64,
+    phase_taps: u64,
+    mu: f32,
+    step: f32,
+    delay: [f32; 16],
+    prototype: [f32; 1024],
+}
+
+const ZEROS: Line = Line {
+    stages: 0,
+    r: 0,
+    integrators: [0; 8],
+    combs: [0; 8],
+    sample_counter: 0,
+    taps: [0; 64],
+    tap_count: 0,
+    factor: 0,
+    fir_delay: [0; 64],
+    wait: 0,
+    depth: 0,
+    delays: [0.0; 480],
+    held: [0.0; 5],
+    counts: [0; 5],
+    phases: 0,
+    phase_taps: 0,
+    mu: 0.0,
+    step: 0.0,
+    delay: [0.0; 16],
+    prototype: [0.0; 1024],
+};
+
+// A function of the archive on a line: what stands before its fields, the fields in the order in which they cross, what stands behind.
+macro_rules! on_line {
+    ($function:ident, [$($before:expr),*], $line:expr, [$($after:expr),*]) => {
+        raw::$function(
+            $($before,)*
+            &mut $line.stages,
+            &mut $line.r,
+            &mut $line.integrators,
+            &mut $line.combs,
+            &mut $line.sample_counter,
+            &mut $line.taps,
+            &mut $line.tap_count,
+            &mut $line.factor,
+            &mut $line.fir_delay,
+            &mut $line.wait,
+            &mut $line.depth,
+            &mut $line.delays,
+            &mut $line.held,
+            &mut $line.counts,
+            &mut $line.phases,
+            &mut $line.phase_taps,
+            &mut $line.mu,
+            &mut $line.step,
+            &mut $line.delay,
+            &mut $line.prototype,
+            $($after,)*
+        )
+    };
+}
+
+impl Line {
+    /// Opens a line. `taps` are the FIR's, in Q15 (32768ths), at most 64; none turn the FIR off. `prototype` is the resampler's, phases × phase_taps long, tap t of phase p at
+    /// t × phases + p. Both are copied. A part that is off hands its values on.
+    ///
+    /// Refused: `Stages`, `Factor`, `GainBits`, `FirFactor`, `Taps`, `Depth`, `Phases`, `Prototype`, `Step`.
+    ///
+    /// ```
+    /// # use gauge_line::{Line, Refusal, Settings};
+    /// let settings = Settings { stages: 8, r: 15, factor: 0, depth: 0, phases: 0, phase_taps: 0, step: 0.0 };
+    /// assert_eq!(Line::open(settings, &[], &[]).unwrap_err(), Refusal::GainBits);
+    /// assert!(Line::open(Settings { r: 14, ..settings }, &[], &[]).is_ok());
+    /// ```
+    pub fn open(settings: Settings, taps: &[i16], prototype: &[f32]) -> Result<Line, Refusal> {
+        let mut line = ZEROS;
+        // SAFETY: each pointer is lent with the length of its own slice, and the fields are this function's own.
+        let number = unsafe {
+            on_line!(
+                gauge_line_open,
+                [
+                    settings.stages as u64,
+                    settings.r as u64,
+                    settings.factor as u64,
+                    settings.depth as u64,
+                    settings.phases as u64,
+                    settings.phase_taps as u64,
+                    settings.step,
+                    taps.as_ptr(),
+                    taps.len() as u64,
+                    prototype.as_ptr(),
+                    prototype.len() as u64
+                ],
+                line,
+                []
+            )
+        };
+        answered(number, line)
+    }
+
+    /// Takes samples from the front of those lent and writes levels to the front of `out`, until out is full, or no level is due and no sample is left. Places of out behind
+    /// the levels stay as they were. Both may be of any length.
+    ///
+    /// Over every list of feeds of an opened line: no feed is refused; the levels written so far are the first ones of those that all samples taken so far give when each part
+    /// is run over them as one list, however they were cut into feeds; and where a place of out stayed unwritten, they are all of them and every sample lent was taken.
+    ///
+    /// Refused: `State`.
+    ///
+    /// ```
+    /// # use gauge_line::{Line, Moved, Settings};
+    /// // The sum of each two samples, halved; a level for each.
+    /// let settings = Settings { stages: 1, r: 2, factor: 0, depth: 0, phases: 0, phase_taps: 0, step: 0.0 };
+    /// let mut line = Line::open(settings, &[], &[])?;
+    /// let mut out = [9.0; 3];
+    /// assert_eq!(line.feed(&[8192, 8192, 16384, 16384, 0], &mut out)?, Moved { taken: 5, written: 2 });
+    /// assert_eq!(out, [0.25, 0.5, 9.0]);
+    /// # Ok::<(), gauge_line::Refusal>(())
+    /// ```
+    pub fn feed(&mut self, samples: &[i32], out: &mut [f32]) -> Result<Moved, Refusal> {
+        let (mut taken, mut written) = (0, 0);
+        // SAFETY: each pointer is lent with the length of its own slice, and the fields are borrowed for this call alone.
+        let number = unsafe {
+            on_line!(
+                gauge_line_feed,
+                [],
+                self,
+                [
+                    samples.as_ptr(),
+                    samples.len() as u64,
+                    out.as_mut_ptr(),
+                    out.len() as u64,
+                    &mut taken,
+                    &mut written
+                ]
+            )
+        };
+        answered(number, Moved::from_counts(taken, written))
+    }
+
+    /// One step of a feed. Without a `place` it stops. Else a level that is due is written; else the sample at `at` is taken and a level may result; with no sample there it
+    /// stops.
+    ///
+    /// Refused: `State`.
+    ///
+    /// ```
+    /// # use gauge_line::{Line, Settings, Step};
+    /// # let settings = Settings { stages: 1, r: 1, factor: 0, depth: 0, phases: 2, phase_taps: 1, step: 0.5 };
+    /// # let mut line = Line::open(settings, &[], &[1.0, 0.0])?;
+    /// assert_eq!(line.step(&[16384, 0], 0, false)?, Step::Stopped);
+    /// assert_eq!(line.step(&[16384, 0], 0, true)?, Step::Took);
+    /// assert_eq!(line.step(&[16384, 0], 1, true)?, Step::Wrote(-0.5));
+    /// # Ok::<(), gauge_line::Refusal>(())
+    /// ```
+    pub fn step(&mut self, samples: &[i32], at: usize, place: bool) -> Result<Step, Refusal> {
+        let (mut taken, mut written, mut value) = (0, 0, 0.0);
+        // SAFETY: the pointer is lent with the length of its own slice, and the fields are borrowed for this call alone.
+        let number = unsafe {
+            on_line!(
+                gauge_line_step,
+                [],
+                self,
+                [
+                    samples.as_ptr(),
+                    samples.len() as u64,
+                    at as u64,
+                    u64::from(place),
+                    &mut taken,
+                    &mut written,
+                    &mut value
+                ]
+            )
+        };
+        let step = match (taken, written) {
+            (0, 0) => Step::Stopped,
+            (0, _) => Step::Wrote(value),
+            (_, 0) => Step::Took,
+            (_, _) => Step::TookAndWrote(value),
+        };
+        answered(number, step)
+    }
+
+    /// Makes the line what its opening made it.
+    ///
+    /// Refused: `State`.
+    ///
+    /// ```
+    /// # use gauge_line::{Line, Settings};
+    /// # let settings = Settings { stages: 1, r: 4, factor: 0, depth: 0, phases: 0, phase_taps: 0, step: 0.0 };
+    /// let mut line = Line::open(settings, &[], &[])?;
+    /// line.feed(&[1, 2, 3], &mut [0.0])?;
+    /// line.reset()?;
+    /// assert_eq!(line, Line::open(settings, &[], &[])?);
+    /// # Ok::<(), gauge_line::Refusal>(())
+    /// ```
+    pub fn reset(&mut self) -> Result<(), Refusal> {
+        // SAFETY: the fields are borrowed for this call alone.
+        let number = unsafe { on_line!(gauge_line_reset, [], self, []) };
+        answered(number, ())
+    }
+}
+
+/// What to feed next: the rest of `last` behind the samples taken, or `waiting` where nothing of it is left. A count past the end is the length of last.
+///
+/// ```
+/// use gauge_line::next_piece;
+///
+/// assert_eq!(next_piece(&[1, 2, 3], 2, &[4, 5]), [3]);
+/// assert_eq!(next_piece(&[1, 2, 3], 3, &[4, 5]), [4, 5]);
+/// ```
+pub fn next_piece<'a>(last: &'a [i32], taken: usize, waiting: &'a [i32]) -> &'a [i32] {
+    match last.get(taken..) {
+        None | Some([]) => waiting,
+        Some(rest) => rest,
+    }
+}
+
+#[cfg(test)]
+mod tests {
+    use super::*;
+
+    const SETTINGS: Settings = Settings {
+        stages: 3,
+        r: 5,
+        factor: 7,
+        depth: 2,
+        phases: 4,
+        phase_taps: 1,
+        step: 1.5,
+    };
+
+    fn opened() -> Line {
+        Line::open(SETTINGS, &[11, 12], &[0.1, 0.2, 0.3, 0.4]).unwrap()
+    }
+
+    // Each field is what its name says: two of one type could else be lent in the wrong order.
+    #[test]
+    fn an_opening_writes_each_field() {
+        let line = opened();
+        assert_eq!((line.stages, line.r, line.sample_counter), (3, 5, 0));
+        assert_eq!((line.tap_count, line.factor, line.wait), (2, 7, 2));
+        assert_eq!((line.depth, line.phases, line.phase_taps), (2, 4, 1));
+        assert_eq!((line.mu, line.step), (1.0, 1.5));
+        assert_eq!(line.taps[..3], [11, 12, 0]);
+        assert_eq!(line.fir_delay, [0; 64]);
+        assert_eq!(line.prototype[..5], [0.1, 0.2, 0.3, 0.4, 0.0]);
+    }
+
+    #[test]
+    fn a_sample_reaches_the_integrators_alone() {
+        let mut line = opened();
+        line.feed(&[9], &mut [0.0]).unwrap();
+        assert_eq!((line.integrators[0], line.combs[0]), (9, 0));
+        assert_eq!(line.sample_counter, 1);
+    }
+
+    #[test]
+    fn a_damaged_line_is_refused_and_stays() {
+        let mut line = opened();
+        line.wait = 0;
+        let damaged = line.clone();
+        let mut out = [9.0];
+        assert_eq!(line.feed(&[1; 40], &mut out), Err(Refusal::State));
+        assert_eq!(line.step(&[1], 0, true), Err(Refusal::State));
+        assert_eq!(line.reset(), Err(Refusal::State));
+        assert_eq!((line, out), (damaged, [9.0]));
+    }
+
+    #[test]
+    fn a_count_past_the_end_is_the_length() {
+        assert_eq!(next_piece(&[1], 9, &[2]), [2]);
+        assert_eq!(next_piece(&[], 0, &[]), [0; 0]);
+    }
+}

@@ -1,0 +1,177 @@
+//! The polyphase resampler.
+
+use crate::moved::Moved;
+use crate::raw;
+use crate::refusal::{Refusal, answered};
+
+/// A polyphase resampler on f32, `step` input samples for each output, with linear interpolation between neighbouring phases.
+#[derive(Clone, Debug, PartialEq)]
+pub struct PolyphaseResampF32 {
+    phases: u64,
+    taps: u64,
+    mu: f32,
+    step: f32,
+    delay: [f32; 16],
+    prototype: [f32; 1024],
+}
+
+// A function of the archive on a resampler: what stands before its fields, the fields in the order in which they cross, what stands behind.
+macro_rules! on_resampler {
+    ($function:ident, [$($before:expr),*], $state:expr, [$($after:expr),*]) => {
+        raw::$function(
+            $($before,)*
+            &mut $state.phases,
+            &mut $state.taps,
+            &mut $state.mu,
+            &mut $state.step,
+            &mut $state.delay,
+            &mut $state.prototype,
+            $($after,)*
+        )
+    };
+}
+
+impl PolyphaseResampF32 {
+    /// Opens a resampler of 2 to 64 phases of 1 to 16 taps, with any finite step above zero. Tap t of phase p stands at t × phases + p of the prototype, which is copied.
+    ///
+    /// Refused: `Phases`, `Prototype`, `Step`.
+    pub fn from_taps(
+        phases: usize,
+        taps: usize,
+        prototype: &[f32],
+        step: f32,
+    ) -> Result<PolyphaseResampF32, Refusal> {
+        let mut state = PolyphaseResampF32 {
+            phases: 0,
+            taps: 0,
+            mu: 0.0,
+            step: 0.0,
+            delay: [0.0; 16],
+            prototype: [0.0; 1024],
+        };
+        // SAFETY: the pointer is lent with the length of its own slice, and the fields are this function's own.
+        let number = unsafe {
+            on_resampler!(
+                gauge_polyphase_resamp_from_taps,
+                [
+                    phases as u64,
+                    taps as u64,
+                    prototype.as_ptr(),
+                    prototype.len() as u64,
+                    step
+                ],
+                state,
+                []
+            )
+        };
+        answered(number, state)
+    }
+
+    /// Makes the state what its opening made it.
+    ///
+    /// Refused: `State`.
+    pub fn reset(&mut self) -> Result<(), Refusal> {
+        // SAFETY: the fields are borrowed for this call alone.
+        let number = unsafe { on_resampler!(gauge_polyphase_resamp_reset, [], self, []) };
+        answered(number, ())
+    }
+
+    /// While `dst` has a place: writes an output that is due, else consumes the next sample of `src`, else stops. Continue behind the samples taken; no output is lost or
+    /// made twice. Both may be of any length.
+    ///
+    /// Refused: `State`.
+    ///
+    /// ```
+    /// use gauge_line::{Moved, PolyphaseResampF32};
+    ///
+    /// let mut resampler = PolyphaseResampF32::from_taps(2, 1, &[1.0, 0.0], 0.5)?;
+    /// let mut out = [0.0];
+    /// assert_eq!(resampler.process_block(&[0.5, 0.0], &mut out)?, Moved { taken: 1, written: 1 });
+    /// assert_eq!(out, [-0.5]);
+    /// # Ok::<(), gauge_line::Refusal>(())
+    /// ```
+    pub fn process_block(&mut self, src: &[f32], dst: &mut [f32]) -> Result<Moved, Refusal> {
+        let (mut taken, mut written) = (0, 0);
+        // SAFETY: each pointer is lent with the length of its own slice, and the fields are borrowed for this call alone.
+        let number = unsafe {
+            on_resampler!(
+                gauge_polyphase_resamp_process_block,
+                [],
+                self,
+                [
+                    src.as_ptr(),
+                    src.len() as u64,
+                    dst.as_mut_ptr(),
+                    dst.len() as u64,
+                    &mut taken,
+                    &mut written
+                ]
+            )
+        };
+        answered(number, Moved::from_counts(taken, written))
+    }
+
+    /// Consumes `x` whatever is due, then writes what is due while `out` has a place, and answers the outputs written. Outputs still due after a full span are skipped by the
+    /// next push, so a stream goes through [`process_block`](Self::process_block).
+    ///
+    /// Refused: `State`.
+    ///
+    /// ```
+    /// let mut resampler = gauge_line::PolyphaseResampF32::from_taps(2, 1, &[1.0, 0.0], 0.5)?;
+    /// let mut out = [0.0; 3];
+    /// assert_eq!(resampler.push(0.5, &mut out)?, 2);
+    /// assert_eq!(out, [-0.5, 0.0, 0.0]);
+    /// # Ok::<(), gauge_line::Refusal>(())
+    /// ```
+    pub fn push(&mut self, x: f32, out: &mut [f32]) -> Result<usize, Refusal> {
+        let mut written = 0;
+        // SAFETY: the pointer is lent with the length of its own slice, and the fields are borrowed for this call alone.
+        let number = unsafe {
+            on_resampler!(
+                gauge_polyphase_resamp_push,
+                [],
+                self,
+                [x, out.as_mut_ptr(), out.len() as u64, &mut written]
+            )
+        };
+        answered(number, written as usize)
+    }
+}
+
+#[cfg(test)]
+mod tests {
+    use super::*;
+
+    fn opened() -> PolyphaseResampF32 {
+        PolyphaseResampF32::from_taps(4, 1, &[0.1, 0.2, 0.3, 0.4], 1.5).unwrap()
+    }
+
+    #[test]
+    fn each_field_is_what_its_name_says() {
+        let state = opened();
+        assert_eq!((state.phases, state.taps), (4, 1));
+        assert_eq!((state.mu, state.step), (1.0, 1.5));
+        assert_eq!(state.prototype[..5], [0.1, 0.2, 0.3, 0.4, 0.0]);
+    }
+
+    #[test]
+    fn a_reset_is_a_fresh_opening() {
+        let mut state = opened();
+        state.push(2.0, &mut []).unwrap();
+        assert_eq!((state.delay[0], state.mu), (2.0, 0.0));
+        state.reset().unwrap();
+        assert_eq!(state, opened());
+    }
+
+    #[test]
+    fn a_damaged_state_is_refused_and_stays() {
+        let mut state = opened();
+        state.mu = 2.75;
+        let damaged = state.clone();
+        let mut out = [9.0];
+        assert_eq!(state.process_block(&[1.0], &mut out), Err(Refusal::State));
+        assert_eq!(state.push(1.0, &mut out), Err(Refusal::State));
+        assert_eq!(state.reset(), Err(Refusal::State));
+        assert_eq!((state, out), (damaged, [9.0]));
+    }
+}

@@ -1,0 +1,159 @@
+//! Why a call is turned back.
+
+use core::error::Error;
+use core::fmt;
+
+/// Why a call is turned back: the first refusal that applies. Nothing is then written and the state stays as it was.
+///
+/// ```
+/// use gauge_line::{CicDecimator, Refusal};
+///
+/// let refusal = CicDecimator::new(9, 4).unwrap_err();
+/// assert_eq!(refusal, Refusal::Stages);
+/// assert_eq!((refusal.number(), refusal.name()), (1, "Stages"));
+/// assert_eq!(refusal.to_string(), "refusal 1, Stages: CIC stages not 1 to 8");
+/// ```
+#[derive(Clone, Copy, Debug, PartialEq, Eq, Hash)]
+pub enum Refusal {
+    /// CIC stages not 1 to 8.
+    Stages = 1,
+    /// CIC factor not 1 to 4,096.
+    Factor = 2,
+    /// Scaled sums: gain bits over 31.
+    GainBits = 3,
+    /// CIC interpolator: span shorter than the factor.
+    Span = 4,
+    /// FIR factor not 1 to 4,096.
+    FirFactor = 5,
+    /// FIR taps: none, or over 65,536; in the line and [`FirDecimator`](crate::FirDecimator) only over 64.
+    Taps = 6,
+    /// Samples of a block: none, or samples or span over 65,536.
+    Samples = 7,
+    /// FIR taps not a multiple of the interpolation factor.
+    TapsMultiple = 8,
+    /// Linear resampling: ratio not above zero or not finite.
+    Ratio = 9,
+    /// Half-band taps not 1 to 23.
+    HalfBandTaps = 10,
+    /// Depth over 5, or a cascade of 0; in the line only over 5.
+    Depth = 11,
+    /// Phases not 2 to 64, or taps of a phase not 1 to 16.
+    Phases = 12,
+    /// Prototype not phases times taps long.
+    Prototype = 13,
+    /// Step not finite or not above zero; in the line not 1/64 to 64.
+    Step = 14,
+    /// A state with settings that its opening refuses, or a counter out of range. No opening makes one.
+    State = 15,
+}
+
+// In the order of the numbers: the refusal, its name, when it applies.
+const TABLE: [(Refusal, &str, &str); 15] = [
+    (Refusal::Stages, "Stages", "CIC stages not 1 to 8"),
+    (Refusal::Factor, "Factor", "CIC factor not 1 to 4,096"),
+    (Refusal::GainBits, "GainBits", "gain bits over 31"),
+    (Refusal::Span, "Span", "span shorter than the factor"),
+    (Refusal::FirFactor, "FirFactor", "FIR factor not 1 to 4,096"),
+    (Refusal::Taps, "Taps", "FIR taps none or too many"),
+    (
+        Refusal::Samples,
+        "Samples",
+        "samples none, or samples or span over 65,536",
+    ),
+    (
+        Refusal::TapsMultiple,
+        "TapsMultiple",
+        "FIR taps not a multiple of the factor",
+    ),
+    (
+        Refusal::Ratio,
+        "Ratio",
+        "ratio not above zero or not finite",
+    ),
+    (
+        Refusal::HalfBandTaps,
+        "HalfBandTaps",
+        "half-band taps not 1 to 23",
+    ),
+    (Refusal::Depth, "Depth", "depth out of its limits"),
+    (
+        Refusal::Phases,
+        "Phases",
+        "phases not 2 to 64, or their taps not 1 to 16",
+    ),
+    (
+        Refusal::Prototype,
+        "Prototype",
+        "prototype not phases times taps long",
+    ),
+    (Refusal::Step, "Step", "step out of its limits"),
+    (
+        Refusal::State,
+        "State",
+        "settings that the opening refuses, or a counter out of range",
+    ),
+];
+
+impl Refusal {
+    /// The number that the archive answers, 1 to 15.
+    pub fn number(self) -> u64 {
+        self as u64
+    }
+
+    /// The refusal of a number, 1 to 15.
+    pub fn from_number(number: u64) -> Option<Refusal> {
+        let at = usize::try_from(number).ok()?.checked_sub(1)?;
+        TABLE.get(at).map(|row| row.0)
+    }
+
+    /// The name, as the variant has it.
+    pub fn name(self) -> &'static str {
+        TABLE[self as usize - 1].1
+    }
+
+    /// When it applies, in words.
+    pub fn reason(self) -> &'static str {
+        TABLE[self as usize - 1].2
+    }
+}
+
+impl fmt::Display for Refusal {
+    fn fmt(&self, f: &mut fmt::Formatter<'_>) -> fmt::Result {
+        write!(
+            f,
+            "refusal {}, {}: {}",
+            self.number(),
+            self.name(),
+            self.reason()
+        )
+    }
+}
+
+impl Error for Refusal {}
+
+/// The value, or the refusal whose number the archive answered.
+pub(crate) fn answered<T>(number: u64, value: T) -> Result<T, Refusal> {
+    if number == 0 {
+        return Ok(value);
+    }
+    Err(Refusal::from_number(number).expect("the archive answers 0 to 15"))
+}
+
+#[cfg(test)]
+mod tests {
+    extern crate std;
+
+    use super::*;
+    use std::format;
+
+    #[test]
+    fn each_number_has_its_row() {
+        for (place, row) in TABLE.iter().enumerate() {
+            assert_eq!(row.0 as usize, place + 1);
+            assert_eq!(row.1, format!("{:?}", row.0));
+            assert_eq!(Refusal::from_number(place as u64 + 1), Some(row.0));
+        }
+        assert_eq!(Refusal::from_number(0), None);
+        assert_eq!(Refusal::from_number(16), None);
+    }
+}

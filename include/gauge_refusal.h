@@ -1,0 +1,71 @@
+// Why a call is turned back: the numbers, their names, and the limits that they speak of.
+//
+// Every function that can be refused answers a number: 0 where it was not, else that of the first refusal that applies.
+// A refused call writes no output and leaves its state as it was; the counts and values that it answers are 0. A
+// refused opening makes the state all zeros.
+#ifndef GAUGE_REFUSAL_H
+#define GAUGE_REFUSAL_H
+
+#include <stdint.h>
+
+#define GAUGE_MOST_STAGES 8
+#define GAUGE_MOST_FACTOR 4096
+#define GAUGE_MOST_GAIN_BITS 31
+// A FIR of the line.
+#define GAUGE_MOST_TAPS 64
+// Samples, places or taps of a block.
+#define GAUGE_MOST_BLOCK 65536
+#define GAUGE_MOST_HALF_BAND_TAPS 23
+#define GAUGE_MOST_DEPTH 5
+#define GAUGE_LEAST_PHASES 2
+#define GAUGE_MOST_PHASES 64
+#define GAUGE_MOST_PHASE_TAPS 16
+// Steps of a resampler in the line.
+#define GAUGE_LEAST_STEP (1.0f / 64.0f)
+#define GAUGE_MOST_STEP 64.0f
+
+enum GaugeRefusal {
+    // The call did what it was asked to.
+    GAUGE_NOT_REFUSED = 0,
+    // CIC stages not 1 to GAUGE_MOST_STAGES.
+    GAUGE_REFUSED_STAGES = 1,
+    // CIC factor r not 1 to GAUGE_MOST_FACTOR.
+    GAUGE_REFUSED_FACTOR = 2,
+    // Scaled sums: gain bits over GAUGE_MOST_GAIN_BITS.
+    GAUGE_REFUSED_GAIN_BITS = 3,
+    // CIC interpolator: span shorter than r.
+    GAUGE_REFUSED_SPAN = 4,
+    // FIR factor not 1 to GAUGE_MOST_FACTOR.
+    GAUGE_REFUSED_FIR_FACTOR = 5,
+    // FIR taps: none, or over GAUGE_MOST_BLOCK; in the line only over GAUGE_MOST_TAPS.
+    GAUGE_REFUSED_TAPS = 6,
+    // Samples of a block: none, or samples or span over GAUGE_MOST_BLOCK.
+    GAUGE_REFUSED_SAMPLES = 7,
+    // FIR taps not a multiple of the interpolation factor.
+    GAUGE_REFUSED_TAPS_MULTIPLE = 8,
+    // Linear resampling: ratio not above zero or not finite.
+    GAUGE_REFUSED_RATIO = 9,
+    // Half-band taps not 1 to GAUGE_MOST_HALF_BAND_TAPS.
+    GAUGE_REFUSED_HALF_BAND_TAPS = 10,
+    // Depth over GAUGE_MOST_DEPTH, or a cascade of 0; in the line only over GAUGE_MOST_DEPTH.
+    GAUGE_REFUSED_DEPTH = 11,
+    // Phases not GAUGE_LEAST_PHASES to GAUGE_MOST_PHASES, or taps of a phase not 1 to GAUGE_MOST_PHASE_TAPS.
+    GAUGE_REFUSED_PHASES = 12,
+    // Prototype not phases times taps long.
+    GAUGE_REFUSED_PROTOTYPE = 13,
+    // Step not finite or not above zero; in the line not GAUGE_LEAST_STEP to GAUGE_MOST_STEP.
+    GAUGE_REFUSED_STEP = 14,
+    // Settings in a state that its opening refuses, or a counter out of range: the state was not opened, was refused at
+    // its opening, or was damaged.
+    GAUGE_REFUSED_STATE = 15
+};
+
+// The name of a number that a call answered; "unknown" for a number that none answers.
+static inline const char *gauge_refusal_name(uint64_t number) {
+    static const char *const names[] = {
+        "not refused",  "Stages", "Factor",       "GainBits", "Span",   "FirFactor", "Taps", "Samples",
+        "TapsMultiple", "Ratio",  "HalfBandTaps", "Depth",    "Phases", "Prototype", "Step", "State"};
+    return number < sizeof names / sizeof names[0] ? names[number] : "unknown";
+}
+
+#endif

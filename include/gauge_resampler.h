@@ -1,0 +1,77 @@
+// Resamplers on floats: by a polyphase filter, and by straight lines. Every operation rounds once, in a fixed order.
+// What gauge_line.h says of the caller holds here too.
+#ifndef GAUGE_RESAMPLER_H
+#define GAUGE_RESAMPLER_H
+
+#include "gauge_raw.h"
+#include "gauge_refusal.h"
+#include <stdint.h>
+
+#ifdef __cplusplus
+extern "C" {
+#endif
+
+// Fills dst: output i is at i * ratio, rounded to a float, between the two samples there; past the end the last sample.
+// Refusals: 7, 9.
+uint64_t gauge_resample_linear_f32(
+    const float *src, uint64_t src_len, float *dst, uint64_t dst_len, float ratio, uint64_t *written
+);
+
+// A polyphase resampler. mu is the place of the next output: below 1 it is due.
+typedef struct {
+    uint64_t phases;
+    uint64_t taps;
+    float mu;
+    float step;
+    float delay[16];
+    float prototype[1024];
+} GaugePolyphaseResamp;
+
+#define GAUGE_POLYPHASE_RESAMP_FIELDS(s) &(s)->phases, &(s)->taps, &(s)->mu, &(s)->step, (s)->delay, (s)->prototype
+
+// Opens a resampler of GAUGE_LEAST_PHASES to GAUGE_MOST_PHASES phases of 1 to GAUGE_MOST_PHASE_TAPS taps, `step` input
+// samples for each output, any finite number above zero. Tap t of phase p stands at t * phases + p of the prototype,
+// which is copied.
+// Refusals: 12, 13, 14; the state is then all zeros.
+static inline uint64_t GaugePolyphaseResamp_from_taps(
+    GaugePolyphaseResamp *state, uint64_t phases, uint64_t taps, const float *prototype, uint64_t prototype_len,
+    float step
+) {
+    return gauge_polyphase_resamp_from_taps(
+        phases, taps, prototype, prototype_len, step, GAUGE_POLYPHASE_RESAMP_FIELDS(state)
+    );
+}
+
+// Makes the state what its opening made it.
+// Refusals: 15.
+static inline uint64_t GaugePolyphaseResamp_reset(GaugePolyphaseResamp *state) {
+    return gauge_polyphase_resamp_reset(GAUGE_POLYPHASE_RESAMP_FIELDS(state));
+}
+
+// While `dst` has a place: writes an output that is due, else consumes the next sample of `src`, else stops. Continue
+// behind the samples taken; no output is lost or made twice. Both may be of any length.
+// Refusals: 15, where the settings are refused or mu is not in -2^24 to 1 + step.
+static inline uint64_t GaugePolyphaseResamp_process_block(
+    GaugePolyphaseResamp *state, const float *src, uint64_t src_len, float *dst, uint64_t dst_len, uint64_t *taken,
+    uint64_t *written
+) {
+    return gauge_polyphase_resamp_process_block(
+        GAUGE_POLYPHASE_RESAMP_FIELDS(state), src, src_len, dst, dst_len, taken, written
+    );
+}
+
+// Consumes `x` whatever is due, then writes what is due while `out` has a place. Outputs still due after a full span
+// are skipped by the next push, so a stream goes through GaugePolyphaseResamp_process_block.
+// Refusals: 15, as there.
+static inline uint64_t
+GaugePolyphaseResamp_push(GaugePolyphaseResamp *state, float x, float *out, uint64_t out_len, uint64_t *written) {
+    return gauge_polyphase_resamp_push(GAUGE_POLYPHASE_RESAMP_FIELDS(state), x, out, out_len, written);
+}
+
+#undef GAUGE_POLYPHASE_RESAMP_FIELDS
+
+#ifdef __cplusplus
+}
+#endif
+
+#endif

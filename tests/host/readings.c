@@ -1,0 +1,240 @@
+// Every function of the headers, called once or more: 01's readings, refusals, and a damaged state.
+#include "gauge_cic.h"
+#include "gauge_half_band.h"
+#include "gauge_line.h"
+#include "gauge_q15.h"
+#include "gauge_resampler.h"
+#include <stdio.h>
+#include <string.h>
+
+static int failures = 0;
+
+#define CHECK(condition)                                                                                               \
+    do {                                                                                                               \
+        if (!(condition)) {                                                                                            \
+            printf("%s:%d: %s\n", __FILE__, __LINE__, #condition);                                                     \
+            failures++;                                                                                                \
+        }                                                                                                              \
+    } while (0)
+
+static void cic_decimator(void) {
+    GaugeCicDecimator state;
+    const int32_t src[8] = {1, 2, 3, 4, 5, 6, 7, 8};
+    int32_t dst[3] = {-1, -1, -1};
+    uint64_t taken, written, made, gain;
+    uint32_t bits;
+    int32_t sum;
+    CHECK(GaugeCicDecimator_new(&state, 1, 4) == GAUGE_NOT_REFUSED);
+    CHECK(GaugeCicDecimator_process_block(&state, src, 8, dst, 3, &taken, &written) == GAUGE_NOT_REFUSED);
+    CHECK(taken == 8 && written == 2 && dst[0] == 10 && dst[1] == 26 && dst[2] == -1);
+
+    CHECK(GaugeCicDecimator_new(&state, 3, 5) == GAUGE_NOT_REFUSED);
+    CHECK(GaugeCicDecimator_gain(&state, &gain) == GAUGE_NOT_REFUSED && gain == 125);
+    CHECK(GaugeCicDecimator_gain_bits(&state, &bits) == GAUGE_NOT_REFUSED && bits == 7);
+    CHECK(GaugeCicDecimator_process_sample(&state, 1, &made, &sum) == GAUGE_NOT_REFUSED && made == 0 && sum == 0);
+    CHECK(state.sample_counter == 1 && state.integrators[0] == 1 && state.combs[0] == 0);
+
+    CHECK(GaugeCicDecimator_new(&state, 1, 2) == GAUGE_NOT_REFUSED);
+    CHECK(GaugeCicDecimator_process_sample_scaled(&state, -1, &made, &sum) == GAUGE_NOT_REFUSED && made == 0);
+    CHECK(GaugeCicDecimator_process_sample_scaled(&state, 0, &made, &sum) == GAUGE_NOT_REFUSED);
+    CHECK(made == 1 && sum == -1);
+    CHECK(GaugeCicDecimator_new(&state, 9, 2) == GAUGE_REFUSED_STAGES && state.stages == 0);
+    CHECK(GaugeCicDecimator_gain(&state, &gain) == GAUGE_REFUSED_STATE && gain == 0);
+}
+
+static void cic_interpolator(void) {
+    GaugeCicInterpolator state;
+    int32_t out[2];
+    uint64_t written, gain;
+    uint32_t bits;
+    CHECK(GaugeCicInterpolator_new(&state, 2, 2) == GAUGE_NOT_REFUSED);
+    CHECK(GaugeCicInterpolator_gain(&state, &gain) == GAUGE_NOT_REFUSED && gain == 2);
+    CHECK(GaugeCicInterpolator_gain_bits(&state, &bits) == GAUGE_NOT_REFUSED && bits == 1);
+    CHECK(GaugeCicInterpolator_process_sample(&state, 3, out, 2, &written) == GAUGE_NOT_REFUSED);
+    CHECK(written == 2 && out[0] == 3 && out[1] == 6);
+    CHECK(GaugeCicInterpolator_process_sample(&state, 3, out, 1, &written) == GAUGE_REFUSED_SPAN && written == 0);
+}
+
+static void q15_blocks(void) {
+    const int16_t ones[2] = {1, 1};
+    const int16_t minus[2] = {-1, -1};
+    const int16_t up[2] = {16384, 8192};
+    const int16_t sample[1] = {16384};
+    const int16_t ramp[2] = {0, 100};
+    int16_t dst[4];
+    uint64_t written;
+    int16_t value;
+    float level;
+    CHECK(gauge_polyphase_decimate_q15(minus, 2, ones, 2, 1, dst, 4, &written) == GAUGE_NOT_REFUSED);
+    CHECK(written == 1 && dst[0] == -2);
+    CHECK(gauge_polyphase_decimate_q15(minus, 2, ones, 2, 0, dst, 4, &written) == GAUGE_REFUSED_FIR_FACTOR);
+    CHECK(gauge_polyphase_interpolate_q15(sample, 1, up, 2, 2, dst, 4, &written) == GAUGE_NOT_REFUSED);
+    CHECK(written == 2 && dst[0] == 16384 && dst[1] == 8192);
+    CHECK(gauge_resample_linear_q15(ramp, 2, dst, 4, 32768, &written) == GAUGE_NOT_REFUSED);
+    CHECK(written == 4 && dst[0] == 0 && dst[1] == 50 && dst[2] == 100 && dst[3] == 100);
+    gauge_cut_q15(40000, &value);
+    CHECK(value == 32767);
+    gauge_q15_to_f32(-16384, &level);
+    CHECK(level == -0.5f);
+}
+
+static void fir_decimator(void) {
+    GaugeFirDecimator state;
+    const int16_t taps[2] = {1, 1};
+    uint64_t made;
+    int16_t value;
+    CHECK(GaugeFirDecimator_new(&state, taps, 2, 3) == GAUGE_NOT_REFUSED);
+    CHECK(state.taps[1] == 1 && state.tap_count == 2 && state.factor == 3 && state.wait == 2);
+    CHECK(GaugeFirDecimator_process_sample(&state, -1, &made, &value) == GAUGE_NOT_REFUSED && made == 0);
+    CHECK(GaugeFirDecimator_process_sample(&state, -1, &made, &value) == GAUGE_NOT_REFUSED);
+    CHECK(made == 1 && value == -2 && state.wait == 3);
+    CHECK(GaugeFirDecimator_reset(&state) == GAUGE_NOT_REFUSED && state.wait == 2 && state.delay[0] == 0);
+    CHECK(GaugeFirDecimator_new(&state, NULL, 0, 0) == GAUGE_NOT_REFUSED);
+    CHECK(GaugeFirDecimator_process_sample(&state, 7, &made, &value) == GAUGE_NOT_REFUSED && made == 1 && value == 7);
+}
+
+static void half_band_stages(void) {
+    GaugeHbfDec down;
+    GaugeHbfInt up;
+    const float tap[1] = {0.5f};
+    const float src[4] = {1.0f, 0.0f, 0.0f, 0.0f};
+    float dst[4], value, even, odd;
+    uint64_t written;
+    CHECK(GaugeHbfDec_new(&down, tap, 1) == GAUGE_NOT_REFUSED);
+    CHECK(GaugeHbfDec_process_pair(&down, 1.0f, 0.0f, &value) == GAUGE_NOT_REFUSED && value == 0.25f);
+    CHECK(GaugeHbfDec_reset(&down) == GAUGE_NOT_REFUSED);
+    CHECK(GaugeHbfDec_process(&down, src, 4, dst, 4, &written) == GAUGE_NOT_REFUSED);
+    CHECK(written == 2 && dst[0] == 0.25f && dst[1] == 0.25f);
+    CHECK(GaugeHbfDec_new(&down, tap, 0) == GAUGE_REFUSED_HALF_BAND_TAPS);
+
+    CHECK(GaugeHbfInt_new(&up, tap, 1) == GAUGE_NOT_REFUSED);
+    CHECK(GaugeHbfInt_process_sample(&up, 1.0f, &even, &odd) == GAUGE_NOT_REFUSED && even == 1.0f && odd == 0.5f);
+    CHECK(GaugeHbfInt_reset(&up) == GAUGE_NOT_REFUSED);
+    CHECK(GaugeHbfInt_process(&up, src, 2, dst, 4, &written) == GAUGE_NOT_REFUSED);
+    CHECK(written == 4 && dst[0] == 1.0f && dst[1] == 0.5f && dst[2] == 0.0f && dst[3] == 0.5f);
+}
+
+// The stream and the block of one depth write the same.
+static void half_band_cascades(void) {
+    GaugeHbfDecCascade down;
+    GaugeHbfIntCascade up;
+    GaugeHbfStream stream;
+    const float src[4] = {1.0f, 1.0f, 1.0f, 1.0f};
+    float dst[4], value = 0.0f;
+    uint64_t written, made = 0;
+    CHECK(GaugeHbfDecCascade_new(&down, 2) == GAUGE_NOT_REFUSED && down.depth == 2);
+    CHECK(GaugeHbfDecCascade_process(&down, src, 4, dst, 4, &written) == GAUGE_NOT_REFUSED && written == 1);
+    CHECK(GaugeHbfStream_new(&stream, 2) == GAUGE_NOT_REFUSED);
+    for (int i = 0; i < 4; i++) {
+        CHECK(GaugeHbfStream_process_sample(&stream, src[i], &made, &value) == GAUGE_NOT_REFUSED);
+        CHECK(made == (i == 3));
+    }
+    CHECK(value == dst[0] && value != 0.0f);
+    CHECK(GaugeHbfDecCascade_reset(&down) == GAUGE_NOT_REFUSED && down.delays[0] == 0.0f);
+    CHECK(GaugeHbfStream_reset(&stream) == GAUGE_NOT_REFUSED && stream.counts[0] == 0);
+    stream.counts[1] = 2;
+    CHECK(GaugeHbfStream_process_sample(&stream, 1.0f, &made, &value) == GAUGE_REFUSED_STATE && stream.counts[1] == 2);
+
+    CHECK(GaugeHbfIntCascade_new(&up, 0) == GAUGE_REFUSED_DEPTH);
+    CHECK(GaugeHbfIntCascade_new(&up, 1) == GAUGE_NOT_REFUSED);
+    CHECK(GaugeHbfIntCascade_process(&up, src, 4, dst, 4, &written) == GAUGE_NOT_REFUSED && written == 4);
+    CHECK(GaugeHbfIntCascade_reset(&up) == GAUGE_NOT_REFUSED);
+}
+
+static void half_band_values(void) {
+    float taps[45];
+    uint64_t length;
+    gauge_hbf_tap_table(taps);
+    CHECK(taps[42] == 0.01186105f && taps[44] == 0.58622005f);
+    CHECK(gauge_hbf_dec_response_length(5, &length) == GAUGE_NOT_REFUSED && length == 29);
+    CHECK(gauge_hbf_int_response_length(5, &length) == GAUGE_NOT_REFUSED && length == 958);
+    CHECK(gauge_hbf_int_response_length(6, &length) == GAUGE_REFUSED_DEPTH && length == 0);
+}
+
+static void resamplers(void) {
+    GaugePolyphaseResamp state;
+    const float prototype[2] = {1.0f, 0.0f};
+    const float src[2] = {0.5f, 0.0f};
+    float dst[3];
+    uint64_t taken, written;
+    CHECK(GaugePolyphaseResamp_from_taps(&state, 2, 1, prototype, 2, 0.5f) == GAUGE_NOT_REFUSED);
+    CHECK(GaugePolyphaseResamp_process_block(&state, src, 2, dst, 1, &taken, &written) == GAUGE_NOT_REFUSED);
+    CHECK(taken == 1 && written == 1 && dst[0] == -0.5f);
+    CHECK(GaugePolyphaseResamp_reset(&state) == GAUGE_NOT_REFUSED && state.mu == 1.0f);
+    CHECK(GaugePolyphaseResamp_push(&state, 0.5f, dst, 3, &written) == GAUGE_NOT_REFUSED);
+    CHECK(written == 2 && dst[0] == -0.5f && dst[1] == 0.0f);
+    CHECK(GaugePolyphaseResamp_from_taps(&state, 2, 1, prototype, 1, 0.5f) == GAUGE_REFUSED_PROTOTYPE);
+    CHECK(gauge_resample_linear_f32(src, 2, dst, 3, 0.5f, &written) == GAUGE_NOT_REFUSED);
+    CHECK(written == 3 && dst[0] == 0.5f && dst[1] == 0.25f && dst[2] == 0.0f);
+}
+
+// Each setting reaches the member of its name.
+static void line_members(void) {
+    GaugeLine line;
+    const GaugeSettings settings = {3, 5, 7, 2, 4, 1, 1.5f};
+    const int16_t taps[2] = {11, 12};
+    const float prototype[4] = {0.1f, 0.2f, 0.3f, 0.4f};
+    const int32_t sample[1] = {9};
+    float value;
+    uint64_t taken, written;
+    CHECK(GaugeLine_open(&line, &settings, taps, 2, prototype, 4) == GAUGE_NOT_REFUSED);
+    CHECK(line.stages == 3 && line.r == 5 && line.sample_counter == 0);
+    CHECK(line.factor == 7 && line.tap_count == 2 && line.wait == 2 && line.taps[1] == 12 && line.fir_delay[1] == 0);
+    CHECK(line.depth == 2 && line.phases == 4 && line.phase_taps == 1);
+    CHECK(line.mu == 1.0f && line.step == 1.5f && line.prototype[3] == 0.4f && line.delay[0] == 0.0f);
+    CHECK(GaugeLine_feed(&line, sample, 1, NULL, 0, &taken, &written) == GAUGE_NOT_REFUSED && taken == 0);
+    CHECK(GaugeLine_step(&line, sample, 1, 0, 1, &taken, &written, &value) == GAUGE_NOT_REFUSED);
+    CHECK(taken == 1 && line.integrators[0] == 9 && line.combs[0] == 0 && line.sample_counter == 1);
+}
+
+// 01's reading of a line, then the same by steps.
+static void line_readings(void) {
+    GaugeLine line;
+    GaugeSettings settings = {1, 1, 0, 0, 2, 1, 0.5f};
+    const float prototype[2] = {1.0f, 0.0f};
+    const int32_t samples[2] = {16384, 0};
+    float out[3], value;
+    uint64_t taken, written;
+    CHECK(GaugeLine_open(&line, &settings, NULL, 0, prototype, 2) == GAUGE_NOT_REFUSED);
+    CHECK(GaugeLine_feed(&line, samples, 2, out, 1, &taken, &written) == GAUGE_NOT_REFUSED);
+    CHECK(taken == 1 && written == 1 && out[0] == -0.5f);
+    CHECK(GaugeLine_feed(&line, samples + 1, 1, out, 3, &taken, &written) == GAUGE_NOT_REFUSED);
+    CHECK(taken == 1 && written == 3 && out[0] == 0.0f && out[1] == 0.0f && out[2] == 0.0f);
+    CHECK(GaugeLine_feed(&line, NULL, 0, NULL, 0, &taken, &written) == GAUGE_NOT_REFUSED && taken + written == 0);
+    CHECK(GaugeLine_reset(&line) == GAUGE_NOT_REFUSED && line.mu == 1.0f);
+    CHECK(GaugeLine_step(&line, samples, 2, 0, 1, &taken, &written, &value) == GAUGE_NOT_REFUSED);
+    CHECK(taken == 1 && written == 0);
+    CHECK(GaugeLine_step(&line, samples, 2, 1, 1, &taken, &written, &value) == GAUGE_NOT_REFUSED);
+    CHECK(taken == 0 && written == 1 && value == -0.5f);
+    settings.step = 65.0f;
+    CHECK(GaugeLine_open(&line, &settings, NULL, 0, prototype, 2) == GAUGE_REFUSED_STEP && line.r == 0);
+    CHECK(GaugeLine_feed(&line, samples, 2, out, 3, &taken, &written) == GAUGE_REFUSED_STATE);
+    CHECK(taken == 0 && written == 0 && line.r == 0);
+}
+
+static void pieces_and_names(void) {
+    const int32_t samples[5] = {1, 2, 3, 4, 5};
+    GaugePiece last = {samples, 3};
+    GaugePiece waiting = {samples + 3, 2};
+    GaugePiece rest = gauge_next_piece(last, 2, waiting);
+    CHECK(rest.samples == samples + 2 && rest.len == 1);
+    CHECK(gauge_next_piece(last, 3, waiting).samples == waiting.samples);
+    CHECK(gauge_next_piece(last, 9, waiting).len == 2);
+    CHECK(strcmp(gauge_refusal_name(GAUGE_REFUSED_GAIN_BITS), "GainBits") == 0);
+    CHECK(strcmp(gauge_refusal_name(16), "unknown") == 0);
+}
+
+int main(void) {
+    cic_decimator();
+    cic_interpolator();
+    q15_blocks();
+    fir_decimator();
+    half_band_stages();
+    half_band_cascades();
+    half_band_values();
+    resamplers();
+    line_members();
+    line_readings();
+    pieces_and_names();
+    return failures != 0;
+}

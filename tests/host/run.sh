@@ -1,0 +1,18 @@
+#!/usr/bin/env bash
+# The interfaces for C and Rust: declarations, programs, pages, the crate. GAUGE_ARCHIVE names another archive to link.
+set -euo pipefail
+cd "$(dirname "$0")/../.."
+
+archive=${GAUGE_ARCHIVE:-}
+if [[ -z $archive ]]; then
+    rt staticlib ffi >/dev/null
+    archive=target/staticlib/libffi.a
+fi
+GAUGE_ARCHIVE=$(realpath "$archive")
+export GAUGE_ARCHIVE
+
+tests/host/declarations.sh
+tests/host/differences.sh
+tests/host/symbols.sh
+tests/host/c.sh
+tests/host/cargo.sh
