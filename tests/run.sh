@@ -1,10 +1,19 @@
 #!/usr/bin/env bash
-# The whole gate: layout, proofs, must-fail edits, programs, then the comparison with the Rust (seeds as arguments). The last line is rt ci's.
+# The whole gate: layout, proofs, must-fail edits, programs, then the archive: compared with the Rust (seeds as arguments), and called from C and Rust. The last line is rt ci's.
 set -euo pipefail
 cd "$(dirname "$0")/.."
 rt fmt --check
 log=$(mktemp)
 trap 'rm -f "$log"' EXIT
 rt ci 2>&1 | tee "$log"
+
+# Made once for both: rt proves a crate again for its archive.
+if ! rt staticlib ffi >target/staticlib.log 2>&1; then
+    tail -n 20 target/staticlib.log
+    exit 1
+fi
+GAUGE_ARCHIVE=$PWD/target/staticlib/libffi.a
+export GAUGE_ARCHIVE
 tests/oracle/run.sh "$@"
+tests/host/run.sh
 tail -n 1 "$log"
