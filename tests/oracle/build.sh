@@ -1,5 +1,6 @@
 #!/usr/bin/env bash
-# Builds target/oracle/oracle with rustc alone: the unchanged Rust as a crate of its own, then the program over it.
+# Builds target/oracle/oracle with rustc alone: the unchanged Rust as a crate of its own, then the program over it and over the archive.
+# GAUGE_ARCHIVE names an archive that is built already; without it the crate ffi is built here.
 set -euo pipefail
 cd "$(dirname "$0")/../.."
 
@@ -14,8 +15,27 @@ cat "$from/rust/resampling.rs" "$from/accessors.rs" >"$to/embedded_dsp/resamplin
 printf 'pub mod resampling;\npub mod types;\n' >"$to/embedded_dsp/lib.rs"
 
 # With overflow checks a call that the Rust does not define stops the oracle.
-flags=(--edition 2024 -C opt-level=3 -C overflow-checks=on)
-rustc "${flags[@]}" --crate-name embedded_dsp --crate-type rlib --cap-lints allow \
-    -o "$to/libembedded_dsp.rlib" "$to/embedded_dsp/lib.rs"
-rustc "${flags[@]}" --crate-name oracle \
-    --extern "embedded_dsp=$to/libembedded_dsp.rlib" -o "$to/oracle" "$from/src/main.rs"
+flags=(--edition 2024 -C overflow-checks=on)
+
+# The crates with the Rust in them are built anew only when they or the compiler have changed.
+rlibs=("$to/libembedded_dsp.rlib" "$to/libresamplers.rlib")
+now=$(rustc --version && sha256sum "$to"/embedded_dsp/*.rs "$from/resamplers.rs" "$from/build.sh")
+if [ ! -f "${rlibs[1]}" ] || [ "$now" != "$(cat "$to/built.sum" 2>/dev/null)" ]; then
+    rustc "${flags[@]}" -C opt-level=3 --crate-name embedded_dsp --crate-type rlib --cap-lints allow \
+        -o "${rlibs[0]}" "$to/embedded_dsp/lib.rs"
+    rustc "${flags[@]}" -C opt-level=s --crate-name resamplers --crate-type rlib \
+        --extern "embedded_dsp=${rlibs[0]}" -o "${rlibs[1]}" "$from/resamplers.rs"
+    echo "$now" >"$to/built.sum"
+fi
+
+archive=${GAUGE_ARCHIVE:-target/staticlib/libffi.a}
+if [ -z "${GAUGE_ARCHIVE:-}" ]; then
+    rt staticlib ffi >"$to/staticlib.log"
+fi
+
+rustc --edition 2024 -O --crate-name gauge_raw --crate-type rlib \
+    -o "$to/libgauge_raw.rlib" host/gauge-line/src/raw.rs
+rustc "${flags[@]}" -C opt-level=3 --crate-name oracle -L "dependency=$to" \
+    --extern "embedded_dsp=${rlibs[0]}" --extern "resamplers=${rlibs[1]}" \
+    --extern "gauge_raw=$to/libgauge_raw.rlib" -C link-arg="$archive" \
+    -o "$to/oracle" "$from/src/main.rs"

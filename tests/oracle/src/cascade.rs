@@ -1,12 +1,29 @@
 //! Cases of `HbfDecCascade` and `HbfIntCascade`, which differ in what they take and give and in how long a stage's delay is.
 
+use crate::calls::{Answers, Buffers, Free, Single, Written};
+use crate::case::{Case, Cases, Operation};
+use crate::field::{Field, Fields};
 use crate::float_samples;
 use crate::lent::Lent;
-use crate::record::Record;
 use crate::refusals;
 use crate::rng::Rng;
 use crate::samples;
 use crate::settings;
+use crate::values::Depth;
+
+pub type New<const DELAYS: usize> = Free<Depth, State<DELAYS>>;
+pub type Block<const DELAYS: usize> = Single<State<DELAYS>, Buffers<f32, f32>, Written>;
+pub type Reset<const DELAYS: usize> = Single<State<DELAYS>, (), ()>;
+
+/// A cascade, with the Rust's part of each operation.
+pub trait Cascade<const DELAYS: usize>: 'static {
+    /// How many samples of a stage make how many outputs.
+    const TAKES: usize;
+    const GIVES: usize;
+    const NEW: Operation<New<DELAYS>>;
+    const PROCESS: Operation<Block<DELAYS>>;
+    const RESET: Operation<Reset<DELAYS>>;
+}
 
 /// The port's state: the stages' delays one after the other, where the Rust has a state for each.
 #[derive(Clone)]
@@ -15,37 +32,27 @@ pub struct State<const DELAYS: usize> {
     pub delays: [f32; DELAYS],
 }
 
-/// The Rust's cascade, whose state is taken and given back.
-pub trait Cascade<const DELAYS: usize> {
-    /// The opening's code; those of a block and a reset follow it.
-    const NEW: u32;
-    /// How many samples of a stage make how many outputs.
-    const TAKES: usize;
-    const GIVES: usize;
-    fn new(depth: u64) -> [f32; DELAYS];
-    fn process(state: &mut State<DELAYS>, samples: &[f32], span: &mut [f32]);
-    fn reset(state: &mut State<DELAYS>);
+impl<const DELAYS: usize> Fields for State<DELAYS> {
+    fn fields(&mut self) -> Vec<Field<'_>> {
+        vec![
+            Field::one("depth", &mut self.depth),
+            Field::array("delays", &mut self.delays),
+        ]
+    }
 }
 
-impl<const DELAYS: usize> State<DELAYS> {
+impl<const DELAYS: usize> Answers for State<DELAYS> {
     fn zeros() -> Self {
         State {
             depth: 0,
             delays: [0.0; DELAYS],
         }
     }
+}
 
-    fn refusal(&self) -> u32 {
+impl<const DELAYS: usize> State<DELAYS> {
+    pub fn refusal(&self) -> u32 {
         refusals::cascade(self.depth)
-    }
-
-    fn write(&self, record: &mut Record) {
-        record.long(self.depth).array(&self.delays);
-    }
-
-    /// After a call on `before`.
-    fn write_after(&self, before: &Self, record: &mut Record) {
-        record.long(self.depth).left(&before.delays, &self.delays);
     }
 }
 
@@ -55,69 +62,29 @@ fn frame<const DELAYS: usize, C: Cascade<DELAYS>>(depth: u64) -> (usize, usize) 
     (C::TAKES.pow(power), C::GIVES.pow(power))
 }
 
-fn new_case<const DELAYS: usize, C: Cascade<DELAYS>>(depth: u64) -> (Record, State<DELAYS>) {
-    let mut record = Record::of(C::NEW);
-    record.long(depth);
-    let refusal = refusals::cascade_opening(depth);
-    let state = match refusal {
-        0 => State {
-            depth,
-            delays: C::new(depth),
-        },
-        _ => State::zeros(),
-    };
-    record.refusal(refusal);
-    state.write_after(&State::zeros(), &mut record);
-    (record, state)
+pub fn opening_refusal<const DELAYS: usize>(call: &New<DELAYS>) -> u32 {
+    refusals::cascade_opening(call.lent.0)
 }
 
-fn block_case<const DELAYS: usize, C: Cascade<DELAYS>>(
-    state: &mut State<DELAYS>,
-    samples: &Lent,
-    span: &Lent,
-) -> Record {
-    let mut record = Record::of(C::NEW + 1);
-    let before = state.clone();
-    before.write(&mut record);
-    record.lent(samples).lent(span);
-    let lent: Vec<f32> = span.elements();
-    let mut places = lent.clone();
-    let refusal = refusals::cascade_block(state.depth, samples.length, span.length);
-    let written = match refusal {
-        0 => {
-            C::process(state, &samples.elements::<f32>(), &mut places);
-            let (takes, gives) = frame::<DELAYS, C>(state.depth);
-            (samples.length / takes).min(span.length / gives) * gives
-        }
-        _ => 0,
-    };
-    record
-        .refusal(refusal)
-        .long(written as u64)
-        .left(&lent, &places);
-    state.write_after(&before, &mut record);
-    record
-}
-
-/// A fresh opening of the same depth; the Rust clears every stage.
-fn reset_case<const DELAYS: usize, C: Cascade<DELAYS>>(state: &mut State<DELAYS>) -> Record {
-    let mut record = Record::of(C::NEW + 2);
-    let before = state.clone();
-    before.write(&mut record);
-    let refusal = before.refusal();
-    if refusal == 0 {
-        C::reset(state);
+impl<const DELAYS: usize> Block<DELAYS> {
+    pub fn refusal(&self) -> u32 {
+        let Buffers { samples, span } = &self.lent;
+        refusals::cascade_block(self.state.depth, samples.len(), span.len())
     }
-    record.refusal(refusal);
-    state.write_after(&before, &mut record);
-    record
+
+    /// Whole frames, as many as samples and span have room for.
+    pub fn wrote<C: Cascade<DELAYS>>(&mut self) {
+        let (takes, gives) = frame::<DELAYS, C>(self.state.depth);
+        let Buffers { samples, span } = &self.lent;
+        self.answer.0 = ((samples.len() / takes).min(span.len() / gives) * gives) as u64;
+    }
 }
 
 /// Samples and span around a few whole frames, and now and then a length that 7 turns back.
 fn some_block<const DELAYS: usize, C: Cascade<DELAYS>>(
     rng: &mut Rng,
     state: &mut State<DELAYS>,
-) -> Record {
+) -> Box<dyn Case> {
     let (takes, gives) = frame::<DELAYS, C>(state.depth);
     let frames = match rng.below(16) {
         0 => rng.within(5, 9),
@@ -137,36 +104,36 @@ fn some_block<const DELAYS: usize, C: Cascade<DELAYS>>(
     if rng.one_in(24) {
         span.length = settings::bad_places(rng);
     }
-    block_case::<DELAYS, C>(state, &input, &span)
+    C::PROCESS.on(state, Buffers::of(input, span))
 }
 
 /// At 01's limits and past them. Zeros in the span and as samples keep the record small.
-fn longest_block<const DELAYS: usize, C: Cascade<DELAYS>>(rng: &mut Rng) -> Record {
+fn longest_block<const DELAYS: usize, C: Cascade<DELAYS>>(rng: &mut Rng) -> Box<dyn Case> {
     let mut state = State {
         depth: rng.within(1, 5),
         delays: float_samples::levels(rng),
     };
     let input = Lent::pattern(settings::length_around(rng), 0, 0);
     let span = Lent::pattern(settings::length_around(rng), 0, 0);
-    block_case::<DELAYS, C>(&mut state, &input, &span)
+    C::PROCESS.on(&mut state, Buffers::of(input, span))
 }
 
 /// More frames than the Rust runs in one pass, which are 64.
-fn long_block<const DELAYS: usize, C: Cascade<DELAYS>>(rng: &mut Rng) -> Record {
+fn long_block<const DELAYS: usize, C: Cascade<DELAYS>>(rng: &mut Rng) -> Box<dyn Case> {
     let mut state = midway(rng);
     let (takes, gives) = frame::<DELAYS, C>(state.depth);
     let frames = rng.within(63, 130);
     let input = float_samples::list(rng, frames * takes as u64);
     let span = samples::span(rng, frames * gives as u64);
-    block_case::<DELAYS, C>(&mut state, &input, &span)
+    C::PROCESS.on(&mut state, Buffers::of(input, span))
 }
 
 fn any_call<const DELAYS: usize, C: Cascade<DELAYS>>(
     rng: &mut Rng,
     state: &mut State<DELAYS>,
-) -> Record {
+) -> Box<dyn Case> {
     match rng.below(16) {
-        0 => reset_case::<DELAYS, C>(state),
+        0 => C::RESET.on(state, ()),
         _ => some_block::<DELAYS, C>(rng, state),
     }
 }
@@ -180,17 +147,17 @@ fn midway<const DELAYS: usize>(rng: &mut Rng) -> State<DELAYS> {
 }
 
 /// From an opening: calls, each on the state that the one before left.
-fn stream<const DELAYS: usize, C: Cascade<DELAYS>>(rng: &mut Rng) -> Vec<Record> {
-    let (opening, mut state) = new_case::<DELAYS, C>(rng.within(1, 5));
-    let mut records = vec![opening];
-    records.extend((0..rng.within(3, 8)).map(|_| any_call::<DELAYS, C>(rng, &mut state)));
-    records
+fn stream<const DELAYS: usize, C: Cascade<DELAYS>>(rng: &mut Rng) -> Cases {
+    let (opening, mut state) = C::NEW.of(Depth(rng.within(1, 5)));
+    let mut cases = vec![opening];
+    cases.extend((0..rng.within(3, 8)).map(|_| any_call::<DELAYS, C>(rng, &mut state)));
+    cases
 }
 
-pub fn cases<const DELAYS: usize, C: Cascade<DELAYS>>(rng: &mut Rng) -> Vec<Record> {
+pub fn cases<const DELAYS: usize, C: Cascade<DELAYS>>(rng: &mut Rng) -> Cases {
     match rng.below(64) {
-        0..=5 => vec![new_case::<DELAYS, C>(rng.below(6)).0],
-        6..=7 => vec![new_case::<DELAYS, C>(settings::bad_depth(rng)).0],
+        0..=5 => vec![C::NEW.of(Depth(rng.below(6))).0],
+        6..=7 => vec![C::NEW.of(Depth(settings::bad_depth(rng))).0],
         8..=12 => {
             let mut state = midway(rng);
             state.depth = settings::bad_depth(rng);

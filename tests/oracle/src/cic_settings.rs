@@ -1,9 +1,35 @@
 //! The settings of a CIC converter, N and r: within 01's limits, at their ends and outside.
 
+use crate::calls::Lends;
+use crate::field::{Field, Fields};
+use crate::refusals;
 use crate::rng::Rng;
 use crate::settings::bad_factor;
 
 const MOST: u64 = 4096;
+
+#[derive(Clone)]
+pub struct Settings {
+    pub stages: u64,
+    pub r: u64,
+}
+
+impl Settings {
+    pub fn refusal(&self) -> u32 {
+        refusals::cic_opening(self.stages, self.r)
+    }
+}
+
+impl Fields for Settings {
+    fn fields(&mut self) -> Vec<Field<'_>> {
+        vec![
+            Field::one("stages", &mut self.stages),
+            Field::one("r", &mut self.r),
+        ]
+    }
+}
+
+impl Lends for Settings {}
 
 pub fn stages(rng: &mut Rng) -> u64 {
     rng.within(1, 8)
@@ -51,11 +77,12 @@ pub fn bad_stages(rng: &mut Rng) -> u64 {
 }
 
 /// Settings of which one or both may be outside the limits.
-pub fn any(rng: &mut Rng) -> (u64, u64) {
-    match rng.below(8) {
+pub fn any(rng: &mut Rng) -> Settings {
+    let (stages, r) = match rng.below(8) {
         0 => (bad_stages(rng), factor(rng)),
         1 => (stages(rng), bad_factor(rng)),
         2 => (bad_stages(rng), bad_factor(rng)),
         _ => (stages(rng), factor(rng)),
-    }
+    };
+    Settings { stages, r }
 }

@@ -1,14 +1,64 @@
 //! Cases of `HbfDec` and `HbfInt`, which differ in what they take and give and in how long the delay is.
 
+use crate::calls::{Answers, Buffers, Free, Lends, Single, Written};
+use crate::case::{Case, Cases, Operation};
+use crate::field::{Field, Fields};
 use crate::float_samples;
-use crate::lent::Lent;
-use crate::record::Record;
+use crate::lent::{Lent, Slice};
 use crate::refusals;
 use crate::rng::Rng;
 use crate::samples;
 use crate::settings;
 
 const MOST_TAPS: u64 = 23;
+
+pub type New<const DELAY: usize> = Free<Taps, State<DELAY>>;
+pub type Step<const DELAY: usize, const TAKES: usize, const GIVES: usize> =
+    Single<State<DELAY>, Values<TAKES>, Values<GIVES>>;
+pub type Block<const DELAY: usize> = Single<State<DELAY>, Buffers<f32, f32>, Written>;
+pub type Reset<const DELAY: usize> = Single<State<DELAY>, (), ()>;
+
+/// A filter, with the Rust's part of each operation.
+pub trait HalfBand<const DELAY: usize, const TAKES: usize, const GIVES: usize>: 'static {
+    const NEW: Operation<New<DELAY>>;
+    const STEP: Operation<Step<DELAY, TAKES, GIVES>>;
+    const PROCESS: Operation<Block<DELAY>>;
+    const RESET: Operation<Reset<DELAY>>;
+}
+
+/// What a filter is opened with.
+#[derive(Clone)]
+pub struct Taps(pub Slice<f32>);
+
+impl Fields for Taps {
+    fn fields(&mut self) -> Vec<Field<'_>> {
+        vec![Field::slice("taps", &mut self.0)]
+    }
+}
+
+impl Lends for Taps {}
+
+/// The samples or outputs of one step.
+#[derive(Clone)]
+pub struct Values<const N: usize>(pub [f32; N]);
+
+impl<const N: usize> Fields for Values<N> {
+    fn fields(&mut self) -> Vec<Field<'_>> {
+        vec![Field::plain("values", &mut self.0)]
+    }
+}
+
+impl<const N: usize> Lends for Values<N> {
+    fn samples(&self) -> u64 {
+        N as u64
+    }
+}
+
+impl<const N: usize> Answers for Values<N> {
+    fn zeros() -> Self {
+        Values([0.0; N])
+    }
+}
 
 /// The port's state: the Rust has M as a constant, and M places for 23.
 #[derive(Clone)]
@@ -18,20 +68,17 @@ pub struct State<const DELAY: usize> {
     pub delay: [f32; DELAY],
 }
 
-/// The Rust's filter, whose state is taken and given back.
-pub trait HalfBand<const DELAY: usize> {
-    /// The opening's code; those of one step, a block and a reset follow it.
-    const NEW: u32;
-    /// How many samples a step takes, and how many outputs it gives.
-    const TAKES: usize;
-    const GIVES: usize;
-    fn new(taps: &[f32]) -> [f32; DELAY];
-    fn step(state: &mut State<DELAY>, samples: &[f32]) -> Vec<f32>;
-    fn process(state: &mut State<DELAY>, samples: &[f32], span: &mut [f32]);
-    fn reset(state: &mut State<DELAY>);
+impl<const DELAY: usize> Fields for State<DELAY> {
+    fn fields(&mut self) -> Vec<Field<'_>> {
+        vec![
+            Field::one("m", &mut self.m),
+            Field::array("coeffs", &mut self.coeffs),
+            Field::array("delay", &mut self.delay),
+        ]
+    }
 }
 
-impl<const DELAY: usize> State<DELAY> {
+impl<const DELAY: usize> Answers for State<DELAY> {
     fn zeros() -> Self {
         State {
             m: 0,
@@ -39,118 +86,63 @@ impl<const DELAY: usize> State<DELAY> {
             delay: [0.0; DELAY],
         }
     }
+}
 
-    fn opened<F: HalfBand<DELAY>>(taps: &[f32]) -> Self {
-        let mut state = State::zeros();
-        state.m = taps.len() as u64;
-        state.coeffs[..taps.len()].copy_from_slice(taps);
-        state.delay = F::new(taps);
-        state
+impl<const DELAY: usize> New<DELAY> {
+    pub fn refusal(&self) -> u32 {
+        refusals::half_band_opening(self.lent.0.len() as u64)
     }
 
-    fn refusal(&self) -> u32 {
+    /// The taps in front, and the delay that the Rust begins with.
+    pub fn open(&mut self, delay: [f32; DELAY]) {
+        let taps = &self.lent.0.elements;
+        self.answer.m = taps.len() as u64;
+        self.answer.coeffs[..taps.len()].copy_from_slice(taps);
+        self.answer.delay = delay;
+    }
+}
+
+impl<const DELAY: usize> State<DELAY> {
+    pub fn refusal(&self) -> u32 {
         refusals::half_band(self.m)
     }
 
-    fn write(&self, record: &mut Record) {
-        record.long(self.m).array(&self.coeffs).array(&self.delay);
-    }
-
-    /// After a call on `before`.
-    fn write_after(&self, before: &Self, record: &mut Record) {
-        record
-            .long(self.m)
-            .left(&before.coeffs, &self.coeffs)
-            .left(&before.delay, &self.delay);
+    /// A fresh opening with the state's own taps: the Rust clears the delay, and what stands behind the taps is no part of it.
+    pub fn restart(&mut self, delay: [f32; DELAY]) {
+        self.delay = delay;
+        self.coeffs[self.m as usize..].fill(0.0);
     }
 }
 
-fn new_case<const DELAY: usize, F: HalfBand<DELAY>>(taps: &Lent) -> (Record, State<DELAY>) {
-    let mut record = Record::of(F::NEW);
-    record.lent(taps);
-    let refusal = refusals::half_band_opening(taps.length as u64);
-    let state = match refusal {
-        0 => State::opened::<F>(&taps.elements::<f32>()),
-        _ => State::zeros(),
-    };
-    record.refusal(refusal);
-    state.write_after(&State::zeros(), &mut record);
-    (record, state)
-}
-
-fn step_case<const DELAY: usize, F: HalfBand<DELAY>>(
-    rng: &mut Rng,
-    state: &mut State<DELAY>,
-) -> Record {
-    let taken: Vec<f32> = (0..F::TAKES).map(|_| float_samples::one(rng)).collect();
-    let mut record = Record::of(F::NEW + 1);
-    let before = state.clone();
-    before.write(&mut record);
-    record.words(&taken);
-    let refusal = before.refusal();
-    let given = match refusal {
-        0 => F::step(state, &taken),
-        _ => vec![0.0; F::GIVES],
-    };
-    record.refusal(refusal).words(&given);
-    state.write_after(&before, &mut record);
-    record
-}
-
-fn block_case<const DELAY: usize, F: HalfBand<DELAY>>(
-    state: &mut State<DELAY>,
-    samples: &Lent,
-    span: &Lent,
-) -> Record {
-    let mut record = Record::of(F::NEW + 2);
-    let before = state.clone();
-    before.write(&mut record);
-    record.lent(samples).lent(span);
-    let lent: Vec<f32> = span.elements();
-    let mut places = lent.clone();
-    let refusal = refusals::half_band_block(state.m, samples.length, span.length);
-    let written = match refusal {
-        0 => {
-            F::process(state, &samples.elements::<f32>(), &mut places);
-            (samples.length / F::TAKES).min(span.length / F::GIVES) * F::GIVES
-        }
-        _ => 0,
-    };
-    record
-        .refusal(refusal)
-        .long(written as u64)
-        .left(&lent, &places);
-    state.write_after(&before, &mut record);
-    record
-}
-
-/// A fresh opening with the state's own taps: the Rust clears the delay, and what stands behind the taps is no part of it.
-fn reset_case<const DELAY: usize, F: HalfBand<DELAY>>(state: &mut State<DELAY>) -> Record {
-    let mut record = Record::of(F::NEW + 3);
-    let before = state.clone();
-    before.write(&mut record);
-    let refusal = before.refusal();
-    if refusal == 0 {
-        F::reset(state);
-        state.coeffs[state.m as usize..].fill(0.0);
+impl<const DELAY: usize> Block<DELAY> {
+    pub fn refusal(&self) -> u32 {
+        refusals::half_band_block(self.state.m, self.lent.samples.len(), self.lent.span.len())
     }
-    record.refusal(refusal);
-    state.write_after(&before, &mut record);
-    record
+
+    /// Whole steps, as many as samples and span have room for.
+    pub fn wrote(&mut self, takes: usize, gives: usize) {
+        let Buffers { samples, span } = &self.lent;
+        self.answer.0 = ((samples.len() / takes).min(span.len() / gives) * gives) as u64;
+    }
 }
 
 /// A block of about so many steps, with samples and span around them, and now and then a length that 7 turns back.
-fn some_block<const DELAY: usize, F: HalfBand<DELAY>>(
+fn some_block<
+    const DELAY: usize,
+    const TAKES: usize,
+    const GIVES: usize,
+    F: HalfBand<DELAY, TAKES, GIVES>,
+>(
     rng: &mut Rng,
     state: &mut State<DELAY>,
-) -> Record {
+) -> Box<dyn Case> {
     let steps = match rng.below(16) {
         0 => rng.within(13, 60),
         1 => 0,
         _ => rng.within(1, 12),
     };
-    let length = (steps * F::TAKES as u64 + rng.below(2)).max(1);
-    let places = settings::places_around(rng, steps * F::GIVES as u64);
+    let length = (steps * TAKES as u64 + rng.below(2)).max(1);
+    let places = settings::places_around(rng, steps * GIVES as u64);
     let mut input = float_samples::list(rng, length);
     let mut span = samples::span(rng, places);
     if rng.one_in(24) {
@@ -159,11 +151,18 @@ fn some_block<const DELAY: usize, F: HalfBand<DELAY>>(
     if rng.one_in(24) {
         span.length = settings::bad_places(rng);
     }
-    block_case::<DELAY, F>(state, &input, &span)
+    F::PROCESS.on(state, Buffers::of(input, span))
 }
 
 /// At 01's limits and past them. Zeros in the span and as samples keep the record small.
-fn longest_block<const DELAY: usize, F: HalfBand<DELAY>>(rng: &mut Rng) -> Record {
+fn longest_block<
+    const DELAY: usize,
+    const TAKES: usize,
+    const GIVES: usize,
+    F: HalfBand<DELAY, TAKES, GIVES>,
+>(
+    rng: &mut Rng,
+) -> Box<dyn Case> {
     let (few, long) = (rng.within(1, 60), settings::length_around(rng));
     let (length, places) = match rng.below(3) {
         0 => (few, long),
@@ -177,17 +176,25 @@ fn longest_block<const DELAY: usize, F: HalfBand<DELAY>>(rng: &mut Rng) -> Recor
     };
     let input = Lent::pattern(length, 0, 0);
     let span = Lent::pattern(places, 0, 0);
-    block_case::<DELAY, F>(&mut state, &input, &span)
+    F::PROCESS.on(&mut state, Buffers::of(input, span))
 }
 
-fn any_call<const DELAY: usize, F: HalfBand<DELAY>>(
+fn any_call<
+    const DELAY: usize,
+    const TAKES: usize,
+    const GIVES: usize,
+    F: HalfBand<DELAY, TAKES, GIVES>,
+>(
     rng: &mut Rng,
     state: &mut State<DELAY>,
-) -> Record {
+) -> Box<dyn Case> {
     match rng.below(16) {
-        0 => reset_case::<DELAY, F>(state),
-        1..=7 => some_block::<DELAY, F>(rng, state),
-        _ => step_case::<DELAY, F>(rng, state),
+        0 => F::RESET.on(state, ()),
+        1..=7 => some_block::<DELAY, TAKES, GIVES, F>(rng, state),
+        _ => F::STEP.on(
+            state,
+            Values(std::array::from_fn(|_| float_samples::one(rng))),
+        ),
     }
 }
 
@@ -203,12 +210,19 @@ fn bad_taps(rng: &mut Rng) -> u64 {
     rng.pick(&[0, 24, 25, 1 << 32, (1 << 32) + 1, u64::MAX])
 }
 
-fn some_opening<const DELAY: usize, F: HalfBand<DELAY>>(rng: &mut Rng) -> Record {
+fn some_opening<
+    const DELAY: usize,
+    const TAKES: usize,
+    const GIVES: usize,
+    F: HalfBand<DELAY, TAKES, GIVES>,
+>(
+    rng: &mut Rng,
+) -> Box<dyn Case> {
     let taps = match rng.below(4) {
         0 => rng.pick(&[0, 0, 24, 25, settings::MOST]),
         _ => some_taps(rng),
     };
-    new_case::<DELAY, F>(&float_samples::list(rng, taps)).0
+    F::NEW.of(Taps(float_samples::list(rng, taps).into())).0
 }
 
 /// Valid settings, anything in the delay and in the places past M and past the window.
@@ -221,27 +235,43 @@ fn midway<const DELAY: usize>(rng: &mut Rng) -> State<DELAY> {
 }
 
 /// From an opening: calls, each on the state that the one before left.
-fn stream<const DELAY: usize, F: HalfBand<DELAY>>(rng: &mut Rng) -> Vec<Record> {
+fn stream<
+    const DELAY: usize,
+    const TAKES: usize,
+    const GIVES: usize,
+    F: HalfBand<DELAY, TAKES, GIVES>,
+>(
+    rng: &mut Rng,
+) -> Cases {
     let taps = some_taps(rng);
-    let (opening, mut state) = new_case::<DELAY, F>(&float_samples::list(rng, taps));
-    let mut records = vec![opening];
-    records.extend((0..rng.within(3, 10)).map(|_| any_call::<DELAY, F>(rng, &mut state)));
-    records
+    let (opening, mut state) = F::NEW.of(Taps(float_samples::list(rng, taps).into()));
+    let mut cases = vec![opening];
+    cases.extend(
+        (0..rng.within(3, 10)).map(|_| any_call::<DELAY, TAKES, GIVES, F>(rng, &mut state)),
+    );
+    cases
 }
 
-pub fn cases<const DELAY: usize, F: HalfBand<DELAY>>(rng: &mut Rng) -> Vec<Record> {
+pub fn cases<
+    const DELAY: usize,
+    const TAKES: usize,
+    const GIVES: usize,
+    F: HalfBand<DELAY, TAKES, GIVES>,
+>(
+    rng: &mut Rng,
+) -> Cases {
     match rng.below(64) {
-        0..=7 => vec![some_opening::<DELAY, F>(rng)],
+        0..=7 => vec![some_opening::<DELAY, TAKES, GIVES, F>(rng)],
         8..=13 => {
             let mut state = midway(rng);
             state.m = bad_taps(rng);
-            vec![any_call::<DELAY, F>(rng, &mut state)]
+            vec![any_call::<DELAY, TAKES, GIVES, F>(rng, &mut state)]
         }
         14..=57 => {
             let mut state = midway(rng);
-            vec![any_call::<DELAY, F>(rng, &mut state)]
+            vec![any_call::<DELAY, TAKES, GIVES, F>(rng, &mut state)]
         }
-        58 if rng.one_in(4) => vec![longest_block::<DELAY, F>(rng)],
-        _ => stream::<DELAY, F>(rng),
+        58 if rng.one_in(4) => vec![longest_block::<DELAY, TAKES, GIVES, F>(rng)],
+        _ => stream::<DELAY, TAKES, GIVES, F>(rng),
     }
 }

@@ -1,10 +1,12 @@
 //! A slice that a case lends: its first elements are listed, and the others follow a pattern, so that a long slice makes a short record.
 
-use crate::word::Word;
+use crate::element::Element;
+use std::rc::Rc;
 
 /// The most elements that `replay` has room for: 01's limit of 65,536, and some more to exceed it.
 pub const LONGEST: u64 = 65_600;
 
+#[derive(Clone)]
 pub struct Lent {
     pub length: usize,
     pub pattern: u32,
@@ -32,8 +34,45 @@ impl Lent {
                 .wrapping_add(self.stride.wrapping_mul(i as u32)),
         }
     }
+}
 
-    pub fn elements<T: Word>(&self) -> Vec<T> {
-        (0..self.length).map(|i| T::of(self.element(i))).collect()
+/// The slice's elements, which a call may change, and how they were drawn, which a record says.
+#[derive(Clone)]
+pub struct Slice<T> {
+    pub drawn: Rc<Lent>,
+    pub elements: Vec<T>,
+}
+
+impl<T: Element> From<Lent> for Slice<T> {
+    fn from(drawn: Lent) -> Self {
+        Slice {
+            elements: (0..drawn.length).map(|i| T::of(drawn.element(i))).collect(),
+            drawn: Rc::new(drawn),
+        }
+    }
+}
+
+impl<T: Element> From<Vec<T>> for Slice<T> {
+    fn from(elements: Vec<T>) -> Self {
+        Slice {
+            drawn: Rc::new(Lent::pattern(elements.len() as u64, 0, 0)),
+            elements,
+        }
+    }
+}
+
+impl<T: Element> Slice<T> {
+    /// The same drawn at another length.
+    pub fn resized(&self, length: usize) -> Self {
+        let mut drawn = (*self.drawn).clone();
+        drawn.length = length;
+        drawn.listed.truncate(length);
+        drawn.into()
+    }
+}
+
+impl<T> Slice<T> {
+    pub fn len(&self) -> usize {
+        self.elements.len()
     }
 }

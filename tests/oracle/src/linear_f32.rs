@@ -1,16 +1,22 @@
 //! Cases of `resample_linear_f32`.
 
+use crate::archive::float;
+use crate::case::{Case, Cases, Operation};
 use crate::differences;
 use crate::float_samples;
-use crate::lent::Lent;
-use crate::record::Record;
-use crate::refusals;
+use crate::linear::{Block, Buffers};
 use crate::rng::Rng;
 use crate::samples;
 use crate::settings;
 use embedded_dsp::resampling::resample_linear_f32;
 
-const LINEAR: u32 = 0x51;
+const LINEAR: Operation<Block<f32, f32>> = Operation {
+    code: 0x51,
+    name: "resample_linear_f32",
+    refusal: Some(|call| call.lent.refusal(|ratio| ratio.is_finite() && ratio > 0.0)),
+    rust: |call| call.fill(resampled),
+    archive: float::resample_linear_f32,
+};
 
 /// What the Rust answers before the first position of 2^64 or more, and what 01 says from there on.
 fn resampled(samples: &[f32], span: &mut [f32], ratio: f32) {
@@ -19,30 +25,6 @@ fn resampled(samples: &[f32], span: &mut [f32], ratio: f32) {
     let (before, from_there) = span.split_at_mut(first);
     resample_linear_f32(samples, before, ratio);
     from_there.fill(samples[samples.len() - 1]);
-}
-
-fn case(ratio: f32, samples: &Lent, span: &Lent) -> Record {
-    let mut record = Record::of(LINEAR);
-    record.words(&[ratio]).lent(samples).lent(span);
-    let lent: Vec<f32> = span.elements();
-    let mut places = lent.clone();
-    let refusal = refusals::linear(
-        samples.length,
-        span.length,
-        ratio.is_finite() && ratio > 0.0,
-    );
-    let written = match refusal {
-        0 => {
-            resampled(&samples.elements::<f32>(), &mut places, ratio);
-            places.len()
-        }
-        _ => 0,
-    };
-    record
-        .refusal(refusal)
-        .long(written as u64)
-        .left(&lent, &places);
-    record
 }
 
 fn some_ratio(rng: &mut Rng) -> f32 {
@@ -60,7 +42,7 @@ fn some_ratio(rng: &mut Rng) -> f32 {
 }
 
 /// Positions that stay inside, end at the last sample or go past it.
-fn some_call(rng: &mut Rng) -> Record {
+fn some_call(rng: &mut Rng) -> Box<dyn Case> {
     let ratio = some_ratio(rng);
     let length = match rng.below(32) {
         0 => rng.within(41, 600),
@@ -81,11 +63,11 @@ fn some_call(rng: &mut Rng) -> Record {
     if rng.one_in(24) {
         span.length = settings::bad_places(rng);
     }
-    case(ratio, &input, &span)
+    LINEAR.of(Buffers::of(ratio, input, span)).0
 }
 
 /// At 01's limits and past them.
-fn longest_call(rng: &mut Rng) -> Record {
+fn longest_call(rng: &mut Rng) -> Box<dyn Case> {
     let (length, listed) = (settings::length_around(rng), rng.within(1, 40));
     let places = match rng.below(64) {
         0 => settings::length_around(rng),
@@ -94,10 +76,10 @@ fn longest_call(rng: &mut Rng) -> Record {
     let ratio = rng.within(1, 1 << 18) as f32 / 8.0;
     let input = float_samples::list(rng, length);
     let span = samples::span(rng, places);
-    case(ratio, &input, &span)
+    LINEAR.of(Buffers::of(ratio, input, span)).0
 }
 
-pub fn cases(rng: &mut Rng) -> Vec<Record> {
+pub fn cases(rng: &mut Rng) -> Cases {
     match rng.below(128) {
         0 => vec![longest_call(rng)],
         _ => vec![some_call(rng)],

@@ -1,0 +1,123 @@
+//! A case: a call with what it is lent, what the Rust and 01 expect of it, and what the archive answers.
+
+use crate::field::Field;
+use crate::record::Record;
+use crate::report;
+
+/// What is lent to an operation, and the places it answers in, which are zeros before.
+pub trait Call: Clone + 'static {
+    fn fields(&mut self) -> Vec<Field<'_>>;
+
+    /// The samples that it took.
+    fn samples(&self) -> u64;
+
+    fn write(record: &mut Record, before: &mut Self, refusal: Option<u32>, after: &mut Self) {
+        record.call(&before.fields(), refusal, &after.fields());
+    }
+}
+
+/// An operation of the port, and its three sources.
+pub struct Operation<C> {
+    /// Its code in records, 0 where it is never listed.
+    pub code: u32,
+    pub name: &'static str,
+    /// 01's number, 0 for none, where there is any.
+    pub refusal: Option<fn(&C) -> u32>,
+    /// What a call leaves that is not refused.
+    pub rust: fn(&mut C),
+    /// Answers the refusal's number.
+    pub archive: fn(&mut C) -> u64,
+}
+
+impl<C: Call> Operation<C> {
+    pub fn case(self, lent: C) -> Called<C> {
+        let refusal = self.refusal.map(|number| number(&lent));
+        let mut expected = lent.clone();
+        if refusal.is_none_or(|number| number == 0) {
+            (self.rust)(&mut expected);
+        }
+        Called {
+            operation: self,
+            lent,
+            refusal,
+            expected,
+        }
+    }
+}
+
+/// A call, and what it is expected to leave: a refusal leaves everything as lent, and zeros for answers.
+pub struct Called<C> {
+    operation: Operation<C>,
+    lent: C,
+    refusal: Option<u32>,
+    pub expected: C,
+}
+
+/// A case of any operation.
+pub trait Case {
+    fn record(&self) -> Record;
+    /// The samples that went through, none where the call is refused.
+    fn samples(&self) -> u64;
+    /// Whether the archive answers what is expected.
+    fn agrees(&self) -> bool;
+    /// What is lent, what is expected and what the archive answers.
+    fn report(&self) -> String;
+}
+
+fn words(call: &mut impl Call) -> Vec<Vec<u32>> {
+    let fields = call.fields();
+    fields.iter().map(|field| field.values.words()).collect()
+}
+
+impl<C: Call> Called<C> {
+    fn number(&self) -> u32 {
+        self.refusal.unwrap_or(0)
+    }
+
+    /// The archive's refusal and what it leaves. An answer that it does not write is found, as the places are no zeros before.
+    fn answered(&self) -> (u64, C) {
+        let mut call = self.lent.clone();
+        for field in &mut call.fields() {
+            if !field.is_lent() {
+                field.values.overwrite();
+            }
+        }
+        ((self.operation.archive)(&mut call), call)
+    }
+}
+
+impl<C: Call> Case for Called<C> {
+    fn record(&self) -> Record {
+        let mut record = Record::of(self.operation.code);
+        let (mut before, mut after) = (self.lent.clone(), self.expected.clone());
+        C::write(&mut record, &mut before, self.refusal, &mut after);
+        record
+    }
+
+    fn samples(&self) -> u64 {
+        match self.number() {
+            0 => self.expected.samples(),
+            _ => 0,
+        }
+    }
+
+    fn agrees(&self) -> bool {
+        let (number, mut answered) = self.answered();
+        let mut expected = self.expected.clone();
+        number == u64::from(self.number()) && words(&mut answered) == words(&mut expected)
+    }
+
+    fn report(&self) -> String {
+        let (number, mut answered) = self.answered();
+        let (mut lent, mut expected) = (self.lent.clone(), self.expected.clone());
+        [
+            self.operation.name.to_string(),
+            report::lent(&lent.fields()),
+            report::refusals(self.number(), number),
+            report::answers(&expected.fields(), &answered.fields()),
+        ]
+        .join("\n")
+    }
+}
+
+pub type Cases = Vec<Box<dyn Case>>;

@@ -1,0 +1,209 @@
+//! A line that is opened and fed so many times: its outputs are those of the Rust's converters, each on the whole list of the one before.
+
+use crate::archive::line;
+use crate::case::{Call, Case, Operation};
+use crate::field::{Field, Fields, Role};
+use crate::hbf_stream;
+use crate::lent::Slice;
+use crate::line_samples;
+use crate::line_settings::{self, Settings};
+use crate::polyphase_q15;
+use crate::polyphase_resamp;
+use crate::record::Record;
+use crate::rng::Rng;
+use crate::samples;
+use crate::sizes::with_stages;
+use crate::values::cut;
+use embedded_dsp::resampling::CicDecimator;
+
+const FEEDS: Operation<Feeds> = Operation {
+    code: 0xc2,
+    name: "Line::open, then Line::feed",
+    refusal: Some(|call| call.settings.refusal()),
+    rust: Feeds::feed,
+    archive: line::feeds,
+};
+
+/// One feed: what it is lent, and what it answers.
+#[derive(Clone)]
+pub struct Fed {
+    pub samples: Slice<i32>,
+    pub span: Slice<f32>,
+    pub refusal: u32,
+    pub taken: u64,
+    pub written: u64,
+}
+
+impl Fed {
+    fn fields(&mut self) -> [Field<'_>; 5] {
+        [
+            Field::slice("samples", &mut self.samples),
+            Field::slice("span", &mut self.span).role(Role::Span),
+            Field::one("refusal", &mut self.refusal).role(Role::Answer),
+            Field::one("taken", &mut self.taken).role(Role::Answer),
+            Field::one("written", &mut self.written).role(Role::Answer),
+        ]
+    }
+}
+
+/// "freshly opened and given any list of feeds .. each getting the line that the one before returned".
+#[derive(Clone)]
+pub struct Feeds {
+    pub settings: Settings,
+    pub feeds: Vec<Fed>,
+}
+
+impl Feeds {
+    fn feed(&mut self) {
+        let mut past = Past::default();
+        for fed in &mut self.feeds {
+            past.feed(&self.settings, fed);
+        }
+    }
+}
+
+impl Call for Feeds {
+    fn fields(&mut self) -> Vec<Field<'_>> {
+        let mut fields = self.settings.fields();
+        fields.extend(self.feeds.iter_mut().flat_map(Fed::fields));
+        fields
+    }
+
+    fn samples(&self) -> u64 {
+        self.feeds.iter().map(|fed| fed.taken).sum()
+    }
+
+    /// Each feed's answers follow what it is lent.
+    fn write(record: &mut Record, before: &mut Self, _: Option<u32>, after: &mut Self) {
+        for field in before.settings.fields() {
+            record.input(&field);
+        }
+        record.word(before.feeds.len() as u32);
+        for (before, after) in before.feeds.iter_mut().zip(&mut after.feeds) {
+            record.call(&before.fields(), None, &after.fields());
+        }
+    }
+}
+
+fn scaled<const N: usize>(r: u64, list: &[i32]) -> Vec<i32> {
+    let mut rust = CicDecimator::<N>::new(r as usize);
+    list.iter()
+        .filter_map(|&sample| rust.process_sample_scaled(sample))
+        .collect()
+}
+
+/// "In the line no taps means off".
+fn decimated(taps: &[i16], factor: u64, list: Vec<i16>) -> Vec<i16> {
+    match taps.is_empty() {
+        true => list,
+        false => polyphase_q15::decimated(taps, factor, &list),
+    }
+}
+
+impl Settings {
+    /// Section 6: "each section run on the whole list of the section before", up to the resampler.
+    fn values(&self, list: &[i32]) -> Vec<f32> {
+        let sums = with_stages!(self.stages, scaled(self.r, list));
+        let cuts = sums.iter().map(|&sum| cut(sum.into())).collect();
+        let thinned = decimated(&self.fir.elements, self.factor, cuts);
+        let floats: Vec<f32> = thinned.iter().map(|&x| f32::from(x) / 32768.0).collect();
+        hbf_stream::outputs(self.depth, &floats)
+    }
+
+    /// Section 6: how many values a list of so many samples becomes before the resampler.
+    fn value_count(&self, samples: usize) -> usize {
+        let sums = samples / self.r as usize;
+        let thinned = match self.fir.len() {
+            0 => sums,
+            taps => sums
+                .checked_sub(taps)
+                .map_or(0, |past| past / self.factor as usize + 1),
+        };
+        thinned >> self.depth
+    }
+
+    /// The resampler on a whole list, through a span that has a place left: a step of 1/64 makes no more than 65 outputs of a value.
+    fn resampled(&self, values: &[f32]) -> Vec<f32> {
+        if self.phases == 0 {
+            return values.to_vec();
+        }
+        let prototype = &self.prototype.elements;
+        let mut rust = polyphase_resamp::opened(self.phases, self.taps, prototype, self.step);
+        let mut outputs = vec![0.0; 65 * values.len() + 1];
+        let made = rust.process_block(values, &mut outputs);
+        assert!(made < outputs.len());
+        outputs.truncate(made);
+        outputs
+    }
+
+    fn outputs(&self, list: &[i32]) -> Vec<f32> {
+        self.resampled(&self.values(list))
+    }
+}
+
+/// Every sample taken so far, and how many outputs were written.
+#[derive(Default)]
+struct Past {
+    list: Vec<i32>,
+    written: usize,
+}
+
+impl Past {
+    /// How many outputs are to be written if all of the samples lent are taken.
+    fn rest(&self, settings: &Settings, lent: &[i32]) -> usize {
+        let list = [&self.list[..], lent].concat();
+        settings.outputs(&list).len() - self.written
+    }
+
+    /// Demand 3: the fewest samples whose outputs fill the span, and all where it stays short.
+    fn taken(&self, settings: &Settings, lent: &[i32], places: usize) -> usize {
+        let list = [&self.list[..], lent].concat();
+        let values = settings.values(&list);
+        let wanted = self.written + places;
+        let counts: Vec<usize> = (0..=values.len()).collect();
+        let enough =
+            counts.partition_point(|&count| settings.resampled(&values[..count]).len() < wanted);
+        let taken: Vec<usize> = (0..lent.len()).collect();
+        taken.partition_point(|taken| settings.value_count(self.list.len() + taken) < enough)
+    }
+
+    /// What a feed takes and writes: the outputs are those of every sample taken so far.
+    fn feed(&mut self, settings: &Settings, fed: &mut Fed) {
+        let (lent, span) = (&fed.samples.elements, &mut fed.span.elements);
+        let taken = self.taken(settings, lent, span.len());
+        self.list.extend(&lent[..taken]);
+        let outputs = settings.outputs(&self.list);
+        let rest = &outputs[self.written..];
+        let written = rest.len().min(span.len());
+        span[..written].copy_from_slice(&rest[..written]);
+        self.written += written;
+        fed.taken = taken as u64;
+        fed.written = written as u64;
+    }
+}
+
+fn some_feed(rng: &mut Rng, settings: &Settings, past: &mut Past) -> Fed {
+    let length = line_samples::some_length(rng, settings);
+    let samples: Slice<i32> = line_samples::list(rng, length).into();
+    let outputs = past.rest(settings, &samples.elements);
+    let places = line_samples::some_places(rng, outputs as u64);
+    let mut fed = Fed {
+        samples,
+        span: samples::span(rng, places).into(),
+        refusal: 0,
+        taken: 0,
+        written: 0,
+    };
+    let lent = fed.clone();
+    past.feed(settings, &mut fed);
+    lent
+}
+
+pub fn some_case(rng: &mut Rng) -> Box<dyn Case> {
+    let settings = line_settings::good(rng);
+    let mut past = Past::default();
+    let feeds = (0..rng.within(1, 6))
+        .map(|_| some_feed(rng, &settings, &mut past))
+        .collect();
+    Box::new(FEEDS.case(Feeds { settings, feeds }))
+}
