@@ -31,7 +31,7 @@ pub struct Single<S, L, A> {
 }
 
 impl<S: Fields, L: Lends, A: Answers> Single<S, L, A> {
-    fn of(state: S, lent: L) -> Self {
+    pub fn of(state: S, lent: L) -> Self {
         Single {
             state,
             lent,

@@ -154,6 +154,19 @@ fn stream<const DELAYS: usize, C: Cascade<DELAYS>>(rng: &mut Rng) -> Cases {
     cases
 }
 
+/// As long as 01 allows, and of any samples.
+pub fn long<const DELAYS: usize, C: Cascade<DELAYS>>(rng: &mut Rng) -> Cases {
+    let mut state = State {
+        depth: rng.within(1, 5),
+        delays: float_samples::levels(rng),
+    };
+    let (takes, gives) = frame::<DELAYS, C>(state.depth);
+    let (length, places) = settings::long_block(rng, takes as u64, gives as u64);
+    let input = float_samples::noise(rng, length);
+    let span = samples::span(rng, places);
+    vec![C::PROCESS.on(&mut state, Buffers::of(input, span))]
+}
+
 pub fn cases<const DELAYS: usize, C: Cascade<DELAYS>>(rng: &mut Rng) -> Cases {
     match rng.below(64) {
         0..=5 => vec![C::NEW.of(Depth(rng.below(6))).0],

@@ -3,6 +3,7 @@
 use crate::field::Field;
 use crate::record::Record;
 use crate::report;
+use crate::shrink;
 
 /// What is lent to an operation, and the places it answers in, which are zeros before.
 pub trait Call: Clone + 'static {
@@ -10,6 +11,11 @@ pub trait Call: Clone + 'static {
 
     /// The samples that it took.
     fn samples(&self) -> u64;
+
+    /// The same with one part less, where it has several.
+    fn fewer(&self) -> Vec<Self> {
+        Vec::new()
+    }
 
     fn write(record: &mut Record, before: &mut Self, refusal: Option<u32>, after: &mut Self) {
         record.call(&before.fields(), refusal, &after.fields());
@@ -29,6 +35,14 @@ pub struct Operation<C> {
     pub archive: fn(&mut C) -> u64,
 }
 
+impl<C> Clone for Operation<C> {
+    fn clone(&self) -> Self {
+        *self
+    }
+}
+
+impl<C> Copy for Operation<C> {}
+
 impl<C: Call> Operation<C> {
     pub fn case(self, lent: C) -> Called<C> {
         let refusal = self.refusal.map(|number| number(&lent));
@@ -46,9 +60,10 @@ impl<C: Call> Operation<C> {
 }
 
 /// A call, and what it is expected to leave: a refusal leaves everything as lent, and zeros for answers.
+#[derive(Clone)]
 pub struct Called<C> {
-    operation: Operation<C>,
-    lent: C,
+    pub operation: Operation<C>,
+    pub lent: C,
     refusal: Option<u32>,
     pub expected: C,
 }
@@ -60,7 +75,7 @@ pub trait Case {
     fn samples(&self) -> u64;
     /// Whether the archive answers what is expected.
     fn agrees(&self) -> bool;
-    /// What is lent, what is expected and what the archive answers.
+    /// Of the smallest case that differs: what is lent, what is expected and what the archive answers.
     fn report(&self) -> String;
 }
 
@@ -108,12 +123,13 @@ impl<C: Call> Case for Called<C> {
     }
 
     fn report(&self) -> String {
-        let (number, mut answered) = self.answered();
-        let (mut lent, mut expected) = (self.lent.clone(), self.expected.clone());
+        let least = shrink::smallest(self.clone());
+        let (number, mut answered) = least.answered();
+        let (mut lent, mut expected) = (least.lent.clone(), least.expected.clone());
         [
             self.operation.name.to_string(),
             report::lent(&lent.fields()),
-            report::refusals(self.number(), number),
+            report::refusals(least.number(), number),
             report::answers(&expected.fields(), &answered.fields()),
         ]
         .join("\n")

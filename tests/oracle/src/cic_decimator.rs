@@ -244,7 +244,7 @@ fn any_call(rng: &mut Rng, state: &mut State) -> Box<dyn Case> {
 }
 
 /// Valid settings and counter, anything in the sums, in the places past N too.
-fn midway(rng: &mut Rng) -> State {
+pub fn midway(rng: &mut Rng) -> State {
     let r = cic_settings::factor(rng);
     State {
         stages: cic_settings::stages(rng),
@@ -323,6 +323,16 @@ fn longest_block(rng: &mut Rng) -> Box<dyn Case> {
     let mut state = midway(rng);
     state.r = state.r.max(16);
     PROCESS_BLOCK.on(&mut state, Buffers::of(input, span))
+}
+
+/// A block that is longer than `replay` has room for.
+pub fn long(rng: &mut Rng) -> Cases {
+    let mut state = midway(rng);
+    let length = rng.within(LONGEST, 4 * LONGEST);
+    let places = settings::places_around(rng, (state.sample_counter + length) / state.r);
+    let input = samples::noise(rng, length);
+    let span = samples::span(rng, places);
+    vec![PROCESS_BLOCK.on(&mut state, Buffers::of(input, span))]
 }
 
 pub fn cases(rng: &mut Rng) -> Cases {

@@ -2,6 +2,7 @@
 
 use crate::element::Element;
 use crate::lent::{Lent, Slice};
+use crate::places::{Places, Values};
 use std::rc::Rc;
 
 /// What a call does with a field.
@@ -29,33 +30,6 @@ pub enum Shape {
     Slice(Rc<Lent>),
 }
 
-/// The elements of a field, whatever their type.
-pub trait Values {
-    fn words(&self) -> Vec<u32>;
-    /// Each element as text.
-    fn texts(&self) -> Vec<String>;
-    /// Writes over every element.
-    fn overwrite(&mut self);
-}
-
-impl<T: Element> Values for &mut [T] {
-    fn words(&self) -> Vec<u32> {
-        let mut words = Vec::with_capacity(self.len());
-        for element in self.iter() {
-            element.words(&mut words);
-        }
-        words
-    }
-
-    fn texts(&self) -> Vec<String> {
-        self.iter().map(|element| format!("{element:?}")).collect()
-    }
-
-    fn overwrite(&mut self) {
-        self.fill(T::of(0xa5a5_a5a5));
-    }
-}
-
 pub struct Field<'a> {
     /// The part of a line that has the field, or nothing.
     pub part: &'static str,
@@ -66,31 +40,35 @@ pub struct Field<'a> {
 }
 
 impl<'a> Field<'a> {
-    fn of<T: Element>(name: &'static str, shape: Shape, values: &'a mut [T]) -> Self {
+    fn of<T: Element>(name: &'static str, shape: Shape, places: Places<'a, T>) -> Self {
         Field {
             part: "",
             name,
             role: Role::Lent,
             shape,
-            values: Box::new(values),
+            values: Box::new(places),
         }
     }
 
     pub fn one<T: Element>(name: &'static str, value: &'a mut T) -> Self {
-        Field::of(name, Shape::Plain, std::slice::from_mut(value))
+        Field::plain(name, std::slice::from_mut(value))
     }
 
     pub fn plain<T: Element>(name: &'static str, values: &'a mut [T]) -> Self {
-        Field::of(name, Shape::Plain, values)
+        Field::of(name, Shape::Plain, Places::Fixed(values))
     }
 
     pub fn array<T: Element>(name: &'static str, places: &'a mut [T]) -> Self {
-        Field::of(name, Shape::Array, places)
+        Field::of(name, Shape::Array, Places::Fixed(places))
+    }
+
+    pub fn list<T: Element>(name: &'static str, elements: &'a mut Vec<T>) -> Self {
+        Field::of(name, Shape::Array, Places::Slice(elements))
     }
 
     pub fn slice<T: Element>(name: &'static str, slice: &'a mut Slice<T>) -> Self {
         let shape = Shape::Slice(slice.drawn.clone());
-        Field::of(name, shape, &mut slice.elements)
+        Field::of(name, shape, Places::Slice(&mut slice.elements))
     }
 
     /// Whether it is lent, and not only answered.

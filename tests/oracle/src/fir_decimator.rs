@@ -4,21 +4,23 @@ use crate::archive::q15;
 use crate::calls::{Answers, Free, Lends, Made, Sample, Single};
 use crate::case::{Case, Cases, Operation};
 use crate::field::{Field, Fields};
-use crate::lent::{Lent, Slice};
+use crate::lent::{LONGEST, Lent, Slice};
 use crate::polyphase_q15;
 use crate::q15_samples;
 use crate::refusals;
 use crate::rng::Rng;
 use crate::settings;
+use crate::stream::{Lists, Stream};
 
 pub type New = Free<Settings, State>;
 pub type Step = Single<State, Sample<i16>, Made<i16>>;
 pub type Reset = Single<State, (), ()>;
+type Run = Stream<Settings, State, i16>;
 
 const NEW: Operation<New> = Operation {
     code: 0x41,
     name: "FirDecimator::new",
-    refusal: Some(|call| refusals::fir_opening(call.lent.taps.len() as u64, call.lent.factor)),
+    refusal: Some(|call| call.lent.refusal()),
     rust: |call| call.answer = State::opened(&call.lent.taps.elements, call.lent.factor),
     archive: q15::fir_decimator_new,
 };
@@ -39,6 +41,14 @@ const RESET: Operation<Reset> = Operation {
     archive: q15::fir_decimator_reset,
 };
 
+const RUN: Operation<Run> = Operation {
+    code: 0,
+    name: "FirDecimator::new, then process_sample for each sample",
+    refusal: Some(|call| call.lent.opening.refusal()),
+    rust: run,
+    archive: |call| call.run(q15::fir_decimator_new, q15::fir_decimator_process_sample),
+};
+
 const MOST_TAPS: u64 = 64;
 
 /// What a decimator is opened with.
@@ -54,6 +64,10 @@ impl Settings {
             factor,
             taps: taps.into(),
         }
+    }
+
+    fn refusal(&self) -> u32 {
+        refusals::fir_opening(self.taps.len() as u64, self.factor)
     }
 }
 
@@ -154,6 +168,25 @@ impl Answers for State {
     }
 }
 
+/// Every output of the list, which the Rust makes of it as a whole.
+pub fn outputs(taps: &[i16], factor: u64, list: &[i16]) -> Vec<i16> {
+    match taps.is_empty() {
+        true => list.to_vec(),
+        false => polyphase_q15::decimated(taps, factor, list),
+    }
+}
+
+fn run(call: &mut Run) {
+    let (taps, factor) = (&call.lent.opening.taps.elements, call.lent.opening.factor);
+    let list = &call.lent.samples.elements;
+    call.answer.outputs = outputs(taps, factor, list);
+    call.answer.state = State::opened(taps, factor);
+    if !taps.is_empty() {
+        list.iter()
+            .for_each(|&sample| call.answer.state.keep(sample));
+    }
+}
+
 fn some_sample(rng: &mut Rng, state: &mut State) -> Box<dyn Case> {
     PROCESS_SAMPLE.on(state, Sample(q15_samples::one(rng)))
 }
@@ -188,7 +221,7 @@ fn some_opening(rng: &mut Rng) -> Box<dyn Case> {
 }
 
 /// Valid settings and wait, anything in the delay and in the places past T.
-fn midway(rng: &mut Rng) -> State {
+pub fn midway(rng: &mut Rng) -> State {
     let tap_count = some_taps(rng);
     let factor = settings::factor_around(rng, tap_count);
     let most = tap_count.max(factor);
@@ -253,4 +286,24 @@ pub fn cases(rng: &mut Rng) -> Cases {
         }
         _ => stream(rng),
     }
+}
+
+fn some_run(rng: &mut Rng, samples: Lent) -> Cases {
+    let taps = some_taps(rng);
+    let factor = settings::factor_around(rng, taps);
+    let settings = Settings::of(factor, q15_samples::list(rng, taps));
+    vec![RUN.of(Lists::of(settings, samples)).0]
+}
+
+/// Lists as a whole.
+pub fn more(rng: &mut Rng) -> Cases {
+    let length = rng.below(400);
+    let samples = q15_samples::list(rng, length);
+    some_run(rng, samples)
+}
+
+pub fn long(rng: &mut Rng) -> Cases {
+    let length = rng.within(LONGEST / 2, LONGEST);
+    let samples = q15_samples::noise(rng, length);
+    some_run(rng, samples)
 }

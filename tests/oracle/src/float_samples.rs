@@ -65,6 +65,11 @@ pub fn list(rng: &mut Rng, length: u64) -> Lent {
     }
 }
 
+/// `length` levels, all of them listed.
+pub fn noise(rng: &mut Rng, length: u64) -> Lent {
+    Lent::listed((0..length).map(|_| word(level(rng))).collect())
+}
+
 /// The places of a state's array.
 pub fn places<const N: usize>(rng: &mut Rng) -> [f32; N] {
     let slice: Slice<f32> = list(rng, N as u64).into();

@@ -252,6 +252,26 @@ fn stream<
     cases
 }
 
+/// As long as 01 allows.
+pub fn long<
+    const DELAY: usize,
+    const TAKES: usize,
+    const GIVES: usize,
+    F: HalfBand<DELAY, TAKES, GIVES>,
+>(
+    rng: &mut Rng,
+) -> Cases {
+    let mut state = State {
+        m: some_taps(rng),
+        coeffs: float_samples::levels(rng),
+        delay: float_samples::levels(rng),
+    };
+    let (length, places) = settings::long_block(rng, TAKES as u64, GIVES as u64);
+    let input = float_samples::noise(rng, length);
+    let span = samples::span(rng, places);
+    vec![F::PROCESS.on(&mut state, Buffers::of(input, span))]
+}
+
 pub fn cases<
     const DELAY: usize,
     const TAKES: usize,

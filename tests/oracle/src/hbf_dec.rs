@@ -74,3 +74,7 @@ fn reset<const M: usize>(call: &mut Reset<96>) {
 pub fn cases(rng: &mut Rng) -> Cases {
     half_band::cases::<96, 2, 1, Decimator>(rng)
 }
+
+pub fn long(rng: &mut Rng) -> Cases {
+    half_band::long::<96, 2, 1, Decimator>(rng)
+}

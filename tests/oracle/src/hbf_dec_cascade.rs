@@ -70,3 +70,7 @@ fn reset<const D: usize>(call: &mut Reset<480>) {
 pub fn cases(rng: &mut Rng) -> Cases {
     cascade::cases::<480, Decimators>(rng)
 }
+
+pub fn long(rng: &mut Rng) -> Cases {
+    cascade::long::<480, Decimators>(rng)
+}

@@ -74,3 +74,7 @@ fn reset<const M: usize>(call: &mut Reset<48>) {
 pub fn cases(rng: &mut Rng) -> Cases {
     half_band::cases::<48, 1, 2, Interpolator>(rng)
 }
+
+pub fn long(rng: &mut Rng) -> Cases {
+    half_band::long::<48, 1, 2, Interpolator>(rng)
+}

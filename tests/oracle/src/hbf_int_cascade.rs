@@ -70,3 +70,7 @@ fn reset<const D: usize>(call: &mut Reset<240>) {
 pub fn cases(rng: &mut Rng) -> Cases {
     cascade::cases::<240, Interpolators>(rng)
 }
+
+pub fn long(rng: &mut Rng) -> Cases {
+    cascade::long::<240, Interpolators>(rng)
+}

@@ -5,17 +5,19 @@ use crate::calls::{Answers, Free, Made, Sample, Single};
 use crate::case::{Case, Cases, Operation};
 use crate::field::{Field, Fields};
 use crate::float_samples;
-use crate::lent::Slice;
+use crate::lent::{LONGEST, Slice};
 use crate::refusals;
 use crate::rng::Rng;
 use crate::settings;
 use crate::sizes::front;
+use crate::stream::{Lists, Stream};
 use crate::values::Depth;
 use embedded_dsp::resampling::{HBF_TAPS, HbfDec, HbfDecCascade};
 
 pub type New = Free<Depth, State>;
 pub type Step = Single<State, Sample<f32>, Made<f32>>;
 pub type Reset = Single<State, (), ()>;
+type Run = Stream<Depth, State, f32>;
 
 const NEW: Operation<New> = Operation {
     code: 0xa1,
@@ -39,6 +41,17 @@ const RESET: Operation<Reset> = Operation {
     refusal: Some(|call| call.state.refusal()),
     rust: |call| call.state = State::opened(call.state.depth),
     archive: float::hbf_stream_reset,
+};
+
+const RUN: Operation<Run> = Operation {
+    code: 0,
+    name: "HbfStream::new, then process_sample for each sample",
+    refusal: Some(|call| refusals::depth(call.lent.opening.0)),
+    rust: |call| {
+        let (depth, list) = (call.lent.opening.0, &call.lent.samples.elements);
+        (call.answer.state, call.answer.outputs) = whole_list(depth, list);
+    },
+    archive: |call| call.run(float::hbf_stream_new, float::hbf_stream_process_sample),
 };
 
 #[derive(Clone)]
@@ -144,7 +157,7 @@ fn any_call(rng: &mut Rng, state: &mut State) -> Box<dyn Case> {
 }
 
 /// Valid settings and counts, anything held and in the delays, and in what belongs to stages that are not run. Often the next sample goes through.
-fn midway(rng: &mut Rng) -> State {
+pub fn midway(rng: &mut Rng) -> State {
     let depth = rng.below(6);
     let full = rng.one_in(2);
     State {
@@ -202,4 +215,17 @@ pub fn cases(rng: &mut Rng) -> Cases {
         }
         _ => stream(rng),
     }
+}
+
+/// Lists as a whole.
+pub fn more(rng: &mut Rng) -> Cases {
+    let length = rng.below(400);
+    let samples = float_samples::list(rng, length);
+    vec![RUN.of(Lists::of(Depth(rng.below(6)), samples)).0]
+}
+
+pub fn long(rng: &mut Rng) -> Cases {
+    let length = rng.within(LONGEST / 2, LONGEST);
+    let samples = float_samples::noise(rng, length);
+    vec![RUN.of(Lists::of(Depth(rng.below(6)), samples)).0]
 }

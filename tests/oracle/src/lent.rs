@@ -25,6 +25,16 @@ impl Lent {
         }
     }
 
+    /// The slice of which every element is listed.
+    pub fn listed(listed: Vec<u32>) -> Self {
+        Lent {
+            length: listed.len(),
+            pattern: 0,
+            stride: 0,
+            listed,
+        }
+    }
+
     /// Element `i`: as listed, else the pattern plus `i` strides modulo 2^32.
     fn element(&self, i: usize) -> u32 {
         match self.listed.get(i) {

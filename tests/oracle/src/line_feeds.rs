@@ -3,15 +3,16 @@
 use crate::archive::line;
 use crate::case::{Call, Case, Operation};
 use crate::field::{Field, Fields, Role};
+use crate::fir_decimator;
 use crate::hbf_stream;
-use crate::lent::Slice;
+use crate::lent::{LONGEST, Lent, Slice};
 use crate::line_samples;
 use crate::line_settings::{self, Settings};
-use crate::polyphase_q15;
 use crate::polyphase_resamp;
 use crate::record::Record;
 use crate::rng::Rng;
 use crate::samples;
+use crate::settings;
 use crate::sizes::with_stages;
 use crate::values::cut;
 use embedded_dsp::resampling::CicDecimator;
@@ -35,6 +36,16 @@ pub struct Fed {
 }
 
 impl Fed {
+    fn of(samples: Slice<i32>, span: Lent) -> Self {
+        Fed {
+            samples,
+            span: span.into(),
+            refusal: 0,
+            taken: 0,
+            written: 0,
+        }
+    }
+
     fn fields(&mut self) -> [Field<'_>; 5] {
         [
             Field::slice("samples", &mut self.samples),
@@ -73,6 +84,15 @@ impl Call for Feeds {
         self.feeds.iter().map(|fed| fed.taken).sum()
     }
 
+    fn fewer(&self) -> Vec<Self> {
+        let without = |i| {
+            let mut fewer = self.clone();
+            fewer.feeds.remove(i);
+            fewer
+        };
+        (0..self.feeds.len()).map(without).collect()
+    }
+
     /// Each feed's answers follow what it is lent.
     fn write(record: &mut Record, before: &mut Self, _: Option<u32>, after: &mut Self) {
         for field in before.settings.fields() {
@@ -92,20 +112,12 @@ fn scaled<const N: usize>(r: u64, list: &[i32]) -> Vec<i32> {
         .collect()
 }
 
-/// "In the line no taps means off".
-fn decimated(taps: &[i16], factor: u64, list: Vec<i16>) -> Vec<i16> {
-    match taps.is_empty() {
-        true => list,
-        false => polyphase_q15::decimated(taps, factor, &list),
-    }
-}
-
 impl Settings {
     /// Section 6: "each section run on the whole list of the section before", up to the resampler.
     fn values(&self, list: &[i32]) -> Vec<f32> {
         let sums = with_stages!(self.stages, scaled(self.r, list));
-        let cuts = sums.iter().map(|&sum| cut(sum.into())).collect();
-        let thinned = decimated(&self.fir.elements, self.factor, cuts);
+        let cuts: Vec<i16> = sums.iter().map(|&sum| cut(sum.into())).collect();
+        let thinned = fir_decimator::outputs(&self.fir.elements, self.factor, &cuts);
         let floats: Vec<f32> = thinned.iter().map(|&x| f32::from(x) / 32768.0).collect();
         hbf_stream::outputs(self.depth, &floats)
     }
@@ -187,16 +199,13 @@ fn some_feed(rng: &mut Rng, settings: &Settings, past: &mut Past) -> Fed {
     let samples: Slice<i32> = line_samples::list(rng, length).into();
     let outputs = past.rest(settings, &samples.elements);
     let places = line_samples::some_places(rng, outputs as u64);
-    let mut fed = Fed {
-        samples,
-        span: samples::span(rng, places).into(),
-        refusal: 0,
-        taken: 0,
-        written: 0,
-    };
-    let lent = fed.clone();
-    past.feed(settings, &mut fed);
+    let lent = Fed::of(samples, samples::span(rng, places));
+    past.feed(settings, &mut lent.clone());
     lent
+}
+
+fn case(settings: Settings, feeds: Vec<Fed>) -> Box<dyn Case> {
+    Box::new(FEEDS.case(Feeds { settings, feeds }))
 }
 
 pub fn some_case(rng: &mut Rng) -> Box<dyn Case> {
@@ -205,5 +214,22 @@ pub fn some_case(rng: &mut Rng) -> Box<dyn Case> {
     let feeds = (0..rng.within(1, 6))
         .map(|_| some_feed(rng, &settings, &mut past))
         .collect();
-    Box::new(FEEDS.case(Feeds { settings, feeds }))
+    case(settings, feeds)
+}
+
+/// A few long feeds, with spans that are filled and spans that are not.
+pub fn long_case(rng: &mut Rng) -> Box<dyn Case> {
+    let settings = line_settings::any_good(rng);
+    let outputs = rng.within(2_000, 20_000);
+    let length = (outputs as f32 * settings.samples_for_output()) as u64;
+    let length = length.min(4 * LONGEST);
+    let feeds = (0..rng.within(1, 4))
+        .map(|_| {
+            Fed::of(line_samples::noise(rng, length).into(), {
+                let places = settings::places_around(rng, outputs);
+                samples::span(rng, places)
+            })
+        })
+        .collect();
+    case(settings, feeds)
 }

@@ -6,12 +6,15 @@ use crate::rng::Rng;
 use crate::samples;
 use crate::settings;
 
+fn level(rng: &mut Rng) -> u32 {
+    (rng.within(0, 80_000) as i32 - 40_000) as u32
+}
+
 /// Levels that stay within 16 bits or leave them by little, or anything.
 pub fn list(rng: &mut Rng, length: u64) -> Lent {
     if rng.one_in(3) {
         return samples::list(rng, length, 40);
     }
-    let level = |rng: &mut Rng| (rng.within(0, 80_000) as i32 - 40_000) as u32;
     Lent {
         length: length as usize,
         pattern: level(rng),
@@ -20,17 +23,17 @@ pub fn list(rng: &mut Rng, length: u64) -> Lent {
     }
 }
 
+/// A long list of such levels, or of anything.
+pub fn noise(rng: &mut Rng, length: u64) -> Lent {
+    match rng.one_in(3) {
+        true => samples::noise(rng, length),
+        false => Lent::listed((0..length).map(|_| level(rng)).collect()),
+    }
+}
+
 /// None, one, few, or as many as make some outputs.
 pub fn some_length(rng: &mut Rng, settings: &Settings) -> u64 {
-    let thinned = match settings.fir.len() {
-        0 => 1,
-        _ => settings.factor,
-    };
-    let slowed = match settings.phases {
-        0 => 1.0,
-        _ => settings.step,
-    };
-    let samples = ((settings.r * thinned) << settings.depth) as f32 * slowed;
+    let samples = settings.samples_for_output();
     let most = rng.pick(&[300, 300, 300, 3000, 3000, LONGEST]);
     match rng.below(8) {
         0 => rng.below(2),

@@ -61,6 +61,21 @@ impl Settings {
     }
 }
 
+impl Settings {
+    /// About how many samples make an output.
+    pub fn samples_for_output(&self) -> f32 {
+        let thinned = match self.fir.len() {
+            0 => 1,
+            _ => self.factor,
+        };
+        let slowed = match self.phases {
+            0 => 1.0,
+            _ => self.step,
+        };
+        ((self.r * thinned) << self.depth) as f32 * slowed
+    }
+}
+
 impl Fields for Settings {
     fn fields(&mut self) -> Vec<Field<'_>> {
         vec![
@@ -80,7 +95,7 @@ impl Fields for Settings {
 impl Lends for Settings {}
 
 /// Within the limits, as a line that is fed has them: small factors often, so that few samples make an output.
-fn cic(rng: &mut Rng) -> (u64, u64) {
+pub fn cic(rng: &mut Rng) -> (u64, u64) {
     loop {
         let stages = cic_settings::stages(rng);
         let r = match rng.below(8) {
@@ -111,7 +126,7 @@ fn fir(rng: &mut Rng) -> (Lent, u64) {
 }
 
 /// 1/64 to 64.
-fn step(rng: &mut Rng) -> f32 {
+pub fn step(rng: &mut Rng) -> f32 {
     let exponent = rng.within(121, 132) as u32;
     let any = f32::from_bits(exponent << 23 | rng.next() as u32 >> 9);
     match rng.below(2) {
@@ -145,6 +160,17 @@ pub fn good(rng: &mut Rng) -> Settings {
         fir: fir.into(),
         prototype: float_samples::list(rng, length).into(),
     }
+}
+
+/// The same with any P and T.
+pub fn any_good(rng: &mut Rng) -> Settings {
+    let mut settings = good(rng);
+    if settings.phases != 0 {
+        (settings.phases, settings.taps) = settings::phases_and_taps(rng);
+        let length = settings.phases * settings.taps;
+        settings.prototype = float_samples::list(rng, length).into();
+    }
+    settings
 }
 
 /// The faults of the resampler alone.

@@ -80,6 +80,15 @@ fn longest_call(rng: &mut Rng) -> Box<dyn Case> {
     LINEAR.of(Buffers::of(ratio, input, span)).0
 }
 
+/// As long as 01 allows, and of any samples.
+pub fn long(rng: &mut Rng) -> Cases {
+    let ratio = rng.within(1 << 14, 1 << 18) as i32;
+    let (length, places) = settings::long_block(rng, 1, 1);
+    let input = q15_samples::noise(rng, length);
+    let span = samples::span(rng, places);
+    vec![LINEAR.of(Buffers::of(ratio, input, span)).0]
+}
+
 pub fn cases(rng: &mut Rng) -> Cases {
     match rng.below(128) {
         0 => vec![longest_call(rng)],

@@ -22,6 +22,8 @@ mod hbf_int_cascade;
 mod hbf_stream;
 mod hbf_table;
 mod lent;
+mod line_calls;
+mod line_cases;
 mod line_damage;
 mod line_feeds;
 mod line_samples;
@@ -30,6 +32,7 @@ mod linear;
 mod linear_f32;
 mod linear_q15;
 mod list;
+mod places;
 mod polyphase_q15;
 mod polyphase_resamp;
 mod q15_samples;
@@ -40,35 +43,86 @@ mod request;
 mod rng;
 mod samples;
 mod settings;
+mod shrink;
+mod simpler;
 mod sizes;
+mod stream;
 mod values;
 
-use request::{Command, Converter, Request, USAGE};
+use compare::Done;
+use request::{Command, Converter, Draw, Request, USAGE};
 use std::io::{self, BufWriter};
 use std::process::ExitCode;
 
-const fn converter(name: &'static str, cases: fn(&mut rng::Rng) -> case::Cases) -> Converter {
-    Converter { name, cases }
+/// A converter of which a comparison has no more cases than a list.
+const fn listed(name: &'static str, cases: Draw, long: Draw) -> Converter {
+    Converter {
+        name,
+        cases,
+        more: cases,
+        long,
+    }
+}
+
+const fn compared(name: &'static str, cases: Draw, more: Draw, long: Draw) -> Converter {
+    Converter {
+        name,
+        cases,
+        more,
+        long,
+    }
 }
 
 const CONVERTERS: [Converter; 14] = [
-    converter("cic_decimator", cic_decimator::cases),
-    converter("cic_interpolator", cic_interpolator::cases),
-    converter("polyphase_q15", polyphase_q15::cases),
-    converter("linear_q15", linear_q15::cases),
-    converter("fir_decimator", fir_decimator::cases),
-    converter("values", values::cases),
-    converter("linear_f32", linear_f32::cases),
-    converter("hbf_dec", hbf_dec::cases),
-    converter("hbf_int", hbf_int::cases),
-    converter("hbf_dec_cascade", hbf_dec_cascade::cases),
-    converter("hbf_int_cascade", hbf_int_cascade::cases),
-    converter("hbf_stream", hbf_stream::cases),
-    converter("polyphase_resamp", polyphase_resamp::cases),
-    converter("gauge_line", gauge_line::cases),
+    listed("cic_decimator", cic_decimator::cases, cic_decimator::long),
+    listed(
+        "cic_interpolator",
+        cic_interpolator::cases,
+        cic_interpolator::cases,
+    ),
+    listed("polyphase_q15", polyphase_q15::cases, polyphase_q15::long),
+    listed("linear_q15", linear_q15::cases, linear_q15::long),
+    compared(
+        "fir_decimator",
+        fir_decimator::cases,
+        fir_decimator::more,
+        fir_decimator::long,
+    ),
+    listed("values", values::cases, values::cases),
+    listed("linear_f32", linear_f32::cases, linear_f32::long),
+    listed("hbf_dec", hbf_dec::cases, hbf_dec::long),
+    listed("hbf_int", hbf_int::cases, hbf_int::long),
+    listed(
+        "hbf_dec_cascade",
+        hbf_dec_cascade::cases,
+        hbf_dec_cascade::long,
+    ),
+    listed(
+        "hbf_int_cascade",
+        hbf_int_cascade::cases,
+        hbf_int_cascade::long,
+    ),
+    compared(
+        "hbf_stream",
+        hbf_stream::cases,
+        hbf_stream::more,
+        hbf_stream::long,
+    ),
+    compared(
+        "polyphase_resamp",
+        polyphase_resamp::cases,
+        polyphase_resamp::more,
+        polyphase_resamp::long,
+    ),
+    compared(
+        "gauge_line",
+        line_cases::cases,
+        line_cases::more,
+        line_cases::long,
+    ),
 ];
 
-fn listed(request: &Request) -> ExitCode {
+fn list(request: &Request) -> ExitCode {
     match list::list(request, &mut BufWriter::new(io::stdout().lock())) {
         Ok(()) => ExitCode::SUCCESS,
         Err(error) => {
@@ -78,10 +132,10 @@ fn listed(request: &Request) -> ExitCode {
     }
 }
 
-fn compared(request: &Request) -> ExitCode {
-    let Request { seed, cases, .. } = request;
+fn compare(request: &Request) -> ExitCode {
+    let seed = request.seed;
     match compare::compare(request) {
-        Ok(samples) => {
+        Ok(Done { cases, samples }) => {
             println!("seed {seed}: {cases} cases, {samples} samples, 0 differences");
             ExitCode::SUCCESS
         }
@@ -98,7 +152,7 @@ fn main() -> ExitCode {
         return ExitCode::from(2);
     };
     match request.command {
-        Command::List => listed(&request),
-        Command::Compare => compared(&request),
+        Command::List => list(&request),
+        Command::Compare => compare(&request),
     }
 }

@@ -219,6 +219,20 @@ fn longest_interpolation(rng: &mut Rng) -> Drawn {
     block
 }
 
+/// As long as 01 allows, and of any samples.
+pub fn long(rng: &mut Rng) -> Cases {
+    let (factor, each) = (rng.within(1, 8), rng.within(1, 24));
+    let operation = rng.pick(&[DECIMATE, INTERPOLATE]);
+    let (taps, takes, gives) = match operation.code == DECIMATE.code {
+        true => (each, factor, 1),
+        false => (each * factor, 1, factor),
+    };
+    let (samples, span) = settings::long_block(rng, takes, gives);
+    let mut block = Drawn::of(rng, factor, samples, taps, span);
+    block.samples = q15_samples::noise(rng, samples);
+    vec![block.case(operation)]
+}
+
 pub fn cases(rng: &mut Rng) -> Cases {
     match rng.below(256) {
         0 => vec![longest_decimation(rng).case(DECIMATE)],

@@ -9,6 +9,7 @@ use crate::lent::{LONGEST, Slice};
 use crate::refusals;
 use crate::rng::Rng;
 use crate::samples;
+use crate::settings;
 use crate::sizes::RESAMPLERS;
 use resamplers::Resampler;
 
@@ -235,7 +236,7 @@ fn bad_step(rng: &mut Rng) -> f32 {
 }
 
 /// A mu from −2^24 to 1 + step as rounded, at both ends and beside them.
-fn some_mu(rng: &mut Rng, step: f32) -> f32 {
+pub fn some_mu(rng: &mut Rng, step: f32) -> f32 {
     let most = 1.0 + step;
     let mu = match rng.below(16) {
         0 => rng.pick(&[0.0, -0.0, 1e-45, 1.0, 0.999_999_94]),
@@ -268,6 +269,13 @@ fn midway(rng: &mut Rng) -> State {
         delay: float_samples::places(rng),
         prototype: float_samples::places(rng),
     }
+}
+
+/// The same with any P and T.
+pub fn midway_any(rng: &mut Rng) -> State {
+    let mut state = midway(rng);
+    (state.phases, state.taps) = settings::phases_and_taps(rng);
+    state
 }
 
 /// A state that 15 turns back.
@@ -364,8 +372,7 @@ fn any_call(rng: &mut Rng, state: &mut State) -> Box<dyn Case> {
 }
 
 /// From an opening: calls of every kind, each on the state that the one before left.
-fn stream(rng: &mut Rng) -> Cases {
-    let (phases, taps) = rng.pick(&RESAMPLERS);
+fn stream(rng: &mut Rng, (phases, taps): (u64, u64)) -> Cases {
     let (opening, mut state) = FROM_TAPS.of(Settings {
         phases,
         taps,
@@ -389,6 +396,36 @@ pub fn cases(rng: &mut Rng) -> Cases {
             vec![any_call(rng, &mut state)]
         }
         56 if rng.one_in(4) => vec![longest_block(rng)],
-        _ => stream(rng),
+        _ => {
+            let pair = rng.pick(&RESAMPLERS);
+            stream(rng, pair)
+        }
     }
+}
+
+/// Any P and T: a list has only some.
+pub fn more(rng: &mut Rng) -> Cases {
+    match rng.one_in(4) {
+        true => {
+            let pair = settings::phases_and_taps(rng);
+            stream(rng, pair)
+        }
+        false => {
+            let mut state = midway_any(rng);
+            vec![any_call(rng, &mut state)]
+        }
+    }
+}
+
+/// A long block, of which a place stays unwritten or not.
+pub fn long(rng: &mut Rng) -> Cases {
+    let mut state = midway_any(rng);
+    state.step = rng.within(1 << 18, 1 << 23) as f32 / (1 << 20) as f32;
+    state.mu = some_mu(rng, state.step).max(0.0);
+    let length = rng.within(LONGEST / 2, 2 * LONGEST);
+    let outputs = (length as f32 / state.step) as u64;
+    let places = settings::places_around(rng, outputs);
+    let input = float_samples::noise(rng, length);
+    let span = samples::span(rng, places);
+    vec![PROCESS_BLOCK.on(&mut state, Buffers::of(input, span))]
 }

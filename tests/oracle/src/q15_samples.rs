@@ -42,6 +42,11 @@ pub fn list(rng: &mut Rng, length: u64) -> Lent {
     }
 }
 
+/// `length` samples, all of them listed.
+pub fn noise(rng: &mut Rng, length: u64) -> Lent {
+    Lent::listed((0..length).map(|_| u32::from(one(rng) as u16)).collect())
+}
+
 /// The 64 places of a state's array.
 pub fn places(rng: &mut Rng) -> [i16; 64] {
     let slice: Slice<i16> = list(rng, 64).into();

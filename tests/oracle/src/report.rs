@@ -59,14 +59,14 @@ fn difference(expected: &Field, answered: &Field) -> Option<String> {
     if words == others {
         return None;
     }
-    let (texts, other_texts) = (expected.values.texts(), answered.values.texts());
-    let differs = |i: &usize| texts.get(*i) != other_texts.get(*i);
-    let at = (0..texts.len()).find(differs)?;
-    let name = match texts.len() {
-        1 => name(expected),
-        _ => format!("{}[{at}]", name(expected)),
-    };
-    Some(both(&name, &texts[at], &other_texts[at]))
+    let (texts, others) = (expected.values.texts(), answered.values.texts());
+    let name = name(expected);
+    let differs = |i: &usize| texts[*i] != others[*i];
+    Some(match (0..texts.len().min(others.len())).find(differs) {
+        Some(0) if texts.len() == 1 => both(&name, &texts[0], &others[0]),
+        Some(at) => both(&format!("{name}[{at}]"), &texts[at], &others[at]),
+        None => both(&name, &runs(&texts), &runs(&others)),
+    })
 }
 
 /// The answers that differ.

@@ -61,7 +61,20 @@ pub fn length_around(rng: &mut Rng) -> u64 {
     rng.pick(&[MOST - 1, MOST, MOST, MOST + 1])
 }
 
+/// Many samples, and a span for about what they make, where so many samples make so many outputs: both within 01's limit.
+pub fn long_block(rng: &mut Rng, takes: u64, gives: u64) -> (u64, u64) {
+    let most = (MOST / gives * takes).min(MOST);
+    let length = rng.within(most / 2, most);
+    let places = places_around(rng, length / takes * gives);
+    (length, places.min(MOST))
+}
+
 /// A depth that every cascade refuses, and 0, which the line's takes for off.
 pub fn bad_depth(rng: &mut Rng) -> u64 {
     rng.pick(&[0, 6, 6, 7, 1 << 32, (1 << 32) + 1, u64::MAX])
+}
+
+/// P and T of a resampler, any that 01 allows.
+pub fn phases_and_taps(rng: &mut Rng) -> (u64, u64) {
+    (rng.within(2, 64), rng.within(1, 16))
 }

@@ -1,7 +1,8 @@
 //! The gauge line of the archive.
 
 use crate::calls::{Answers, Buffers, Counts};
-use crate::gauge_line::{Feed, Line, Open, Opened, Reset, Step};
+use crate::gauge_line::Line;
+use crate::line_calls::{Feed, Open, Reset, Step};
 use crate::line_feeds::{Fed, Feeds};
 use crate::line_settings::Settings;
 use gauge_raw::*;
@@ -122,7 +123,7 @@ fn feed_next(line: &mut Line, fed: &mut Fed) {
 
 /// A line that is not opened is not fed.
 pub fn feeds(call: &mut Feeds) -> u64 {
-    let mut line = Opened::zeros().0;
+    let mut line = Line::zeros();
     let refusal = open_line(&call.settings, &mut line);
     for fed in &mut call.feeds {
         (fed.refusal, fed.taken, fed.written) = (0, 0, 0);
