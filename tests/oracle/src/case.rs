@@ -9,9 +9,6 @@ use crate::shrink;
 pub trait Call: Clone + 'static {
     fn fields(&mut self) -> Vec<Field<'_>>;
 
-    /// The samples that it took.
-    fn samples(&self) -> u64;
-
     /// The same with one part less, where it has several.
     fn fewer(&self) -> Vec<Self> {
         Vec::new()
@@ -79,6 +76,20 @@ pub trait Case {
     fn report(&self) -> String;
 }
 
+/// How many samples went through: those lent, and no more than the call took, or wrote where it does not say what it took.
+fn samples(fields: &[Field]) -> u64 {
+    let named = |name| fields.iter().filter(move |field| field.name == name);
+    let total = |name| named(name).map(|field| field.values.number()).sum();
+    let lent = named("sample").chain(named("samples"));
+    let most = match (named("taken").next(), named("written").next()) {
+        (Some(_), _) => total("taken"),
+        (None, Some(_)) => total("written"),
+        (None, None) => u64::MAX,
+    };
+    let lent: usize = lent.map(|field| field.values.len()).sum();
+    most.min(lent as u64)
+}
+
 fn words(call: &mut impl Call) -> Vec<Vec<u32>> {
     let fields = call.fields();
     fields.iter().map(|field| field.values.words()).collect()
@@ -111,7 +122,7 @@ impl<C: Call> Case for Called<C> {
 
     fn samples(&self) -> u64 {
         match self.number() {
-            0 => self.expected.samples(),
+            0 => samples(&self.expected.clone().fields()),
             _ => 0,
         }
     }

@@ -1,10 +1,10 @@
 //! Cases of `CicDecimator`.
 
 use crate::archive::integer;
-use crate::calls::{Answers, Buffers, Counts, Free, Made, Read, Sample, Single, Value};
+use crate::calls::{Buffers, Counts, Free, Made, Sample, Single, Value};
 use crate::case::{Case, Cases, Operation};
 use crate::cic_settings::{self, Settings};
-use crate::field::{Field, Fields};
+use crate::field::{Fields, fields};
 use crate::lent::{LONGEST, Lent};
 use crate::refusals;
 use crate::rng::Rng;
@@ -15,7 +15,7 @@ use embedded_dsp::resampling::CicDecimator;
 
 pub type New = Free<Settings, State>;
 pub type Step = Single<State, Sample<i32>, Made<i32>>;
-pub type Reading<T> = Free<Read<State>, Value<T>>;
+pub type Reading<T> = Free<State, Value<T>>;
 pub type Block = Single<State, Buffers<i32, i32>, Counts>;
 
 const NEW: Operation<New> = Operation {
@@ -30,7 +30,7 @@ const PROCESS_SAMPLE: Operation<Step> = Operation {
     code: 0x12,
     name: "CicDecimator::process_sample",
     refusal: Some(|call| call.state.refusal()),
-    rust: |call| call.answer = call.state.sample(call.lent.0).into(),
+    rust: |call| call.answer = call.state.sample(call.lent.sample).into(),
     archive: integer::cic_decimator_process_sample,
 };
 
@@ -38,23 +38,23 @@ const PROCESS_SAMPLE_SCALED: Operation<Step> = Operation {
     code: 0x13,
     name: "CicDecimator::process_sample_scaled",
     refusal: Some(|call| call.state.scaled_refusal()),
-    rust: |call| call.answer = call.state.scaled(call.lent.0).into(),
+    rust: |call| call.answer = call.state.scaled(call.lent.sample).into(),
     archive: integer::cic_decimator_process_sample_scaled,
 };
 
 const GAIN: Operation<Reading<u64>> = Operation {
     code: 0x14,
     name: "CicDecimator::gain",
-    refusal: Some(|call| call.lent.0.refusal()),
-    rust: |call| call.answer.0 = with_stages!(call.lent.0.stages, gain(&call.lent.0)),
+    refusal: Some(|call| call.lent.refusal()),
+    rust: |call| call.answer.value = with_stages!(call.lent.stages, gain(&call.lent)),
     archive: integer::cic_decimator_gain,
 };
 
 const GAIN_BITS: Operation<Reading<u32>> = Operation {
     code: 0x15,
     name: "CicDecimator::gain_bits",
-    refusal: Some(|call| call.lent.0.refusal()),
-    rust: |call| call.answer.0 = with_stages!(call.lent.0.stages, gain_bits(&call.lent.0)),
+    refusal: Some(|call| call.lent.refusal()),
+    rust: |call| call.answer.value = with_stages!(call.lent.stages, gain_bits(&call.lent)),
     archive: integer::cic_decimator_gain_bits,
 };
 
@@ -66,14 +66,15 @@ const PROCESS_BLOCK: Operation<Block> = Operation {
     archive: integer::cic_decimator_process_block,
 };
 
-/// The port's state: the Rust has N as a constant, and N places for 8.
-#[derive(Clone)]
-pub struct State {
-    pub stages: u64,
-    pub r: u64,
-    pub integrators: [i32; 8],
-    pub combs: [i32; 8],
-    pub sample_counter: u64,
+fields! {
+    /// The port's state: the Rust has N as a constant, and N places for 8.
+    pub struct State {
+        stages: u64,
+        r: u64,
+        integrators: [i32; 8],
+        combs: [i32; 8],
+        sample_counter: u64,
+    }
 }
 
 impl State {
@@ -113,30 +114,6 @@ impl State {
 
     pub fn scaled(&mut self, input: i32) -> Option<i32> {
         with_stages!(self.stages, scaled(self, input))
-    }
-}
-
-impl Fields for State {
-    fn fields(&mut self) -> Vec<Field<'_>> {
-        vec![
-            Field::one("stages", &mut self.stages),
-            Field::one("r", &mut self.r),
-            Field::plain("integrators", &mut self.integrators),
-            Field::plain("combs", &mut self.combs),
-            Field::one("sample_counter", &mut self.sample_counter),
-        ]
-    }
-}
-
-impl Answers for State {
-    fn zeros() -> Self {
-        State {
-            stages: 0,
-            r: 0,
-            integrators: [0; 8],
-            combs: [0; 8],
-            sample_counter: 0,
-        }
     }
 }
 
@@ -189,15 +166,18 @@ fn block<const N: usize>(call: &mut Block) {
     };
 }
 
+fn some_sample(rng: &mut Rng) -> Sample<i32> {
+    Sample {
+        sample: samples::one(rng),
+    }
+}
+
 fn some_opening(rng: &mut Rng) -> Box<dyn Case> {
     NEW.of(cic_settings::any(rng)).0
 }
 
 fn gains(state: &State) -> Cases {
-    vec![
-        GAIN.of(Read(state.clone())).0,
-        GAIN_BITS.of(Read(state.clone())).0,
-    ]
+    vec![GAIN.of(state.clone()).0, GAIN_BITS.of(state.clone()).0]
 }
 
 /// A block whose samples complete about `outputs` sums, with a span around their number.
@@ -207,14 +187,7 @@ fn some_block(rng: &mut Rng, state: &mut State, outputs: u64) -> Box<dyn Case> {
     let about = outputs * r + rng.pick(&[0, 1, 2, r]);
     let length = about.saturating_sub(counter + 1).min(LONGEST);
     let due = (counter + length) / r;
-    let places = match rng.below(8) {
-        0 => 0,
-        1 => rng.below(due + 1),
-        2 => due.saturating_sub(1),
-        3 | 4 => due,
-        5 => due + 1,
-        _ => due + rng.within(2, 9),
-    };
+    let places = settings::places_around(rng, due);
     let listed = rng.pick(&[0, 8, 40]);
     let input = samples::list(rng, length, listed);
     let span = samples::span(rng, places.min(LONGEST));
@@ -232,14 +205,14 @@ fn few_outputs(rng: &mut Rng) -> u64 {
 /// One call of any kind, which leaves the state that the next one gets.
 fn any_call(rng: &mut Rng, state: &mut State) -> Box<dyn Case> {
     match rng.below(16) {
-        0 => GAIN.of(Read(state.clone())).0,
-        1 => GAIN_BITS.of(Read(state.clone())).0,
+        0 => GAIN.of(state.clone()).0,
+        1 => GAIN_BITS.of(state.clone()).0,
         2..=6 => {
             let outputs = few_outputs(rng);
             some_block(rng, state, outputs)
         }
-        7..=10 => PROCESS_SAMPLE_SCALED.on(state, Sample(samples::one(rng))),
-        _ => PROCESS_SAMPLE.on(state, Sample(samples::one(rng))),
+        7..=10 => PROCESS_SAMPLE_SCALED.on(state, some_sample(rng)),
+        _ => PROCESS_SAMPLE.on(state, some_sample(rng)),
     }
 }
 
@@ -348,7 +321,7 @@ pub fn cases(rng: &mut Rng) -> Cases {
         }
         26..=31 => {
             let mut state = gain_edge(rng);
-            vec![PROCESS_SAMPLE_SCALED.on(&mut state, Sample(samples::one(rng)))]
+            vec![PROCESS_SAMPLE_SCALED.on(&mut state, some_sample(rng))]
         }
         32..=55 => {
             let mut state = midway(rng);

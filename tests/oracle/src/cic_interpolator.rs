@@ -1,10 +1,10 @@
 //! Cases of `CicInterpolator`.
 
 use crate::archive::integer;
-use crate::calls::{Answers, Free, Push, Read, Single, Value, Written};
+use crate::calls::{Free, Push, Single, Value, Written};
 use crate::case::{Case, Cases, Operation};
 use crate::cic_settings::{self, Settings};
-use crate::field::{Field, Fields};
+use crate::field::{Fields, fields};
 use crate::lent::{LONGEST, Lent};
 use crate::refusals;
 use crate::rng::Rng;
@@ -15,7 +15,7 @@ use embedded_dsp::resampling::CicInterpolator;
 
 pub type New = Free<Settings, State>;
 pub type Step = Single<State, Push<i32>, Written>;
-pub type Reading<T> = Free<Read<State>, Value<T>>;
+pub type Reading<T> = Free<State, Value<T>>;
 
 const NEW: Operation<New> = Operation {
     code: 0x21,
@@ -36,26 +36,27 @@ const PROCESS_SAMPLE: Operation<Step> = Operation {
 const GAIN: Operation<Reading<u64>> = Operation {
     code: 0x23,
     name: "CicInterpolator::gain",
-    refusal: Some(|call| call.lent.0.refusal()),
-    rust: |call| call.answer.0 = with_stages!(call.lent.0.stages, gain(&call.lent.0)),
+    refusal: Some(|call| call.lent.refusal()),
+    rust: |call| call.answer.value = with_stages!(call.lent.stages, gain(&call.lent)),
     archive: integer::cic_interpolator_gain,
 };
 
 const GAIN_BITS: Operation<Reading<u32>> = Operation {
     code: 0x24,
     name: "CicInterpolator::gain_bits",
-    refusal: Some(|call| call.lent.0.refusal()),
-    rust: |call| call.answer.0 = with_stages!(call.lent.0.stages, gain_bits(&call.lent.0)),
+    refusal: Some(|call| call.lent.refusal()),
+    rust: |call| call.answer.value = with_stages!(call.lent.stages, gain_bits(&call.lent)),
     archive: integer::cic_interpolator_gain_bits,
 };
 
-/// The port's state: the Rust has N as a constant, and N places for 8.
-#[derive(Clone)]
-pub struct State {
-    pub stages: u64,
-    pub r: u64,
-    pub combs: [i32; 8],
-    pub integrators: [i32; 8],
+fields! {
+    /// The port's state: the Rust has N as a constant, and N places for 8.
+    pub struct State {
+        stages: u64,
+        r: u64,
+        combs: [i32; 8],
+        integrators: [i32; 8],
+    }
 }
 
 impl State {
@@ -80,28 +81,6 @@ impl State {
     }
 }
 
-impl Fields for State {
-    fn fields(&mut self) -> Vec<Field<'_>> {
-        vec![
-            Field::one("stages", &mut self.stages),
-            Field::one("r", &mut self.r),
-            Field::plain("combs", &mut self.combs),
-            Field::plain("integrators", &mut self.integrators),
-        ]
-    }
-}
-
-impl Answers for State {
-    fn zeros() -> Self {
-        State {
-            stages: 0,
-            r: 0,
-            combs: [0; 8],
-            integrators: [0; 8],
-        }
-    }
-}
-
 fn opened<const N: usize>(r: u64) -> State {
     let mut state = State::zeros();
     state.stages = N as u64;
@@ -113,7 +92,7 @@ fn sample<const N: usize>(call: &mut Step) {
     let mut rust = call.state.rust::<N>();
     rust.process_sample(call.lent.sample, &mut call.lent.span.elements);
     call.state.keep(&rust);
-    call.answer.0 = call.state.r;
+    call.answer.written = call.state.r;
 }
 
 fn gain<const N: usize>(state: &State) -> u64 {
@@ -129,10 +108,7 @@ fn some_opening(rng: &mut Rng) -> Box<dyn Case> {
 }
 
 fn gains(state: &State) -> Cases {
-    vec![
-        GAIN.of(Read(state.clone())).0,
-        GAIN_BITS.of(Read(state.clone())).0,
-    ]
+    vec![GAIN.of(state.clone()).0, GAIN_BITS.of(state.clone()).0]
 }
 
 /// A span that is exactly r long, longer, or too short.
@@ -158,8 +134,8 @@ fn some_sample(rng: &mut Rng, state: &mut State) -> Box<dyn Case> {
 /// One call of any kind, which leaves the state that the next one gets.
 fn any_call(rng: &mut Rng, state: &mut State) -> Box<dyn Case> {
     match rng.below(8) {
-        0 => GAIN.of(Read(state.clone())).0,
-        1 => GAIN_BITS.of(Read(state.clone())).0,
+        0 => GAIN.of(state.clone()).0,
+        1 => GAIN_BITS.of(state.clone()).0,
         _ => some_sample(rng, state),
     }
 }

@@ -1,17 +1,18 @@
 //! The settings of a CIC converter, N and r: within 01's limits, at their ends and outside.
 
-use crate::calls::Lends;
-use crate::field::{Field, Fields};
+use crate::field::fields;
 use crate::refusals;
 use crate::rng::Rng;
 use crate::settings::bad_factor;
 
 const MOST: u64 = 4096;
 
-#[derive(Clone)]
-pub struct Settings {
-    pub stages: u64,
-    pub r: u64,
+fields! {
+    /// What a CIC converter is opened with.
+    pub struct Settings {
+        stages: u64,
+        r: u64,
+    }
 }
 
 impl Settings {
@@ -19,17 +20,6 @@ impl Settings {
         refusals::cic_opening(self.stages, self.r)
     }
 }
-
-impl Fields for Settings {
-    fn fields(&mut self) -> Vec<Field<'_>> {
-        vec![
-            Field::one("stages", &mut self.stages),
-            Field::one("r", &mut self.r),
-        ]
-    }
-}
-
-impl Lends for Settings {}
 
 pub fn stages(rng: &mut Rng) -> u64 {
     rng.within(1, 8)

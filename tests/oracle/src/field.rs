@@ -40,54 +40,138 @@ pub struct Field<'a> {
 }
 
 impl<'a> Field<'a> {
-    fn of<T: Element>(name: &'static str, shape: Shape, places: Places<'a, T>) -> Self {
+    fn of<T: Element>(shape: Shape, places: Places<'a, T>) -> Self {
         Field {
             part: "",
-            name,
+            name: "",
             role: Role::Lent,
             shape,
             values: Box::new(places),
         }
     }
 
-    pub fn one<T: Element>(name: &'static str, value: &'a mut T) -> Self {
-        Field::plain(name, std::slice::from_mut(value))
-    }
-
-    pub fn plain<T: Element>(name: &'static str, values: &'a mut [T]) -> Self {
-        Field::of(name, Shape::Plain, Places::Fixed(values))
-    }
-
-    pub fn array<T: Element>(name: &'static str, places: &'a mut [T]) -> Self {
-        Field::of(name, Shape::Array, Places::Fixed(places))
-    }
-
-    pub fn list<T: Element>(name: &'static str, elements: &'a mut Vec<T>) -> Self {
-        Field::of(name, Shape::Array, Places::Slice(elements))
-    }
-
-    pub fn slice<T: Element>(name: &'static str, slice: &'a mut Slice<T>) -> Self {
-        let shape = Shape::Slice(slice.drawn.clone());
-        Field::of(name, shape, Places::Slice(&mut slice.elements))
-    }
-
-    /// Whether it is lent, and not only answered.
-    pub fn is_lent(&self) -> bool {
-        [Role::Lent, Role::Span, Role::State].contains(&self.role)
+    pub fn named(mut self, name: &'static str) -> Self {
+        self.name = name;
+        self
     }
 
     pub fn role(mut self, role: Role) -> Self {
         self.role = role;
         self
     }
+
+    /// Whether it is lent, and not only answered.
+    pub fn is_lent(&self) -> bool {
+        [Role::Lent, Role::Span, Role::State].contains(&self.role)
+    }
 }
 
-/// A state, or what one is opened with.
+/// The type of a field.
+pub trait Member {
+    fn field(&mut self) -> Field<'_>;
+    fn zeros() -> Self;
+}
+
+impl<T: Element> Member for T {
+    fn field(&mut self) -> Field<'_> {
+        let places = Places::Fixed(std::slice::from_mut(self));
+        Field::of(Shape::Plain, places)
+    }
+
+    fn zeros() -> Self {
+        T::default()
+    }
+}
+
+impl<T: Element, const N: usize> Member for [T; N] {
+    fn field(&mut self) -> Field<'_> {
+        Field::of(T::ARRAY, Places::Fixed(self))
+    }
+
+    fn zeros() -> Self {
+        [T::default(); N]
+    }
+}
+
+impl<T: Element> Member for Vec<T> {
+    fn field(&mut self) -> Field<'_> {
+        Field::of(T::ARRAY, Places::Slice(self))
+    }
+
+    fn zeros() -> Self {
+        Vec::new()
+    }
+}
+
+impl<T: Element> Member for Slice<T> {
+    fn field(&mut self) -> Field<'_> {
+        let shape = Shape::Slice(self.drawn.clone());
+        Field::of(shape, Places::Slice(&mut self.elements)).role(self.role)
+    }
+
+    fn zeros() -> Self {
+        Vec::new().into()
+    }
+}
+
+/// What has fields: a state, what a call is lent, what it answers.
 pub trait Fields: Clone + 'static {
     /// In the order of a record.
     fn fields(&mut self) -> Vec<Field<'_>>;
+
+    /// What is answered before the call, and by a refused opening.
+    fn zeros() -> Self;
 
     fn fields_as(&mut self, role: Role) -> Vec<Field<'_>> {
         self.fields().into_iter().map(|f| f.role(role)).collect()
     }
 }
+
+impl Fields for () {
+    fn fields(&mut self) -> Vec<Field<'_>> {
+        Vec::new()
+    }
+
+    fn zeros() {}
+}
+
+/// A struct whose members are its fields.
+macro_rules! fields {
+    ($(#[$doc:meta])* pub struct $name:ident { $($members:tt)* }) => {
+        crate::field::fields!(@ [$(#[$doc])*] $name [] [] { $($members)* });
+    };
+    ($(#[$doc:meta])* pub struct $name:ident<$($type:ident: Element),*> { $($members:tt)* }) => {
+        crate::field::fields!(
+            @ [$(#[$doc])*] $name [$($type: crate::element::Element),*] [$($type),*] { $($members)* }
+        );
+    };
+    ($(#[$doc:meta])* pub struct $name:ident<const $size:ident: usize> { $($members:tt)* }) => {
+        crate::field::fields!(
+            @ [$(#[$doc])*] $name [const $size: usize] [$size] { $($members)* }
+        );
+    };
+    (
+        @ [$($doc:tt)*] $name:ident [$($declared:tt)*] [$($used:tt)*]
+        { $($member:ident: $type:ty),* $(,)? }
+    ) => {
+        $($doc)*
+        #[derive(Clone)]
+        pub struct $name<$($declared)*> {
+            $(pub $member: $type,)*
+        }
+
+        impl<$($declared)*> crate::field::Fields for $name<$($used)*> {
+            fn fields(&mut self) -> Vec<crate::field::Field<'_>> {
+                use crate::field::Member;
+                vec![$(self.$member.field().named(stringify!($member))),*]
+            }
+
+            fn zeros() -> Self {
+                $name {
+                    $($member: crate::field::Member::zeros(),)*
+                }
+            }
+        }
+    };
+}
+pub(crate) use fields;

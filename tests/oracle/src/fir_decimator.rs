@@ -1,9 +1,9 @@
 //! Cases of the streaming `FirDecimator`, which the Rust does not have: its outputs are those of the Rust's `polyphase_decimate_q15` on the whole list.
 
 use crate::archive::q15;
-use crate::calls::{Answers, Free, Lends, Made, Sample, Single};
+use crate::calls::{Free, Made, Sample, Single};
 use crate::case::{Case, Cases, Operation};
-use crate::field::{Field, Fields};
+use crate::field::{Fields, fields};
 use crate::lent::{LONGEST, Lent, Slice};
 use crate::polyphase_q15;
 use crate::q15_samples;
@@ -29,7 +29,7 @@ const PROCESS_SAMPLE: Operation<Step> = Operation {
     code: 0x42,
     name: "FirDecimator::process_sample",
     refusal: Some(|call| call.state.refusal()),
-    rust: |call| call.answer = call.state.sample(call.lent.0).into(),
+    rust: |call| call.answer = call.state.sample(call.lent.sample).into(),
     archive: q15::fir_decimator_process_sample,
 };
 
@@ -51,11 +51,12 @@ const RUN: Operation<Run> = Operation {
 
 const MOST_TAPS: u64 = 64;
 
-/// What a decimator is opened with.
-#[derive(Clone)]
-pub struct Settings {
-    pub factor: u64,
-    pub taps: Slice<i16>,
+fields! {
+    /// What a decimator is opened with.
+    pub struct Settings {
+        factor: u64,
+        taps: Slice<i16>,
+    }
 }
 
 impl Settings {
@@ -71,24 +72,14 @@ impl Settings {
     }
 }
 
-impl Fields for Settings {
-    fn fields(&mut self) -> Vec<Field<'_>> {
-        vec![
-            Field::one("factor", &mut self.factor),
-            Field::slice("taps", &mut self.taps),
-        ]
+fields! {
+    pub struct State {
+        tap_count: u64,
+        factor: u64,
+        wait: u64,
+        taps: [i16; 64],
+        delay: [i16; 64],
     }
-}
-
-impl Lends for Settings {}
-
-#[derive(Clone)]
-pub struct State {
-    pub tap_count: u64,
-    pub factor: u64,
-    pub wait: u64,
-    pub taps: [i16; 64],
-    pub delay: [i16; 64],
 }
 
 impl State {
@@ -144,30 +135,6 @@ impl State {
     }
 }
 
-impl Fields for State {
-    fn fields(&mut self) -> Vec<Field<'_>> {
-        vec![
-            Field::one("tap_count", &mut self.tap_count),
-            Field::one("factor", &mut self.factor),
-            Field::one("wait", &mut self.wait),
-            Field::array("taps", &mut self.taps),
-            Field::array("delay", &mut self.delay),
-        ]
-    }
-}
-
-impl Answers for State {
-    fn zeros() -> Self {
-        State {
-            tap_count: 0,
-            factor: 0,
-            wait: 0,
-            taps: [0; 64],
-            delay: [0; 64],
-        }
-    }
-}
-
 /// Every output of the list, which the Rust makes of it as a whole.
 pub fn outputs(taps: &[i16], factor: u64, list: &[i16]) -> Vec<i16> {
     match taps.is_empty() {
@@ -188,7 +155,8 @@ fn run(call: &mut Run) {
 }
 
 fn some_sample(rng: &mut Rng, state: &mut State) -> Box<dyn Case> {
-    PROCESS_SAMPLE.on(state, Sample(q15_samples::one(rng)))
+    let sample = q15_samples::one(rng);
+    PROCESS_SAMPLE.on(state, Sample { sample })
 }
 
 fn any_call(rng: &mut Rng, state: &mut State) -> Box<dyn Case> {

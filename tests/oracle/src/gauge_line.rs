@@ -1,6 +1,6 @@
 //! The gauge line as its fields, and its step: put together from the Rust's converters as 01, section 6 says.
 
-use crate::calls::{Answers, Buffers, Counts};
+use crate::calls::{Buffers, Counts};
 use crate::cic_decimator;
 use crate::field::{Field, Fields};
 use crate::fir_decimator;
@@ -20,16 +20,6 @@ pub struct Line {
 }
 
 impl Line {
-    /// What a refused opening leaves.
-    pub fn zeros() -> Self {
-        Line {
-            cic: cic_decimator::State::zeros(),
-            fir: fir_decimator::State::zeros(),
-            half_band: hbf_stream::State::zeros(),
-            resampler: polyphase_resamp::State::zeros(),
-        }
-    }
-
     /// "A part that is off is opened as zeros, settings too."
     pub fn opened(settings: &Settings) -> Self {
         Line {
@@ -150,5 +140,14 @@ impl Fields for Line {
             fields.into_iter().map(move |field| Field { part, ..field })
         };
         parts.into_iter().flat_map(named).collect()
+    }
+
+    fn zeros() -> Self {
+        Line {
+            cic: Fields::zeros(),
+            fir: Fields::zeros(),
+            half_band: Fields::zeros(),
+            resampler: Fields::zeros(),
+        }
     }
 }

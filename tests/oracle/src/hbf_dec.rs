@@ -1,24 +1,42 @@
 //! `HbfDec` of the Rust, for the half-band cases.
 
 use crate::archive::float;
-use crate::case::{Cases, Operation};
-use crate::half_band::{self, Block, HalfBand, New, Reset, State, Step};
+use crate::calls::{Single, Value};
+use crate::case::Operation;
+use crate::field::fields;
+use crate::float_samples;
+use crate::half_band::{Block, HalfBand, New, Reset, State};
 use crate::rng::Rng;
 use crate::sizes::{front, with_half_band};
 use embedded_dsp::resampling::HbfDec;
 
-struct Decimator;
+pub type Step = Single<State<96>, Pair, Value<f32>>;
 
-impl HalfBand<96, 2, 1> for Decimator {
+fields! {
+    /// What one step takes.
+    pub struct Pair {
+        a: f32,
+        b: f32,
+    }
+}
+
+pub struct Decimator;
+
+impl HalfBand<96> for Decimator {
+    const TAKES: u64 = 2;
+    const GIVES: u64 = 1;
+    type Samples = Pair;
+    type Outputs = Value<f32>;
+
     const NEW: Operation<New<96>> = Operation {
         code: 0x61,
         name: "HbfDec::new",
         refusal: Some(New::refusal),
-        rust: |call| with_half_band!(call.lent.0.len(), new(call)),
+        rust: |call| with_half_band!(call.lent.taps.len(), new(call)),
         archive: float::hbf_dec_new,
     };
 
-    const STEP: Operation<Step<96, 2, 1>> = Operation {
+    const STEP: Operation<Step> = Operation {
         code: 0x62,
         name: "HbfDec::process_pair",
         refusal: Some(|call| call.state.refusal()),
@@ -41,10 +59,17 @@ impl HalfBand<96, 2, 1> for Decimator {
         rust: |call| with_half_band!(call.state.m, reset(call)),
         archive: float::hbf_dec_reset,
     };
+
+    fn some_samples(rng: &mut Rng) -> Pair {
+        Pair {
+            a: float_samples::one(rng),
+            b: float_samples::one(rng),
+        }
+    }
 }
 
 fn new<const M: usize>(call: &mut New<96>) {
-    let taps = front(&call.lent.0.elements);
+    let taps = front(&call.lent.taps.elements);
     call.open(HbfDec::<M>::new(taps).parts().1);
 }
 
@@ -52,9 +77,9 @@ fn rust<const M: usize>(state: &State<96>) -> HbfDec<M> {
     HbfDec::from_parts(front(&state.coeffs), state.delay)
 }
 
-fn pair<const M: usize>(call: &mut Step<96, 2, 1>) {
+fn pair<const M: usize>(call: &mut Step) {
     let mut filter = rust::<M>(&call.state);
-    call.answer.0 = [filter.process_pair(call.lent.0)];
+    call.answer.value = filter.process_pair([call.lent.a, call.lent.b]);
     call.state.delay = filter.parts().1;
 }
 
@@ -62,19 +87,11 @@ fn process<const M: usize>(call: &mut Block<96>) {
     let mut filter = rust::<M>(&call.state);
     filter.process(&call.lent.samples.elements, &mut call.lent.span.elements);
     call.state.delay = filter.parts().1;
-    call.wrote(2, 1);
+    call.answer.written = call.lent.whole(2, 1);
 }
 
 fn reset<const M: usize>(call: &mut Reset<96>) {
     let mut filter = rust::<M>(&call.state);
     filter.reset();
     call.state.restart(filter.parts().1);
-}
-
-pub fn cases(rng: &mut Rng) -> Cases {
-    half_band::cases::<96, 2, 1, Decimator>(rng)
-}
-
-pub fn long(rng: &mut Rng) -> Cases {
-    half_band::long::<96, 2, 1, Decimator>(rng)
 }

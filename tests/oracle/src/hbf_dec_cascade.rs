@@ -1,13 +1,13 @@
 //! `HbfDecCascade` of the Rust, for the cascades' cases.
 
 use crate::archive::float;
-use crate::cascade::{self, Block, Cascade, New, Reset, State};
-use crate::case::{Cases, Operation};
-use crate::rng::Rng;
+use crate::cascade::{Block, Cascade, New, Reset, State};
+use crate::case::Operation;
+use crate::refusals;
 use crate::sizes::{front, with_depth};
 use embedded_dsp::resampling::HbfDecCascade;
 
-struct Decimators;
+pub struct Decimators;
 
 impl Cascade<480> for Decimators {
     const TAKES: usize = 2;
@@ -16,8 +16,8 @@ impl Cascade<480> for Decimators {
     const NEW: Operation<New<480>> = Operation {
         code: 0x81,
         name: "HbfDecCascade::new",
-        refusal: Some(cascade::opening_refusal),
-        rust: |call| with_depth!(call.lent.0, new(call)),
+        refusal: Some(|call| refusals::cascade_opening(call.lent.depth)),
+        rust: |call| with_depth!(call.lent.depth, new(call)),
         archive: float::hbf_dec_cascade_new,
     };
 
@@ -57,7 +57,8 @@ fn process<const D: usize>(call: &mut Block<480>) {
     let mut cascade = rust::<D>(&call.state);
     cascade.process(&call.lent.samples.elements, &mut call.lent.span.elements);
     call.state.delays = delays(&cascade);
-    call.wrote::<Decimators>();
+    let (takes, gives) = Decimators::frame(call.state.depth);
+    call.answer.written = call.lent.whole(takes, gives);
 }
 
 /// A fresh opening of the same depth; the Rust clears every stage.
@@ -65,12 +66,4 @@ fn reset<const D: usize>(call: &mut Reset<480>) {
     let mut cascade = rust::<D>(&call.state);
     cascade.reset();
     call.state.delays = delays(&cascade);
-}
-
-pub fn cases(rng: &mut Rng) -> Cases {
-    cascade::cases::<480, Decimators>(rng)
-}
-
-pub fn long(rng: &mut Rng) -> Cases {
-    cascade::long::<480, Decimators>(rng)
 }

@@ -1,24 +1,42 @@
 //! `HbfInt` of the Rust, for the half-band cases.
 
 use crate::archive::float;
-use crate::case::{Cases, Operation};
-use crate::half_band::{self, Block, HalfBand, New, Reset, State, Step};
+use crate::calls::{Sample, Single};
+use crate::case::Operation;
+use crate::field::fields;
+use crate::float_samples;
+use crate::half_band::{Block, HalfBand, New, Reset, State};
 use crate::rng::Rng;
 use crate::sizes::{front, with_half_band};
 use embedded_dsp::resampling::HbfInt;
 
-struct Interpolator;
+pub type Step = Single<State<48>, Sample<f32>, Outputs>;
 
-impl HalfBand<48, 1, 2> for Interpolator {
+fields! {
+    /// What one step gives.
+    pub struct Outputs {
+        even: f32,
+        odd: f32,
+    }
+}
+
+pub struct Interpolator;
+
+impl HalfBand<48> for Interpolator {
+    const TAKES: u64 = 1;
+    const GIVES: u64 = 2;
+    type Samples = Sample<f32>;
+    type Outputs = Outputs;
+
     const NEW: Operation<New<48>> = Operation {
         code: 0x71,
         name: "HbfInt::new",
         refusal: Some(New::refusal),
-        rust: |call| with_half_band!(call.lent.0.len(), new(call)),
+        rust: |call| with_half_band!(call.lent.taps.len(), new(call)),
         archive: float::hbf_int_new,
     };
 
-    const STEP: Operation<Step<48, 1, 2>> = Operation {
+    const STEP: Operation<Step> = Operation {
         code: 0x72,
         name: "HbfInt::process_sample",
         refusal: Some(|call| call.state.refusal()),
@@ -41,10 +59,16 @@ impl HalfBand<48, 1, 2> for Interpolator {
         rust: |call| with_half_band!(call.state.m, reset(call)),
         archive: float::hbf_int_reset,
     };
+
+    fn some_samples(rng: &mut Rng) -> Sample<f32> {
+        Sample {
+            sample: float_samples::one(rng),
+        }
+    }
 }
 
 fn new<const M: usize>(call: &mut New<48>) {
-    let taps = front(&call.lent.0.elements);
+    let taps = front(&call.lent.taps.elements);
     call.open(HbfInt::<M>::new(taps).parts().1);
 }
 
@@ -52,9 +76,9 @@ fn rust<const M: usize>(state: &State<48>) -> HbfInt<M> {
     HbfInt::from_parts(front(&state.coeffs), state.delay)
 }
 
-fn sample<const M: usize>(call: &mut Step<48, 1, 2>) {
+fn sample<const M: usize>(call: &mut Step) {
     let mut filter = rust::<M>(&call.state);
-    call.answer.0 = filter.process_sample(call.lent.0[0]);
+    [call.answer.even, call.answer.odd] = filter.process_sample(call.lent.sample);
     call.state.delay = filter.parts().1;
 }
 
@@ -62,19 +86,11 @@ fn process<const M: usize>(call: &mut Block<48>) {
     let mut filter = rust::<M>(&call.state);
     filter.process(&call.lent.samples.elements, &mut call.lent.span.elements);
     call.state.delay = filter.parts().1;
-    call.wrote(1, 2);
+    call.answer.written = call.lent.whole(1, 2);
 }
 
 fn reset<const M: usize>(call: &mut Reset<48>) {
     let mut filter = rust::<M>(&call.state);
     filter.reset();
     call.state.restart(filter.parts().1);
-}
-
-pub fn cases(rng: &mut Rng) -> Cases {
-    half_band::cases::<48, 1, 2, Interpolator>(rng)
-}
-
-pub fn long(rng: &mut Rng) -> Cases {
-    half_band::long::<48, 1, 2, Interpolator>(rng)
 }

@@ -1,13 +1,13 @@
 //! `HbfIntCascade` of the Rust, for the cascades' cases.
 
 use crate::archive::float;
-use crate::cascade::{self, Block, Cascade, New, Reset, State};
-use crate::case::{Cases, Operation};
-use crate::rng::Rng;
+use crate::cascade::{Block, Cascade, New, Reset, State};
+use crate::case::Operation;
+use crate::refusals;
 use crate::sizes::{front, with_depth};
 use embedded_dsp::resampling::HbfIntCascade;
 
-struct Interpolators;
+pub struct Interpolators;
 
 impl Cascade<240> for Interpolators {
     const TAKES: usize = 1;
@@ -16,8 +16,8 @@ impl Cascade<240> for Interpolators {
     const NEW: Operation<New<240>> = Operation {
         code: 0x91,
         name: "HbfIntCascade::new",
-        refusal: Some(cascade::opening_refusal),
-        rust: |call| with_depth!(call.lent.0, new(call)),
+        refusal: Some(|call| refusals::cascade_opening(call.lent.depth)),
+        rust: |call| with_depth!(call.lent.depth, new(call)),
         archive: float::hbf_int_cascade_new,
     };
 
@@ -57,7 +57,8 @@ fn process<const D: usize>(call: &mut Block<240>) {
     let mut cascade = rust::<D>(&call.state);
     cascade.process(&call.lent.samples.elements, &mut call.lent.span.elements);
     call.state.delays = delays(&cascade);
-    call.wrote::<Interpolators>();
+    let (takes, gives) = Interpolators::frame(call.state.depth);
+    call.answer.written = call.lent.whole(takes, gives);
 }
 
 /// A fresh opening of the same depth; the Rust clears every stage.
@@ -65,12 +66,4 @@ fn reset<const D: usize>(call: &mut Reset<240>) {
     let mut cascade = rust::<D>(&call.state);
     cascade.reset();
     call.state.delays = delays(&cascade);
-}
-
-pub fn cases(rng: &mut Rng) -> Cases {
-    cascade::cases::<240, Interpolators>(rng)
-}
-
-pub fn long(rng: &mut Rng) -> Cases {
-    cascade::long::<240, Interpolators>(rng)
 }

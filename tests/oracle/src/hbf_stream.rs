@@ -1,11 +1,11 @@
 //! Cases of the streaming `HbfStream`, which the Rust does not have: each stage is the Rust's.
 
 use crate::archive::float;
-use crate::calls::{Answers, Free, Made, Sample, Single};
+use crate::calls::{Free, Made, Sample, Single};
 use crate::case::{Case, Cases, Operation};
-use crate::field::{Field, Fields};
+use crate::field::{Fields, fields};
 use crate::float_samples;
-use crate::lent::{LONGEST, Slice};
+use crate::lent::{LONGEST, Lent, Slice};
 use crate::refusals;
 use crate::rng::Rng;
 use crate::settings;
@@ -22,8 +22,8 @@ type Run = Stream<Depth, State, f32>;
 const NEW: Operation<New> = Operation {
     code: 0xa1,
     name: "HbfStream::new",
-    refusal: Some(|call| refusals::depth(call.lent.0)),
-    rust: |call| call.answer = State::opened(call.lent.0),
+    refusal: Some(|call| refusals::depth(call.lent.depth)),
+    rust: |call| call.answer = State::opened(call.lent.depth),
     archive: float::hbf_stream_new,
 };
 
@@ -31,7 +31,7 @@ const PROCESS_SAMPLE: Operation<Step> = Operation {
     code: 0xa2,
     name: "HbfStream::process_sample",
     refusal: Some(|call| call.state.refusal()),
-    rust: |call| call.answer = call.state.sample(call.lent.0).into(),
+    rust: |call| call.answer = call.state.sample(call.lent.sample).into(),
     archive: float::hbf_stream_process_sample,
 };
 
@@ -46,29 +46,28 @@ const RESET: Operation<Reset> = Operation {
 const RUN: Operation<Run> = Operation {
     code: 0,
     name: "HbfStream::new, then process_sample for each sample",
-    refusal: Some(|call| refusals::depth(call.lent.opening.0)),
+    refusal: Some(|call| refusals::depth(call.lent.opening.depth)),
     rust: |call| {
-        let (depth, list) = (call.lent.opening.0, &call.lent.samples.elements);
+        let (depth, list) = (call.lent.opening.depth, &call.lent.samples.elements);
         (call.answer.state, call.answer.outputs) = whole_list(depth, list);
     },
     archive: |call| call.run(float::hbf_stream_new, float::hbf_stream_process_sample),
 };
 
-#[derive(Clone)]
-pub struct State {
-    pub depth: u64,
-    pub counts: [u64; 5],
-    pub delays: [f32; 480],
-    pub held: [f32; 5],
+fields! {
+    pub struct State {
+        depth: u64,
+        counts: [u64; 5],
+        delays: [f32; 480],
+        held: [f32; 5],
+    }
 }
 
 impl State {
     pub fn opened(depth: u64) -> Self {
         State {
             depth,
-            counts: [0; 5],
-            delays: [0.0; 480],
-            held: [0.0; 5],
+            ..State::zeros()
         }
     }
 
@@ -94,23 +93,6 @@ impl State {
         }
         self.delays = front(rust.parts().as_flattened());
         Some(value)
-    }
-}
-
-impl Fields for State {
-    fn fields(&mut self) -> Vec<Field<'_>> {
-        vec![
-            Field::one("depth", &mut self.depth),
-            Field::plain("counts", &mut self.counts),
-            Field::array("delays", &mut self.delays),
-            Field::array("held", &mut self.held),
-        ]
-    }
-}
-
-impl Answers for State {
-    fn zeros() -> Self {
-        State::opened(0)
     }
 }
 
@@ -152,7 +134,10 @@ pub fn outputs(depth: u64, list: &[f32]) -> Vec<f32> {
 fn any_call(rng: &mut Rng, state: &mut State) -> Box<dyn Case> {
     match rng.below(8) {
         0 => RESET.on(state, ()),
-        _ => PROCESS_SAMPLE.on(state, Sample(float_samples::one(rng))),
+        _ => {
+            let sample = float_samples::one(rng);
+            PROCESS_SAMPLE.on(state, Sample { sample })
+        }
     }
 }
 
@@ -196,15 +181,22 @@ fn stream(rng: &mut Rng) -> Cases {
     (start..start + calls)
         .map(|i| {
             let (mut state, _) = whole_list(depth, &list.elements[..i]);
-            PROCESS_SAMPLE.on(&mut state, Sample(list.elements[i]))
+            let sample = list.elements[i];
+            PROCESS_SAMPLE.on(&mut state, Sample { sample })
         })
         .collect()
 }
 
 pub fn cases(rng: &mut Rng) -> Cases {
     match rng.below(32) {
-        0..=2 => vec![NEW.of(Depth(rng.below(6))).0],
-        3 => vec![NEW.of(Depth(settings::bad_depth(rng))).0],
+        0..=2 => {
+            let depth = rng.below(6);
+            vec![NEW.of(Depth { depth }).0]
+        }
+        3 => {
+            let depth = settings::bad_depth(rng);
+            vec![NEW.of(Depth { depth }).0]
+        }
         4..=7 => {
             let mut state = damaged(rng);
             vec![any_call(rng, &mut state)]
@@ -217,15 +209,20 @@ pub fn cases(rng: &mut Rng) -> Cases {
     }
 }
 
+fn some_run(rng: &mut Rng, samples: Lent) -> Cases {
+    let depth = rng.below(6);
+    vec![RUN.of(Lists::of(Depth { depth }, samples)).0]
+}
+
 /// Lists as a whole.
 pub fn more(rng: &mut Rng) -> Cases {
     let length = rng.below(400);
     let samples = float_samples::list(rng, length);
-    vec![RUN.of(Lists::of(Depth(rng.below(6)), samples)).0]
+    some_run(rng, samples)
 }
 
 pub fn long(rng: &mut Rng) -> Cases {
     let length = rng.within(LONGEST / 2, LONGEST);
     let samples = float_samples::noise(rng, length);
-    vec![RUN.of(Lists::of(Depth(rng.below(6)), samples)).0]
+    some_run(rng, samples)
 }

@@ -1,6 +1,7 @@
 //! A slice that a case lends: its first elements are listed, and the others follow a pattern, so that a long slice makes a short record.
 
 use crate::element::Element;
+use crate::field::Role;
 use std::rc::Rc;
 
 /// The most elements that `replay` has room for: 01's limit of 65,536, and some more to exceed it.
@@ -51,13 +52,16 @@ impl Lent {
 pub struct Slice<T> {
     pub drawn: Rc<Lent>,
     pub elements: Vec<T>,
+    pub role: Role,
 }
 
 impl<T: Element> From<Lent> for Slice<T> {
     fn from(drawn: Lent) -> Self {
+        let elements = (0..drawn.length).map(|i| T::of(drawn.element(i)));
         Slice {
-            elements: (0..drawn.length).map(|i| T::of(drawn.element(i))).collect(),
+            elements: elements.collect(),
             drawn: Rc::new(drawn),
+            role: Role::Lent,
         }
     }
 }
@@ -67,11 +71,20 @@ impl<T: Element> From<Vec<T>> for Slice<T> {
         Slice {
             drawn: Rc::new(Lent::pattern(elements.len() as u64, 0, 0)),
             elements,
+            role: Role::Lent,
         }
     }
 }
 
 impl<T: Element> Slice<T> {
+    /// One that a call writes to.
+    pub fn span(drawn: Lent) -> Self {
+        Slice {
+            role: Role::Span,
+            ..drawn.into()
+        }
+    }
+
     /// The same drawn at another length.
     pub fn resized(&self, length: usize) -> Self {
         let mut drawn = (*self.drawn).clone();
@@ -79,9 +92,7 @@ impl<T: Element> Slice<T> {
         drawn.listed.truncate(length);
         drawn.into()
     }
-}
 
-impl<T> Slice<T> {
     pub fn len(&self) -> usize {
         self.elements.len()
     }

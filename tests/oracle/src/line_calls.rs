@@ -1,9 +1,9 @@
 //! The calls of the gauge line. But for the opening they are never listed: no record has a line's fields.
 
 use crate::archive::line;
-use crate::calls::{Answers, Buffers, Counts, Free, Lends, Single};
+use crate::calls::{Buffers, Counts, Free, Single};
 use crate::case::Operation;
-use crate::field::{Field, Fields, Role};
+use crate::field::{Field, Fields, Role, fields};
 use crate::gauge_line::Line;
 use crate::lent::Slice;
 use crate::line_settings::Settings;
@@ -54,23 +54,22 @@ impl Fields for Opened {
         self.0.fields()
     }
 
+    fn zeros() -> Self {
+        Opened(Line::zeros())
+    }
+
     fn fields_as(&mut self, _: Role) -> Vec<Field<'_>> {
         self.0.fields_as(Role::Unlisted)
     }
 }
 
-impl Answers for Opened {
-    fn zeros() -> Self {
-        Opened(Line::zeros())
+fields! {
+    /// The samples of which one is the next, and how many places are left.
+    pub struct Next {
+        samples: Slice<i32>,
+        at: u64,
+        places: u64,
     }
-}
-
-/// The samples of which one is the next, and how many places are left.
-#[derive(Clone)]
-pub struct Next {
-    pub samples: Slice<i32>,
-    pub at: u64,
-    pub places: u64,
 }
 
 impl Next {
@@ -80,28 +79,13 @@ impl Next {
     }
 }
 
-impl Fields for Next {
-    fn fields(&mut self) -> Vec<Field<'_>> {
-        vec![
-            Field::slice("samples", &mut self.samples),
-            Field::one("at", &mut self.at),
-            Field::one("places", &mut self.places),
-        ]
+fields! {
+    /// What a step did: how many samples it took, how many outputs it wrote, and the output.
+    pub struct Stepped {
+        taken: u64,
+        written: u64,
+        value: f32,
     }
-}
-
-impl Lends for Next {
-    fn samples(&self) -> u64 {
-        1
-    }
-}
-
-/// What a step did: how many samples it took, how many outputs it wrote, and the output.
-#[derive(Clone)]
-pub struct Stepped {
-    pub taken: u64,
-    pub written: u64,
-    pub value: f32,
 }
 
 impl Stepped {
@@ -115,25 +99,5 @@ impl Stepped {
 
     pub fn counts(&self) -> (u64, u64) {
         (self.taken, self.written)
-    }
-}
-
-impl Fields for Stepped {
-    fn fields(&mut self) -> Vec<Field<'_>> {
-        vec![
-            Field::one("taken", &mut self.taken),
-            Field::one("written", &mut self.written),
-            Field::one("value", &mut self.value),
-        ]
-    }
-}
-
-impl Answers for Stepped {
-    fn zeros() -> Self {
-        Stepped::of(0, None)
-    }
-
-    fn most(&self) -> u64 {
-        self.taken
     }
 }

@@ -3,6 +3,7 @@
 use crate::calls::Buffers;
 use crate::case::{Case, Cases};
 use crate::cic_decimator;
+use crate::field::Fields;
 use crate::fir_decimator;
 use crate::gauge_line::Line;
 use crate::hbf_stream;

@@ -3,7 +3,7 @@
 use crate::calls::Buffers;
 use crate::case::{Case, Cases};
 use crate::cic_settings;
-use crate::field::{Field, Fields};
+use crate::field::{Field, Fields, Member};
 use crate::gauge_line::Line;
 use crate::line_calls::{FEED, Next, RESET, STEP};
 use crate::line_samples;
@@ -19,18 +19,18 @@ const DAMAGED: u32 = 0xc3;
 /// The numbers that row 15 looks at.
 fn numbers(line: &mut Line) -> Vec<Field<'_>> {
     vec![
-        Field::one("stages", &mut line.cic.stages),
-        Field::one("r", &mut line.cic.r),
-        Field::one("sample_counter", &mut line.cic.sample_counter),
-        Field::one("tap_count", &mut line.fir.tap_count),
-        Field::one("factor", &mut line.fir.factor),
-        Field::one("wait", &mut line.fir.wait),
-        Field::one("depth", &mut line.half_band.depth),
-        Field::plain("counts", &mut line.half_band.counts),
-        Field::one("phases", &mut line.resampler.phases),
-        Field::one("taps", &mut line.resampler.taps),
-        Field::one("step", &mut line.resampler.step),
-        Field::one("mu", &mut line.resampler.mu),
+        line.cic.stages.field().named("stages"),
+        line.cic.r.field().named("r"),
+        line.cic.sample_counter.field().named("sample_counter"),
+        line.fir.tap_count.field().named("tap_count"),
+        line.fir.factor.field().named("factor"),
+        line.fir.wait.field().named("wait"),
+        line.half_band.depth.field().named("depth"),
+        line.half_band.counts.field().named("counts"),
+        line.resampler.phases.field().named("phases"),
+        line.resampler.taps.field().named("taps"),
+        line.resampler.step.field().named("step"),
+        line.resampler.mu.field().named("mu"),
     ]
 }
 

@@ -2,7 +2,7 @@
 
 use crate::archive::line;
 use crate::case::{Call, Case, Operation};
-use crate::field::{Field, Fields, Role};
+use crate::field::{Field, Fields, Role, fields};
 use crate::fir_decimator;
 use crate::hbf_stream;
 use crate::lent::{LONGEST, Lent, Slice};
@@ -25,35 +25,35 @@ const FEEDS: Operation<Feeds> = Operation {
     archive: line::feeds,
 };
 
-/// One feed: what it is lent, and what it answers.
-#[derive(Clone)]
-pub struct Fed {
-    pub samples: Slice<i32>,
-    pub span: Slice<f32>,
-    pub refusal: u32,
-    pub taken: u64,
-    pub written: u64,
+fields! {
+    /// One feed: what it is lent, and what it answers.
+    pub struct Fed {
+        samples: Slice<i32>,
+        span: Slice<f32>,
+        refusal: u32,
+        taken: u64,
+        written: u64,
+    }
 }
 
 impl Fed {
     fn of(samples: Slice<i32>, span: Lent) -> Self {
         Fed {
             samples,
-            span: span.into(),
+            span: Slice::span(span),
             refusal: 0,
             taken: 0,
             written: 0,
         }
     }
 
-    fn fields(&mut self) -> [Field<'_>; 5] {
-        [
-            Field::slice("samples", &mut self.samples),
-            Field::slice("span", &mut self.span).role(Role::Span),
-            Field::one("refusal", &mut self.refusal).role(Role::Answer),
-            Field::one("taken", &mut self.taken).role(Role::Answer),
-            Field::one("written", &mut self.written).role(Role::Answer),
-        ]
+    /// The first two are lent.
+    fn fields_and_answers(&mut self) -> Vec<Field<'_>> {
+        let mut fields = self.fields();
+        for answer in &mut fields[2..] {
+            answer.role = Role::Answer;
+        }
+        fields
     }
 }
 
@@ -76,12 +76,8 @@ impl Feeds {
 impl Call for Feeds {
     fn fields(&mut self) -> Vec<Field<'_>> {
         let mut fields = self.settings.fields();
-        fields.extend(self.feeds.iter_mut().flat_map(Fed::fields));
+        fields.extend(self.feeds.iter_mut().flat_map(Fed::fields_and_answers));
         fields
-    }
-
-    fn samples(&self) -> u64 {
-        self.feeds.iter().map(|fed| fed.taken).sum()
     }
 
     fn fewer(&self) -> Vec<Self> {
@@ -100,7 +96,11 @@ impl Call for Feeds {
         }
         record.word(before.feeds.len() as u32);
         for (before, after) in before.feeds.iter_mut().zip(&mut after.feeds) {
-            record.call(&before.fields(), None, &after.fields());
+            record.call(
+                &before.fields_and_answers(),
+                None,
+                &after.fields_and_answers(),
+            );
         }
     }
 }

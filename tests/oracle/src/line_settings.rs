@@ -1,8 +1,7 @@
 //! What a line is opened with: every part on and off, within 01's limits, at their ends and outside.
 
-use crate::calls::Lends;
 use crate::cic_settings;
-use crate::field::{Field, Fields};
+use crate::field::fields;
 use crate::float_samples;
 use crate::lent::{Lent, Slice};
 use crate::q15_samples;
@@ -37,17 +36,18 @@ pub const BAD_STEPS: [f32; 9] = [
     f32::NAN,
 ];
 
-#[derive(Clone)]
-pub struct Settings {
-    pub stages: u64,
-    pub r: u64,
-    pub factor: u64,
-    pub depth: u64,
-    pub phases: u64,
-    pub taps: u64,
-    pub step: f32,
-    pub fir: Slice<i16>,
-    pub prototype: Slice<f32>,
+fields! {
+    pub struct Settings {
+        stages: u64,
+        r: u64,
+        factor: u64,
+        depth: u64,
+        phases: u64,
+        taps: u64,
+        step: f32,
+        fir: Slice<i16>,
+        prototype: Slice<f32>,
+    }
 }
 
 impl Settings {
@@ -59,9 +59,7 @@ impl Settings {
             refusals::line_resampler(self.phases, self.taps, self.prototype.len(), self.step),
         ])
     }
-}
 
-impl Settings {
     /// About how many samples make an output.
     pub fn samples_for_output(&self) -> f32 {
         let thinned = match self.fir.len() {
@@ -75,24 +73,6 @@ impl Settings {
         ((self.r * thinned) << self.depth) as f32 * slowed
     }
 }
-
-impl Fields for Settings {
-    fn fields(&mut self) -> Vec<Field<'_>> {
-        vec![
-            Field::one("stages", &mut self.stages),
-            Field::one("r", &mut self.r),
-            Field::one("factor", &mut self.factor),
-            Field::one("depth", &mut self.depth),
-            Field::one("phases", &mut self.phases),
-            Field::one("taps", &mut self.taps),
-            Field::one("step", &mut self.step),
-            Field::slice("fir", &mut self.fir),
-            Field::slice("prototype", &mut self.prototype),
-        ]
-    }
-}
-
-impl Lends for Settings {}
 
 /// Within the limits, as a line that is fed has them: small factors often, so that few samples make an output.
 pub fn cic(rng: &mut Rng) -> (u64, u64) {

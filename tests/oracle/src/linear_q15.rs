@@ -3,11 +3,9 @@
 use crate::archive::q15;
 use crate::case::{Case, Cases, Operation};
 use crate::differences;
-use crate::linear::{Block, Buffers};
+use crate::linear::{self, Block};
 use crate::q15_samples;
 use crate::rng::Rng;
-use crate::samples;
-use crate::settings;
 use embedded_dsp::resampling::resample_linear_q15;
 
 const LINEAR: Operation<Block<i16, i32>> = Operation {
@@ -42,51 +40,24 @@ fn some_ratio(rng: &mut Rng) -> i32 {
     }
 }
 
-/// Positions that stay inside, end at the last sample or go past it.
 fn some_call(rng: &mut Rng) -> Box<dyn Case> {
     let ratio = some_ratio(rng);
-    let length = match rng.below(32) {
-        0 => rng.within(41, 600),
-        1..=8 => rng.within(1, 3),
-        _ => rng.within(1, 40),
-    };
-    let inside = (length << 16) / ratio.max(1) as u64;
-    let places = match rng.below(8) {
-        0 => rng.below(2),
-        1..=3 => inside.min(100) + rng.below(4),
-        _ => rng.below(60),
-    };
-    let mut input = q15_samples::list(rng, length);
-    let mut span = samples::span(rng, places);
-    if rng.one_in(24) {
-        input.length = settings::bad_length(rng);
-    }
-    if rng.one_in(24) {
-        span.length = settings::bad_places(rng);
-    }
-    LINEAR.of(Buffers::of(ratio, input, span)).0
+    let inside = |length| (length << 16) / ratio.max(1) as u64;
+    let buffers = linear::some_buffers(rng, ratio, inside, q15_samples::list);
+    LINEAR.of(buffers).0
 }
 
-/// At 01's limits and past them.
 fn longest_call(rng: &mut Rng) -> Box<dyn Case> {
-    let (length, listed) = (settings::length_around(rng), rng.within(1, 40));
-    let places = match rng.below(64) {
-        0 => settings::length_around(rng),
-        _ => listed,
-    };
-    let ratio = rng.within(1 << 26, i32::MAX as u64) as i32;
-    let input = q15_samples::list(rng, length);
-    let span = samples::span(rng, places);
-    LINEAR.of(Buffers::of(ratio, input, span)).0
+    let ratio = |rng: &mut Rng| rng.within(1 << 26, i32::MAX as u64) as i32;
+    LINEAR
+        .of(linear::longest_buffers(rng, ratio, q15_samples::list))
+        .0
 }
 
-/// As long as 01 allows, and of any samples.
 pub fn long(rng: &mut Rng) -> Cases {
     let ratio = rng.within(1 << 14, 1 << 18) as i32;
-    let (length, places) = settings::long_block(rng, 1, 1);
-    let input = q15_samples::noise(rng, length);
-    let span = samples::span(rng, places);
-    vec![LINEAR.of(Buffers::of(ratio, input, span)).0]
+    let buffers = linear::long_buffers(rng, ratio, q15_samples::noise);
+    vec![LINEAR.of(buffers).0]
 }
 
 pub fn cases(rng: &mut Rng) -> Cases {

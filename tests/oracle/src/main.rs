@@ -49,77 +49,60 @@ mod sizes;
 mod stream;
 mod values;
 
+use cascade::Cascade;
 use compare::Done;
+use half_band::HalfBand;
 use request::{Command, Converter, Draw, Request, USAGE};
 use std::io::{self, BufWriter};
 use std::process::ExitCode;
 
-/// A converter of which a comparison has no more cases than a list.
-const fn listed(name: &'static str, cases: Draw, long: Draw) -> Converter {
+/// A converter that has no cases but those of a list, and none with more samples.
+const fn listed(name: &'static str, cases: Draw) -> Converter {
     Converter {
         name,
         cases,
         more: cases,
-        long,
+        long: cases,
     }
 }
 
-const fn compared(name: &'static str, cases: Draw, more: Draw, long: Draw) -> Converter {
-    Converter {
-        name,
-        cases,
-        more,
-        long,
+impl Converter {
+    const fn more(mut self, more: Draw) -> Self {
+        self.more = more;
+        self
+    }
+
+    const fn long(mut self, long: Draw) -> Self {
+        self.long = long;
+        self
     }
 }
 
 const CONVERTERS: [Converter; 14] = [
-    listed("cic_decimator", cic_decimator::cases, cic_decimator::long),
-    listed(
-        "cic_interpolator",
-        cic_interpolator::cases,
-        cic_interpolator::cases,
-    ),
-    listed("polyphase_q15", polyphase_q15::cases, polyphase_q15::long),
-    listed("linear_q15", linear_q15::cases, linear_q15::long),
-    compared(
-        "fir_decimator",
-        fir_decimator::cases,
-        fir_decimator::more,
-        fir_decimator::long,
-    ),
-    listed("values", values::cases, values::cases),
-    listed("linear_f32", linear_f32::cases, linear_f32::long),
-    listed("hbf_dec", hbf_dec::cases, hbf_dec::long),
-    listed("hbf_int", hbf_int::cases, hbf_int::long),
-    listed(
-        "hbf_dec_cascade",
-        hbf_dec_cascade::cases,
-        hbf_dec_cascade::long,
-    ),
-    listed(
-        "hbf_int_cascade",
-        hbf_int_cascade::cases,
-        hbf_int_cascade::long,
-    ),
-    compared(
-        "hbf_stream",
-        hbf_stream::cases,
-        hbf_stream::more,
-        hbf_stream::long,
-    ),
-    compared(
-        "polyphase_resamp",
-        polyphase_resamp::cases,
-        polyphase_resamp::more,
-        polyphase_resamp::long,
-    ),
-    compared(
-        "gauge_line",
-        line_cases::cases,
-        line_cases::more,
-        line_cases::long,
-    ),
+    listed("cic_decimator", cic_decimator::cases).long(cic_decimator::long),
+    listed("cic_interpolator", cic_interpolator::cases),
+    listed("polyphase_q15", polyphase_q15::cases).long(polyphase_q15::long),
+    listed("linear_q15", linear_q15::cases).long(linear_q15::long),
+    listed("fir_decimator", fir_decimator::cases)
+        .more(fir_decimator::more)
+        .long(fir_decimator::long),
+    listed("values", values::cases),
+    listed("linear_f32", linear_f32::cases).long(linear_f32::long),
+    listed("hbf_dec", hbf_dec::Decimator::cases).long(hbf_dec::Decimator::long),
+    listed("hbf_int", hbf_int::Interpolator::cases).long(hbf_int::Interpolator::long),
+    listed("hbf_dec_cascade", hbf_dec_cascade::Decimators::cases)
+        .long(hbf_dec_cascade::Decimators::long),
+    listed("hbf_int_cascade", hbf_int_cascade::Interpolators::cases)
+        .long(hbf_int_cascade::Interpolators::long),
+    listed("hbf_stream", hbf_stream::cases)
+        .more(hbf_stream::more)
+        .long(hbf_stream::long),
+    listed("polyphase_resamp", polyphase_resamp::cases)
+        .more(polyphase_resamp::more)
+        .long(polyphase_resamp::long),
+    listed("gauge_line", line_cases::cases)
+        .more(line_cases::more)
+        .long(line_cases::long),
 ];
 
 fn list(request: &Request) -> ExitCode {

@@ -15,6 +15,8 @@ pub enum Edit {
 pub trait Values {
     fn len(&self) -> usize;
     fn words(&self) -> Vec<u32>;
+    /// The number that its words are.
+    fn number(&self) -> u64;
     fn texts(&self) -> Vec<String>;
     /// Writes over every element.
     fn overwrite(&mut self);
@@ -66,6 +68,11 @@ impl<T: Element> Values for Places<'_, T> {
 
     fn words(&self) -> Vec<u32> {
         words(self.elements())
+    }
+
+    fn number(&self) -> u64 {
+        let digits = |number: u64, word: &u32| number << 32 | u64::from(*word);
+        self.words().iter().rev().fold(0, digits)
     }
 
     fn texts(&self) -> Vec<String> {

@@ -1,9 +1,9 @@
 //! Cases of `polyphase_decimate_q15` and `polyphase_interpolate_q15`.
 
 use crate::archive::q15 as archive;
-use crate::calls::{Free, Lends, Written};
+use crate::calls::{Free, Written};
 use crate::case::{Case, Cases, Operation};
-use crate::field::{Field, Fields, Role};
+use crate::field::fields;
 use crate::lent::{Lent, Slice};
 use crate::q15_samples;
 use crate::refusals;
@@ -19,7 +19,7 @@ const DECIMATE: Operation<Block> = Operation {
     code: 0x31,
     name: "polyphase_decimate_q15",
     refusal: Some(|call| call.lent.refusal(refusals::q15_block)),
-    rust: |call| call.answer.0 = call.lent.run(polyphase_decimate_q15),
+    rust: |call| call.answer.written = call.lent.run(polyphase_decimate_q15),
     archive: archive::polyphase_decimate_q15,
 };
 
@@ -27,19 +27,20 @@ const INTERPOLATE: Operation<Block> = Operation {
     code: 0x32,
     name: "polyphase_interpolate_q15",
     refusal: Some(|call| call.lent.refusal(refusals::q15_up)),
-    rust: |call| call.answer.0 = call.lent.run(polyphase_interpolate_q15),
+    rust: |call| call.answer.written = call.lent.run(polyphase_interpolate_q15),
     archive: archive::polyphase_interpolate_q15,
 };
 
 type Rust = fn(&[q15], &[q15], usize, &mut [q15]) -> usize;
 
-/// What a call is lent.
-#[derive(Clone)]
-pub struct Buffers {
-    pub factor: u64,
-    pub samples: Slice<i16>,
-    pub taps: Slice<i16>,
-    pub span: Slice<i16>,
+fields! {
+    /// What a call is lent.
+    pub struct Buffers {
+        factor: u64,
+        samples: Slice<i16>,
+        taps: Slice<i16>,
+        span: Slice<i16>,
+    }
 }
 
 impl Buffers {
@@ -62,23 +63,6 @@ impl Buffers {
         );
         self.span.elements = q15_samples::bits(&places);
         written as u64
-    }
-}
-
-impl Fields for Buffers {
-    fn fields(&mut self) -> Vec<Field<'_>> {
-        vec![
-            Field::one("factor", &mut self.factor),
-            Field::slice("samples", &mut self.samples),
-            Field::slice("taps", &mut self.taps),
-            Field::slice("span", &mut self.span).role(Role::Span),
-        ]
-    }
-}
-
-impl Lends for Buffers {
-    fn samples(&self) -> u64 {
-        self.samples.len() as u64
     }
 }
 
@@ -113,7 +97,7 @@ impl Drawn {
             factor: self.factor,
             samples: self.samples.into(),
             taps: self.taps.into(),
-            span: self.span.into(),
+            span: Slice::span(self.span),
         };
         operation.of(lent).0
     }

@@ -1,9 +1,9 @@
 //! Cases of `PolyphaseResampF32`.
 
 use crate::archive::float;
-use crate::calls::{Answers, Buffers, Counts, Free, Lends, Push, Single, Written};
+use crate::calls::{Buffers, Counts, Free, Push, Single, Written};
 use crate::case::{Case, Cases, Operation};
-use crate::field::{Field, Fields};
+use crate::field::{Fields, fields};
 use crate::float_samples;
 use crate::lent::{LONGEST, Slice};
 use crate::refusals;
@@ -39,9 +39,8 @@ const PUSH: Operation<Step> = Operation {
     name: "PolyphaseResampF32::push",
     refusal: Some(|call| call.state.refusal()),
     rust: |call| {
-        call.answer.0 = call
-            .state
-            .push(call.lent.sample, &mut call.lent.span.elements)
+        let Push { sample, span } = &mut call.lent;
+        call.answer.written = call.state.push(*sample, &mut span.elements);
     },
     archive: float::polyphase_resamp_push,
 };
@@ -57,13 +56,14 @@ const RESET: Operation<Reset> = Operation {
 /// The lowest mu: one less rounds to itself.
 const LOWEST_MU: f32 = -16_777_216.0;
 
-/// What a resampler is opened with.
-#[derive(Clone)]
-pub struct Settings {
-    pub phases: u64,
-    pub taps: u64,
-    pub step: f32,
-    pub prototype: Slice<f32>,
+fields! {
+    /// What a resampler is opened with.
+    pub struct Settings {
+        phases: u64,
+        taps: u64,
+        step: f32,
+        prototype: Slice<f32>,
+    }
 }
 
 impl Settings {
@@ -72,28 +72,16 @@ impl Settings {
     }
 }
 
-impl Fields for Settings {
-    fn fields(&mut self) -> Vec<Field<'_>> {
-        vec![
-            Field::one("phases", &mut self.phases),
-            Field::one("taps", &mut self.taps),
-            Field::one("step", &mut self.step),
-            Field::slice("prototype", &mut self.prototype),
-        ]
+fields! {
+    /// The port's state: the Rust has P and T as constants, and a row of taps for each phase.
+    pub struct State {
+        phases: u64,
+        taps: u64,
+        mu: f32,
+        step: f32,
+        delay: [f32; 16],
+        prototype: [f32; 1024],
     }
-}
-
-impl Lends for Settings {}
-
-/// The port's state: the Rust has P and T as constants, and a row of taps for each phase.
-#[derive(Clone)]
-pub struct State {
-    pub phases: u64,
-    pub taps: u64,
-    pub mu: f32,
-    pub step: f32,
-    pub delay: [f32; 16],
-    pub prototype: [f32; 1024],
 }
 
 impl State {
@@ -183,32 +171,6 @@ impl State {
         Counts {
             taken: before.taken(samples, span.len(), written) as u64,
             written: written as u64,
-        }
-    }
-}
-
-impl Fields for State {
-    fn fields(&mut self) -> Vec<Field<'_>> {
-        vec![
-            Field::one("phases", &mut self.phases),
-            Field::one("taps", &mut self.taps),
-            Field::one("mu", &mut self.mu),
-            Field::one("step", &mut self.step),
-            Field::array("delay", &mut self.delay),
-            Field::array("prototype", &mut self.prototype),
-        ]
-    }
-}
-
-impl Answers for State {
-    fn zeros() -> Self {
-        State {
-            phases: 0,
-            taps: 0,
-            mu: 0.0,
-            step: 0.0,
-            delay: [0.0; 16],
-            prototype: [0.0; 1024],
         }
     }
 }

@@ -1,5 +1,6 @@
 //! Factors, lengths and spans around 01's limits, for every converter but the CIC ones.
 
+use crate::lent::Lent;
 use crate::rng::Rng;
 
 /// 01's limit of a factor.
@@ -54,6 +55,16 @@ pub fn bad_length(rng: &mut Rng) -> usize {
 /// A number of places that a block refuses.
 pub fn bad_places(rng: &mut Rng) -> usize {
     rng.pick(&[MOST as usize + 1, MOST as usize + 64])
+}
+
+/// Now and then gives a block samples or a span that it refuses.
+pub fn spoil_block(rng: &mut Rng, samples: &mut Lent, span: &mut Lent) {
+    if rng.one_in(24) {
+        samples.length = bad_length(rng);
+    }
+    if rng.one_in(24) {
+        span.length = bad_places(rng);
+    }
 }
 
 /// Just below 01's limit, at it and just past it.

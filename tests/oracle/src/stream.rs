@@ -1,8 +1,8 @@
 //! A state that is opened and given every sample of a list, one after the other.
 
-use crate::calls::{Answers, Free, Lends, Made, Sample, Single};
+use crate::calls::{Free, Made, Sample, Single};
 use crate::element::Element;
-use crate::field::{Field, Fields};
+use crate::field::{Field, Fields, Member};
 use crate::lent::{Lent, Slice};
 
 pub type Stream<L, S, T> = Free<Lists<L, T>, Left<S, T>>;
@@ -23,17 +23,18 @@ impl<L, T: Element> Lists<L, T> {
     }
 }
 
-impl<L: Lends, T: Element> Fields for Lists<L, T> {
+impl<L: Fields, T: Element> Fields for Lists<L, T> {
     fn fields(&mut self) -> Vec<Field<'_>> {
         let mut fields = self.opening.fields();
-        fields.push(Field::slice("samples", &mut self.samples));
+        fields.push(self.samples.field().named("samples"));
         fields
     }
-}
 
-impl<L: Lends, T: Element> Lends for Lists<L, T> {
-    fn samples(&self) -> u64 {
-        self.samples.len() as u64
+    fn zeros() -> Self {
+        Lists {
+            opening: L::zeros(),
+            samples: Member::zeros(),
+        }
     }
 }
 
@@ -44,15 +45,13 @@ pub struct Left<S, T> {
     pub state: S,
 }
 
-impl<S: Answers, T: Element> Fields for Left<S, T> {
+impl<S: Fields, T: Element> Fields for Left<S, T> {
     fn fields(&mut self) -> Vec<Field<'_>> {
-        let mut fields = vec![Field::list("outputs", &mut self.outputs)];
+        let mut fields = vec![self.outputs.field().named("outputs")];
         fields.extend(self.state.fields());
         fields
     }
-}
 
-impl<S: Answers, T: Element> Answers for Left<S, T> {
     fn zeros() -> Self {
         Left {
             outputs: Vec::new(),
@@ -61,7 +60,7 @@ impl<S: Answers, T: Element> Answers for Left<S, T> {
     }
 }
 
-impl<L: Lends, S: Answers, T: Element> Stream<L, S, T> {
+impl<L: Fields, S: Fields, T: Element> Stream<L, S, T> {
     /// Through the archive's opening and its call for one sample: the first refusal's number.
     pub fn run(
         &mut self,
@@ -70,12 +69,12 @@ impl<L: Lends, S: Answers, T: Element> Stream<L, S, T> {
     ) -> u64 {
         let mut opening = Single::of((), self.lent.opening.clone());
         let mut refusal = new(&mut opening);
-        let mut call = Single::of(opening.answer, Sample(T::default()));
+        let mut call = Single::of(opening.answer, Sample::zeros());
         for &sample in &self.lent.samples.elements {
             if refusal != 0 {
                 break;
             }
-            call.lent.0 = sample;
+            call.lent.sample = sample;
             refusal = process_sample(&mut call);
             if call.answer.made != 0 {
                 self.answer.outputs.push(call.answer.output);

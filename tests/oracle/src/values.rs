@@ -1,9 +1,9 @@
 //! Cases of what has no state and lends no slice: the cut to 16 bits, Q15 to f32, the response lengths, the half-band table.
 
 use crate::archive::{float, q15 as archive};
-use crate::calls::{Answers, Free, Lends, Sample, Value};
+use crate::calls::{Free, Sample, Value};
 use crate::case::{Case, Cases, Operation};
-use crate::field::{Field, Fields};
+use crate::field::fields;
 use crate::hbf_table;
 use crate::q15_samples;
 use crate::refusals;
@@ -21,7 +21,7 @@ const CUT: Operation<Cut> = Operation {
     code: 0x34,
     name: "cut_q15",
     refusal: None,
-    rust: |call| call.answer.0 = cut(call.lent.0),
+    rust: |call| call.answer.value = cut(call.lent.sample),
     archive: archive::cut_q15,
 };
 
@@ -29,23 +29,23 @@ const TO_F32: Operation<ToF32> = Operation {
     code: 0x52,
     name: "q15_to_f32",
     refusal: None,
-    rust: |call| call.answer.0 = q15::from_bits(call.lent.0).to_num(),
+    rust: |call| call.answer.value = q15::from_bits(call.lent.sample).to_num(),
     archive: float::q15_to_f32,
 };
 
 const DEC_RESPONSE_LENGTH: Operation<Length> = Operation {
     code: 0x53,
     name: "hbf_dec_response_length",
-    refusal: Some(|call| refusals::depth(call.lent.0)),
-    rust: |call| call.answer.0 = hbf_dec_response_length(call.lent.0 as usize) as u64,
+    refusal: Some(|call| refusals::depth(call.lent.depth)),
+    rust: |call| call.answer.value = hbf_dec_response_length(call.lent.depth as usize) as u64,
     archive: float::hbf_dec_response_length,
 };
 
 const INT_RESPONSE_LENGTH: Operation<Length> = Operation {
     code: 0x54,
     name: "hbf_int_response_length",
-    refusal: Some(|call| refusals::depth(call.lent.0)),
-    rust: |call| call.answer.0 = hbf_int_response_length(call.lent.0 as usize) as u64,
+    refusal: Some(|call| refusals::depth(call.lent.depth)),
+    rust: |call| call.answer.value = hbf_int_response_length(call.lent.depth as usize) as u64,
     archive: float::hbf_int_response_length,
 };
 
@@ -54,35 +54,21 @@ const TAP_TABLE: Operation<TapTable> = Operation {
     code: 0x55,
     name: "hbf_tap_table",
     refusal: None,
-    rust: |call| call.answer.0.copy_from_slice(&hbf_table::rounded()),
+    rust: |call| call.answer.taps.copy_from_slice(&hbf_table::rounded()),
     archive: float::hbf_tap_table,
 };
 
-/// How many stages a cascade has.
-#[derive(Clone)]
-pub struct Depth(pub u64);
-
-impl Fields for Depth {
-    fn fields(&mut self) -> Vec<Field<'_>> {
-        vec![Field::one("depth", &mut self.0)]
+fields! {
+    /// How many stages a cascade has.
+    pub struct Depth {
+        depth: u64,
     }
 }
 
-impl Lends for Depth {}
-
-/// The taps of all stages.
-#[derive(Clone)]
-pub struct Table(pub [f32; 45]);
-
-impl Fields for Table {
-    fn fields(&mut self) -> Vec<Field<'_>> {
-        vec![Field::array("taps", &mut self.0)]
-    }
-}
-
-impl Answers for Table {
-    fn zeros() -> Self {
-        Table([0.0; 45])
+fields! {
+    /// The taps of all stages.
+    pub struct Table {
+        taps: [f32; 45],
     }
 }
 
@@ -105,10 +91,11 @@ fn some_sum(rng: &mut Rng) -> i64 {
 }
 
 fn some_depth(rng: &mut Rng) -> Depth {
-    Depth(match rng.below(3) {
+    let depth = match rng.below(3) {
         0 => settings::bad_depth(rng),
         _ => rng.below(6),
-    })
+    };
+    Depth { depth }
 }
 
 fn some_call(rng: &mut Rng) -> Box<dyn Case> {
@@ -116,8 +103,14 @@ fn some_call(rng: &mut Rng) -> Box<dyn Case> {
         0 => TAP_TABLE.of(()).0,
         1..=4 => DEC_RESPONSE_LENGTH.of(some_depth(rng)).0,
         5..=8 => INT_RESPONSE_LENGTH.of(some_depth(rng)).0,
-        9..=18 => CUT.of(Sample(some_sum(rng))).0,
-        _ => TO_F32.of(Sample(q15_samples::one(rng))).0,
+        9..=18 => {
+            let sample = some_sum(rng);
+            CUT.of(Sample { sample }).0
+        }
+        _ => {
+            let sample = q15_samples::one(rng);
+            TO_F32.of(Sample { sample }).0
+        }
     }
 }
 

@@ -1,320 +1,233 @@
 //! The float layer of the archive.
 
-use super::word;
-use crate::{cascade, half_band, hbf_stream, linear, polyphase_resamp, values};
+use super::{with_fields, word};
+use crate::{cascade, half_band, hbf_dec, hbf_int, hbf_stream};
+use crate::{linear, polyphase_resamp, values};
 use gauge_raw::*;
 
 pub fn q15_to_f32(call: &mut values::ToF32) -> u64 {
-    unsafe { gauge_q15_to_f32(call.lent.0, &mut call.answer.0) }
+    unsafe { gauge_q15_to_f32(call.lent.sample, &mut call.answer.value) }
     0
 }
 
 pub fn hbf_dec_response_length(call: &mut values::Length) -> u64 {
-    unsafe { gauge_hbf_dec_response_length(call.lent.0, &mut call.answer.0) }
+    unsafe { gauge_hbf_dec_response_length(call.lent.depth, &mut call.answer.value) }
 }
 
 pub fn hbf_int_response_length(call: &mut values::Length) -> u64 {
-    unsafe { gauge_hbf_int_response_length(call.lent.0, &mut call.answer.0) }
+    unsafe { gauge_hbf_int_response_length(call.lent.depth, &mut call.answer.value) }
 }
 
 pub fn hbf_tap_table(call: &mut values::TapTable) -> u64 {
-    unsafe { gauge_hbf_tap_table(&mut call.answer.0) }
+    unsafe { gauge_hbf_tap_table(&mut call.answer.taps) }
     0
 }
 
 pub fn resample_linear_f32(call: &mut linear::Block<f32, f32>) -> u64 {
-    let (samples, span) = (&call.lent.samples.elements, &mut call.lent.span.elements);
-    unsafe {
-        gauge_resample_linear_f32(
-            samples.as_ptr(),
-            samples.len() as u64,
-            span.as_mut_ptr(),
-            span.len() as u64,
-            call.lent.ratio,
-            &mut call.answer.0,
-        )
-    }
+    super::linear(gauge_resample_linear_f32, call)
 }
 
-/// The functions of both half-band filters, which differ in the delay.
-type New<const DELAY: usize> =
-    unsafe extern "C" fn(*const f32, u64, &mut u64, &mut [f32; 23], &mut [f32; DELAY]) -> u64;
-type Process<const DELAY: usize> = unsafe extern "C" fn(
-    &mut u64,
-    &mut [f32; 23],
-    &mut [f32; DELAY],
-    *const f32,
-    u64,
-    *mut f32,
-    u64,
-    &mut u64,
-) -> u64;
-
-fn new<const DELAY: usize>(function: New<DELAY>, call: &mut half_band::New<DELAY>) -> u64 {
-    let (taps, state) = (&call.lent.0.elements, &mut call.answer);
-    unsafe {
-        function(
-            taps.as_ptr(),
-            taps.len() as u64,
-            &mut state.m,
-            &mut state.coeffs,
-            &mut state.delay,
-        )
-    }
+macro_rules! with_half_band {
+    ($function:expr, $before:tt, $state:expr, $after:tt) => {
+        with_fields!($function, $before, $state, [m, coeffs, delay], $after)
+    };
 }
 
-fn process<const DELAY: usize>(
-    function: Process<DELAY>,
-    call: &mut half_band::Block<DELAY>,
-) -> u64 {
-    let (state, samples, span) = (
-        &mut call.state,
-        &call.lent.samples.elements,
-        &mut call.lent.span.elements,
-    );
-    unsafe {
-        function(
-            &mut state.m,
-            &mut state.coeffs,
-            &mut state.delay,
-            samples.as_ptr(),
-            samples.len() as u64,
-            span.as_mut_ptr(),
-            span.len() as u64,
-            &mut call.answer.0,
+/// A call's samples and span, each as a pointer and a length, and the place for what is written.
+macro_rules! with_block {
+    ($with:ident, $function:expr, $call:expr) => {{
+        let (samples, span) = (&$call.lent.samples.elements, &mut $call.lent.span.elements);
+        $with!(
+            $function,
+            [],
+            $call.state,
+            [
+                samples.as_ptr(),
+                samples.len() as u64,
+                span.as_mut_ptr(),
+                span.len() as u64,
+                &mut $call.answer.written
+            ]
         )
-    }
+    }};
+}
+
+macro_rules! half_band_new {
+    ($function:expr, $call:expr) => {{
+        let (taps, state) = (&$call.lent.taps.elements, &mut $call.answer);
+        with_half_band!($function, [taps.as_ptr(), taps.len() as u64], state, [])
+    }};
 }
 
 pub fn hbf_dec_new(call: &mut half_band::New<96>) -> u64 {
-    new(gauge_hbf_dec_new, call)
+    half_band_new!(gauge_hbf_dec_new, call)
 }
 
 pub fn hbf_int_new(call: &mut half_band::New<48>) -> u64 {
-    new(gauge_hbf_int_new, call)
+    half_band_new!(gauge_hbf_int_new, call)
 }
 
 pub fn hbf_dec_process(call: &mut half_band::Block<96>) -> u64 {
-    process(gauge_hbf_dec_process, call)
+    with_block!(with_half_band, gauge_hbf_dec_process, call)
 }
 
 pub fn hbf_int_process(call: &mut half_band::Block<48>) -> u64 {
-    process(gauge_hbf_int_process, call)
+    with_block!(with_half_band, gauge_hbf_int_process, call)
 }
 
 pub fn hbf_dec_reset(call: &mut half_band::Reset<96>) -> u64 {
-    let state = &mut call.state;
-    unsafe { gauge_hbf_dec_reset(&mut state.m, &mut state.coeffs, &mut state.delay) }
+    with_half_band!(gauge_hbf_dec_reset, [], call.state, [])
 }
 
 pub fn hbf_int_reset(call: &mut half_band::Reset<48>) -> u64 {
-    let state = &mut call.state;
-    unsafe { gauge_hbf_int_reset(&mut state.m, &mut state.coeffs, &mut state.delay) }
+    with_half_band!(gauge_hbf_int_reset, [], call.state, [])
 }
 
-pub fn hbf_dec_process_pair(call: &mut half_band::Step<96, 2, 1>) -> u64 {
-    let (state, [a, b], [value]) = (&mut call.state, call.lent.0, &mut call.answer.0);
-    unsafe {
-        gauge_hbf_dec_process_pair(
-            &mut state.m,
-            &mut state.coeffs,
-            &mut state.delay,
-            a,
-            b,
-            value,
-        )
-    }
+pub fn hbf_dec_process_pair(call: &mut hbf_dec::Step) -> u64 {
+    let (lent, value) = (&call.lent, &mut call.answer.value);
+    with_half_band!(
+        gauge_hbf_dec_process_pair,
+        [],
+        call.state,
+        [lent.a, lent.b, value]
+    )
 }
 
-pub fn hbf_int_process_sample(call: &mut half_band::Step<48, 1, 2>) -> u64 {
-    let (state, [x], [even, odd]) = (&mut call.state, call.lent.0, &mut call.answer.0);
-    unsafe {
-        gauge_hbf_int_process_sample(
-            &mut state.m,
-            &mut state.coeffs,
-            &mut state.delay,
-            x,
-            even,
-            odd,
-        )
-    }
+pub fn hbf_int_process_sample(call: &mut hbf_int::Step) -> u64 {
+    let (sample, answer) = (call.lent.sample, &mut call.answer);
+    with_half_band!(
+        gauge_hbf_int_process_sample,
+        [],
+        call.state,
+        [sample, &mut answer.even, &mut answer.odd]
+    )
 }
 
-/// The block function of both cascades, which differ in the delays.
-type CascadeProcess<const DELAYS: usize> = unsafe extern "C" fn(
-    &mut u64,
-    &mut [f32; DELAYS],
-    *const f32,
-    u64,
-    *mut f32,
-    u64,
-    &mut u64,
-) -> u64;
-
-fn cascade_process<const DELAYS: usize>(
-    function: CascadeProcess<DELAYS>,
-    call: &mut cascade::Block<DELAYS>,
-) -> u64 {
-    let (state, samples, span) = (
-        &mut call.state,
-        &call.lent.samples.elements,
-        &mut call.lent.span.elements,
-    );
-    unsafe {
-        function(
-            &mut state.depth,
-            &mut state.delays,
-            samples.as_ptr(),
-            samples.len() as u64,
-            span.as_mut_ptr(),
-            span.len() as u64,
-            &mut call.answer.0,
-        )
-    }
+macro_rules! with_cascade {
+    ($function:expr, $before:tt, $state:expr, $after:tt) => {
+        with_fields!($function, $before, $state, [depth, delays], $after)
+    };
 }
 
 pub fn hbf_dec_cascade_new(call: &mut cascade::New<480>) -> u64 {
-    let state = &mut call.answer;
-    unsafe { gauge_hbf_dec_cascade_new(call.lent.0, &mut state.depth, &mut state.delays) }
+    let depth = call.lent.depth;
+    with_cascade!(gauge_hbf_dec_cascade_new, [depth], call.answer, [])
 }
 
 pub fn hbf_int_cascade_new(call: &mut cascade::New<240>) -> u64 {
-    let state = &mut call.answer;
-    unsafe { gauge_hbf_int_cascade_new(call.lent.0, &mut state.depth, &mut state.delays) }
+    let depth = call.lent.depth;
+    with_cascade!(gauge_hbf_int_cascade_new, [depth], call.answer, [])
 }
 
 pub fn hbf_dec_cascade_process(call: &mut cascade::Block<480>) -> u64 {
-    cascade_process(gauge_hbf_dec_cascade_process, call)
+    with_block!(with_cascade, gauge_hbf_dec_cascade_process, call)
 }
 
 pub fn hbf_int_cascade_process(call: &mut cascade::Block<240>) -> u64 {
-    cascade_process(gauge_hbf_int_cascade_process, call)
+    with_block!(with_cascade, gauge_hbf_int_cascade_process, call)
 }
 
 pub fn hbf_dec_cascade_reset(call: &mut cascade::Reset<480>) -> u64 {
-    let state = &mut call.state;
-    unsafe { gauge_hbf_dec_cascade_reset(&mut state.depth, &mut state.delays) }
+    with_cascade!(gauge_hbf_dec_cascade_reset, [], call.state, [])
 }
 
 pub fn hbf_int_cascade_reset(call: &mut cascade::Reset<240>) -> u64 {
-    let state = &mut call.state;
-    unsafe { gauge_hbf_int_cascade_reset(&mut state.depth, &mut state.delays) }
+    with_cascade!(gauge_hbf_int_cascade_reset, [], call.state, [])
+}
+
+macro_rules! with_stream {
+    ($function:expr, $before:tt, $state:expr, $after:tt) => {
+        with_fields!(
+            $function,
+            $before,
+            $state,
+            [depth, delays, held, counts],
+            $after
+        )
+    };
 }
 
 pub fn hbf_stream_new(call: &mut hbf_stream::New) -> u64 {
-    let state = &mut call.answer;
-    unsafe {
-        gauge_hbf_stream_new(
-            call.lent.0,
-            &mut state.depth,
-            &mut state.delays,
-            &mut state.held,
-            &mut state.counts,
-        )
-    }
+    let depth = call.lent.depth;
+    with_stream!(gauge_hbf_stream_new, [depth], call.answer, [])
 }
 
 pub fn hbf_stream_process_sample(call: &mut hbf_stream::Step) -> u64 {
-    let state = &mut call.state;
     let mut made = u64::MAX;
-    let refusal = unsafe {
-        gauge_hbf_stream_process_sample(
-            &mut state.depth,
-            &mut state.delays,
-            &mut state.held,
-            &mut state.counts,
-            call.lent.0,
-            &mut made,
-            &mut call.answer.output,
-        )
-    };
+    let refusal = with_stream!(
+        gauge_hbf_stream_process_sample,
+        [],
+        call.state,
+        [call.lent.sample, &mut made, &mut call.answer.output]
+    );
     call.answer.made = word(made);
     refusal
 }
 
 pub fn hbf_stream_reset(call: &mut hbf_stream::Reset) -> u64 {
-    let state = &mut call.state;
-    unsafe {
-        gauge_hbf_stream_reset(
-            &mut state.depth,
-            &mut state.delays,
-            &mut state.held,
-            &mut state.counts,
+    with_stream!(gauge_hbf_stream_reset, [], call.state, [])
+}
+
+macro_rules! with_resampler {
+    ($function:expr, $before:tt, $state:expr, $after:tt) => {
+        with_fields!(
+            $function,
+            $before,
+            $state,
+            [phases, taps, mu, step, delay, prototype],
+            $after
         )
-    }
+    };
 }
 
 pub fn polyphase_resamp_from_taps(call: &mut polyphase_resamp::New) -> u64 {
     let (lent, state) = (&call.lent, &mut call.answer);
-    unsafe {
-        gauge_polyphase_resamp_from_taps(
+    with_resampler!(
+        gauge_polyphase_resamp_from_taps,
+        [
             lent.phases,
             lent.taps,
             lent.prototype.elements.as_ptr(),
             lent.prototype.len() as u64,
-            lent.step,
-            &mut state.phases,
-            &mut state.taps,
-            &mut state.mu,
-            &mut state.step,
-            &mut state.delay,
-            &mut state.prototype,
-        )
-    }
+            lent.step
+        ],
+        state,
+        []
+    )
 }
 
 pub fn polyphase_resamp_process_block(call: &mut polyphase_resamp::Block) -> u64 {
-    let (state, samples, span) = (
-        &mut call.state,
-        &call.lent.samples.elements,
-        &mut call.lent.span.elements,
-    );
-    unsafe {
-        gauge_polyphase_resamp_process_block(
-            &mut state.phases,
-            &mut state.taps,
-            &mut state.mu,
-            &mut state.step,
-            &mut state.delay,
-            &mut state.prototype,
+    let (samples, span) = (&call.lent.samples.elements, &mut call.lent.span.elements);
+    with_resampler!(
+        gauge_polyphase_resamp_process_block,
+        [],
+        call.state,
+        [
             samples.as_ptr(),
             samples.len() as u64,
             span.as_mut_ptr(),
             span.len() as u64,
             &mut call.answer.taken,
-            &mut call.answer.written,
-        )
-    }
+            &mut call.answer.written
+        ]
+    )
 }
 
 pub fn polyphase_resamp_push(call: &mut polyphase_resamp::Step) -> u64 {
-    let (state, span) = (&mut call.state, &mut call.lent.span.elements);
-    unsafe {
-        gauge_polyphase_resamp_push(
-            &mut state.phases,
-            &mut state.taps,
-            &mut state.mu,
-            &mut state.step,
-            &mut state.delay,
-            &mut state.prototype,
+    let span = &mut call.lent.span.elements;
+    with_resampler!(
+        gauge_polyphase_resamp_push,
+        [],
+        call.state,
+        [
             call.lent.sample,
             span.as_mut_ptr(),
             span.len() as u64,
-            &mut call.answer.0,
-        )
-    }
+            &mut call.answer.written
+        ]
+    )
 }
 
 pub fn polyphase_resamp_reset(call: &mut polyphase_resamp::Reset) -> u64 {
-    let state = &mut call.state;
-    unsafe {
-        gauge_polyphase_resamp_reset(
-            &mut state.phases,
-            &mut state.taps,
-            &mut state.mu,
-            &mut state.step,
-            &mut state.delay,
-            &mut state.prototype,
-        )
-    }
+    with_resampler!(gauge_polyphase_resamp_reset, [], call.state, [])
 }

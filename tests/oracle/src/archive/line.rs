@@ -1,43 +1,45 @@
 //! The gauge line of the archive.
 
-use crate::calls::{Answers, Buffers, Counts};
+use super::with_fields;
+use crate::calls::{Buffers, Counts};
+use crate::field::Fields;
 use crate::gauge_line::Line;
 use crate::line_calls::{Feed, Open, Reset, Step};
 use crate::line_feeds::{Fed, Feeds};
 use crate::line_settings::Settings;
 use gauge_raw::*;
 
-/// Calls a function of the archive with the fields of a line, between what comes before them and after.
 macro_rules! with_line {
-    ($function:ident, [$($before:expr),*], $line:expr, [$($after:expr),*]) => {{
-        let Line { cic, fir, half_band, resampler } = $line;
-        unsafe {
-            $function(
-                $($before,)*
-                &mut cic.stages,
-                &mut cic.r,
-                &mut cic.integrators,
-                &mut cic.combs,
-                &mut cic.sample_counter,
-                &mut fir.taps,
-                &mut fir.tap_count,
-                &mut fir.factor,
-                &mut fir.delay,
-                &mut fir.wait,
-                &mut half_band.depth,
-                &mut half_band.delays,
-                &mut half_band.held,
-                &mut half_band.counts,
-                &mut resampler.phases,
-                &mut resampler.taps,
-                &mut resampler.mu,
-                &mut resampler.step,
-                &mut resampler.delay,
-                &mut resampler.prototype,
-                $($after,)*
-            )
-        }
-    }};
+    ($function:expr, $before:tt, $line:expr, $after:tt) => {
+        with_fields!(
+            $function,
+            $before,
+            $line,
+            [
+                cic.stages,
+                cic.r,
+                cic.integrators,
+                cic.combs,
+                cic.sample_counter,
+                fir.taps,
+                fir.tap_count,
+                fir.factor,
+                fir.delay,
+                fir.wait,
+                half_band.depth,
+                half_band.delays,
+                half_band.held,
+                half_band.counts,
+                resampler.phases,
+                resampler.taps,
+                resampler.mu,
+                resampler.step,
+                resampler.delay,
+                resampler.prototype
+            ],
+            $after
+        )
+    };
 }
 
 fn open_line(settings: &Settings, line: &mut Line) -> u64 {
@@ -96,7 +98,7 @@ pub fn step(call: &mut Step) -> u64 {
     with_line!(
         gauge_line_step,
         [],
-        &mut call.state,
+        call.state,
         [
             samples.as_ptr(),
             samples.len() as u64,
@@ -110,7 +112,7 @@ pub fn step(call: &mut Step) -> u64 {
 }
 
 pub fn reset(call: &mut Reset) -> u64 {
-    with_line!(gauge_line_reset, [], &mut call.state, [])
+    with_line!(gauge_line_reset, [], call.state, [])
 }
 
 fn feed_next(line: &mut Line, fed: &mut Fed) {
