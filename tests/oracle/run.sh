@@ -6,7 +6,7 @@ cd "$(dirname "$0")/../.."
 oracle=target/oracle/oracle
 stored=(--seed 1 --cases 60000 --each 24)
 listed=20000
-compared=300000
+compared=(--cases 300000 --samples 60000000)
 [ "$#" -gt 0 ] || set -- 20261115 577215664 6180339887
 
 tests/oracle/build.sh
@@ -21,9 +21,9 @@ if ! rt check replay >target/oracle/check.log 2>&1; then
 fi
 
 said=$("$oracle" list --seed 2 --cases "$listed" | target/bin/replay) || true
-echo "seed 2: $said"
+echo "replay, seed 2: $said"
 [ "$said" = "$listed records, 0 differences" ]
 
 for seed in "$@"; do
-    "$oracle" compare --seed "$seed" --cases "$compared"
+    "$oracle" compare --seed "$seed" "${compared[@]}"
 done

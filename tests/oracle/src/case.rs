@@ -24,7 +24,7 @@ pub struct Operation<C> {
     /// Its code in records, 0 where it is never listed.
     pub code: u32,
     pub name: &'static str,
-    /// 01's number, 0 for none, where there is any.
+    /// 01's number, 0 for none; nothing where an operation refuses nothing.
     pub refusal: Option<fn(&C) -> u32>,
     /// What a call leaves that is not refused.
     pub rust: fn(&mut C),

@@ -28,16 +28,23 @@ impl Done {
     }
 }
 
-/// All that was wanted, or the first case whose answers differ.
-pub fn compare(request: &Request) -> Result<Done, Box<dyn Case>> {
+/// A case whose answers differ, counted from 1.
+pub struct Difference {
+    pub number: usize,
+    pub case: Box<dyn Case>,
+}
+
+/// All that was wanted, or the first difference.
+pub fn compare(request: &Request) -> Result<Done, Difference> {
     let mut rng = Rng::new(request.seed);
     let mut done = Done::default();
     while done.cases < request.cases || done.samples < request.samples {
         for case in done.draw(request, &mut rng) {
-            if !case.agrees() {
-                return Err(case);
-            }
             done.cases += 1;
+            if !case.agrees() {
+                let number = done.cases;
+                return Err(Difference { number, case });
+            }
             done.samples += case.samples();
         }
     }

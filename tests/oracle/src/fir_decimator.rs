@@ -73,6 +73,7 @@ impl Settings {
 }
 
 fields! {
+    /// The port's state.
     pub struct State {
         tap_count: u64,
         factor: u64,

@@ -55,6 +55,7 @@ const RUN: Operation<Run> = Operation {
 };
 
 fields! {
+    /// The port's state.
     pub struct State {
         depth: u64,
         counts: [u64; 5],

@@ -12,10 +12,11 @@ use crate::line_calls::{FEED, Next, OPEN, RESET, STEP};
 use crate::line_damage;
 use crate::line_feeds;
 use crate::line_samples;
-use crate::line_settings;
+use crate::line_settings::{self, BAD_STEPS};
 use crate::polyphase_resamp;
 use crate::rng::Rng;
 use crate::samples;
+use crate::settings;
 
 fn some_case(rng: &mut Rng) -> Box<dyn Case> {
     match rng.below(8) {
@@ -47,7 +48,13 @@ fn midway(rng: &mut Rng) -> Line {
     line.resampler.mu = polyphase_resamp::some_mu(rng, step).max(0.0);
     if rng.one_in(3) {
         line.resampler.phases = 0;
+        line.resampler.taps = rng.pick(&[0, 17, u64::MAX]);
+        line.resampler.step = rng.pick(&BAD_STEPS);
         line.resampler.mu = f32::NAN;
+    }
+    if line.fir.tap_count == 0 {
+        line.fir.factor = settings::bad_factor(rng);
+        line.fir.wait = rng.pick(&[0, u64::MAX]);
     }
     line
 }

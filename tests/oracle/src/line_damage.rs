@@ -149,12 +149,8 @@ impl Case for Damaged {
         let mut record = Record::of(DAMAGED);
         let (mut settings, mut line) = (self.settings.clone(), self.line.clone());
         let mut buffers = self.buffers.clone();
-        for field in settings
-            .fields()
-            .iter()
-            .chain(&numbers(&mut line))
-            .chain(&buffers.fields())
-        {
+        let lent = [settings.fields(), numbers(&mut line), buffers.fields()];
+        for field in lent.iter().flatten() {
             record.input(field);
         }
         let refusal = refusals::STATE;
@@ -177,6 +173,7 @@ impl Case for Damaged {
 
     fn report(&self) -> String {
         let differing = self.calls.iter().filter(|call| !call.agrees());
-        differing.map(|call| call.report()).collect()
+        let reports: Vec<String> = differing.map(|call| call.report()).collect();
+        reports.join("\n")
     }
 }

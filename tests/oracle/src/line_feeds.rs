@@ -1,21 +1,16 @@
-//! A line that is opened and fed so many times: its outputs are those of the Rust's converters, each on the whole list of the one before.
+//! A line that is opened and fed so many times: after each feed, what demand 3 says of the outputs of every sample taken so far.
 
 use crate::archive::line;
 use crate::case::{Call, Case, Operation};
 use crate::field::{Field, Fields, Role, fields};
-use crate::fir_decimator;
-use crate::hbf_stream;
 use crate::lent::{LONGEST, Lent, Slice};
 use crate::line_samples;
 use crate::line_settings::{self, Settings};
-use crate::polyphase_resamp;
 use crate::record::Record;
 use crate::rng::Rng;
 use crate::samples;
+use crate::search;
 use crate::settings;
-use crate::sizes::with_stages;
-use crate::values::cut;
-use embedded_dsp::resampling::CicDecimator;
 
 const FEEDS: Operation<Feeds> = Operation {
     code: 0xc2,
@@ -24,6 +19,9 @@ const FEEDS: Operation<Feeds> = Operation {
     rust: Feeds::feed,
     archive: line::feeds,
 };
+
+/// For reports.
+const FEED_NAMES: [&str; 6] = ["feed 1", "feed 2", "feed 3", "feed 4", "feed 5", "feed 6"];
 
 fields! {
     /// One feed: what it is lent, and what it answers.
@@ -76,7 +74,11 @@ impl Feeds {
 impl Call for Feeds {
     fn fields(&mut self) -> Vec<Field<'_>> {
         let mut fields = self.settings.fields();
-        fields.extend(self.feeds.iter_mut().flat_map(Fed::fields_and_answers));
+        for (i, fed) in self.feeds.iter_mut().enumerate() {
+            let part = FEED_NAMES.get(i).unwrap_or(&"a later feed");
+            let named = |field| Field { part, ..field };
+            fields.extend(fed.fields_and_answers().into_iter().map(named));
+        }
         fields
     }
 
@@ -105,54 +107,6 @@ impl Call for Feeds {
     }
 }
 
-fn scaled<const N: usize>(r: u64, list: &[i32]) -> Vec<i32> {
-    let mut rust = CicDecimator::<N>::new(r as usize);
-    list.iter()
-        .filter_map(|&sample| rust.process_sample_scaled(sample))
-        .collect()
-}
-
-impl Settings {
-    /// Section 6: "each section run on the whole list of the section before", up to the resampler.
-    fn values(&self, list: &[i32]) -> Vec<f32> {
-        let sums = with_stages!(self.stages, scaled(self.r, list));
-        let cuts: Vec<i16> = sums.iter().map(|&sum| cut(sum.into())).collect();
-        let thinned = fir_decimator::outputs(&self.fir.elements, self.factor, &cuts);
-        let floats: Vec<f32> = thinned.iter().map(|&x| f32::from(x) / 32768.0).collect();
-        hbf_stream::outputs(self.depth, &floats)
-    }
-
-    /// Section 6: how many values a list of so many samples becomes before the resampler.
-    fn value_count(&self, samples: usize) -> usize {
-        let sums = samples / self.r as usize;
-        let thinned = match self.fir.len() {
-            0 => sums,
-            taps => sums
-                .checked_sub(taps)
-                .map_or(0, |past| past / self.factor as usize + 1),
-        };
-        thinned >> self.depth
-    }
-
-    /// The resampler on a whole list, through a span that has a place left: a step of 1/64 makes no more than 65 outputs of a value.
-    fn resampled(&self, values: &[f32]) -> Vec<f32> {
-        if self.phases == 0 {
-            return values.to_vec();
-        }
-        let prototype = &self.prototype.elements;
-        let mut rust = polyphase_resamp::opened(self.phases, self.taps, prototype, self.step);
-        let mut outputs = vec![0.0; 65 * values.len() + 1];
-        let made = rust.process_block(values, &mut outputs);
-        assert!(made < outputs.len());
-        outputs.truncate(made);
-        outputs
-    }
-
-    fn outputs(&self, list: &[i32]) -> Vec<f32> {
-        self.resampled(&self.values(list))
-    }
-}
-
 /// Every sample taken so far, and how many outputs were written.
 #[derive(Default)]
 struct Past {
@@ -172,11 +126,10 @@ impl Past {
         let list = [&self.list[..], lent].concat();
         let values = settings.values(&list);
         let wanted = self.written + places;
-        let counts: Vec<usize> = (0..=values.len()).collect();
-        let enough =
-            counts.partition_point(|&count| settings.resampled(&values[..count]).len() < wanted);
-        let taken: Vec<usize> = (0..lent.len()).collect();
-        taken.partition_point(|taken| settings.value_count(self.list.len() + taken) < enough)
+        let fills = |count| settings.resampled(&values[..count]).len() >= wanted;
+        let enough = search::least(values.len() + 1, fills);
+        let makes = |taken| settings.value_count(self.list.len() + taken) >= enough;
+        search::least(lent.len(), makes)
     }
 
     /// What a feed takes and writes: the outputs are those of every sample taken so far.
@@ -223,13 +176,12 @@ pub fn long_case(rng: &mut Rng) -> Box<dyn Case> {
     let outputs = rng.within(2_000, 20_000);
     let length = (outputs as f32 * settings.samples_for_output()) as u64;
     let length = length.min(4 * LONGEST);
-    let feeds = (0..rng.within(1, 4))
-        .map(|_| {
-            Fed::of(line_samples::noise(rng, length).into(), {
-                let places = settings::places_around(rng, outputs);
-                samples::span(rng, places)
-            })
-        })
-        .collect();
+    let count = rng.within(1, 4);
+    let mut long_feed = || {
+        let samples = line_samples::noise(rng, length);
+        let places = settings::places_around(rng, outputs);
+        Fed::of(samples.into(), samples::span(rng, places))
+    };
+    let feeds = (0..count).map(|_| long_feed()).collect();
     case(settings, feeds)
 }

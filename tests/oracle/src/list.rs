@@ -6,7 +6,8 @@ use crate::rng::Rng;
 use std::collections::HashMap;
 use std::io::{self, Write};
 
-/// A short list that has every operation and every answer: of each operation the first `each` with an answer, the first few of each refusal, and the first few with slices about as long as 01 allows.
+/// A short list that has every operation and every answer: of each operation the first `each` with an answer, the first few of each refusal, and the first
+/// few with slices about as long as 01 allows.
 struct Short {
     each: usize,
     kept: HashMap<(u32, u32, bool), usize>,

@@ -28,6 +28,7 @@ mod line_damage;
 mod line_feeds;
 mod line_samples;
 mod line_settings;
+mod line_whole;
 mod linear;
 mod linear_f32;
 mod linear_q15;
@@ -42,6 +43,7 @@ mod report;
 mod request;
 mod rng;
 mod samples;
+mod search;
 mod settings;
 mod shrink;
 mod simpler;
@@ -50,7 +52,7 @@ mod stream;
 mod values;
 
 use cascade::Cascade;
-use compare::Done;
+use compare::{Difference, Done};
 use half_band::HalfBand;
 use request::{Command, Converter, Draw, Request, USAGE};
 use std::io::{self, BufWriter};
@@ -122,8 +124,8 @@ fn compare(request: &Request) -> ExitCode {
             println!("seed {seed}: {cases} cases, {samples} samples, 0 differences");
             ExitCode::SUCCESS
         }
-        Err(case) => {
-            println!("seed {seed}, a difference: {}", case.report());
+        Err(Difference { number, case }) => {
+            println!("seed {seed}, case {number}: {}", case.report());
             ExitCode::FAILURE
         }
     }

@@ -22,7 +22,9 @@ pub trait Values {
     fn overwrite(&mut self);
     /// Whether that changes anything.
     fn edit(&mut self, edit: &Edit) -> bool;
-    /// How many simpler numbers there are for an element.
+    /// The elements that there are simpler numbers for.
+    fn shrinkable(&self) -> Vec<usize>;
+    /// How many there are for an element.
     fn choices(&self, at: usize) -> usize;
 }
 
@@ -97,6 +99,11 @@ impl<T: Element> Values for Places<'_, T> {
                 true
             }
         }
+    }
+
+    fn shrinkable(&self) -> Vec<usize> {
+        let all = 0..self.len();
+        all.filter(|&at| self.choices(at) > 0).collect()
     }
 
     fn choices(&self, at: usize) -> usize {

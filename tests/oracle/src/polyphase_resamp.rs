@@ -9,6 +9,7 @@ use crate::lent::{LONGEST, Slice};
 use crate::refusals;
 use crate::rng::Rng;
 use crate::samples;
+use crate::search;
 use crate::settings;
 use crate::sizes::RESAMPLERS;
 use resamplers::Resampler;
@@ -156,12 +157,10 @@ impl State {
         if written < places {
             return samples.len();
         }
-        let counts: Vec<usize> = (0..samples.len()).collect();
-        let is_short = |&taken: &usize| {
+        search::least(samples.len(), |taken| {
             let mut span = vec![0.0; places];
-            self.rust().process_block(&samples[..taken], &mut span) < places
-        };
-        counts.partition_point(is_short)
+            self.rust().process_block(&samples[..taken], &mut span) == places
+        })
     }
 
     fn feed(&mut self, lent: &mut Buffers<f32, f32>) -> Counts {

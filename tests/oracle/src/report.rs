@@ -46,7 +46,7 @@ pub fn lent(fields: &[Field]) -> String {
 }
 
 fn both(name: &str, expected: &str, answered: &str) -> String {
-    format!("{name}: expected {expected}, answered {answered}")
+    format!("{name}: expected {expected}, the archive answers {answered}")
 }
 
 pub fn refusals(expected: u32, answered: u64) -> String {

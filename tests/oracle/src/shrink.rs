@@ -80,7 +80,8 @@ impl<C: Call> Shrink<C> {
 
     fn numbers(&mut self, field: usize) -> bool {
         let mut kept = false;
-        for at in 0..self.length(field).min(SHORT) {
+        let shrinkable = self.read(field, |values| values.shrinkable());
+        for at in shrinkable.into_iter().take(SHORT) {
             while self.number(field, at) {
                 kept = true;
             }
