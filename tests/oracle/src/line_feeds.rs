@@ -1,9 +1,12 @@
 //! A line that is opened and fed so many times: after each feed, what demand 3 says of the outputs of every sample taken so far.
 
-use crate::archive::line;
+use crate::archive::{line, word};
+use crate::calls::{Buffers, Single};
 use crate::case::{Call, Case, Operation};
 use crate::field::{Field, Fields, Role, fields};
+use crate::gauge_line::Line;
 use crate::lent::{LONGEST, Lent, Slice};
+use crate::line_calls::{Feed, Open};
 use crate::line_samples;
 use crate::line_settings::{self, Settings};
 use crate::record::Record;
@@ -17,7 +20,7 @@ const FEEDS: Operation<Feeds> = Operation {
     name: "Line::open, then Line::feed",
     refusal: Some(|call| call.settings.refusal()),
     rust: Feeds::feed,
-    archive: line::feeds,
+    archive: Feeds::run,
 };
 
 /// For reports.
@@ -45,6 +48,20 @@ impl Fed {
         }
     }
 
+    /// Through the archive, on the line that is handed back.
+    fn run(&mut self, line: Line) -> Line {
+        let buffers = Buffers {
+            samples: self.samples.clone(),
+            span: self.span.clone(),
+        };
+        let mut call: Feed = Single::of(line, buffers);
+        self.refusal = word(line::feed(&mut call));
+        self.span = call.lent.span;
+        self.taken = call.answer.taken;
+        self.written = call.answer.written;
+        call.state
+    }
+
     /// The first two are lent.
     fn fields_and_answers(&mut self) -> Vec<Field<'_>> {
         let mut fields = self.fields();
@@ -68,6 +85,20 @@ impl Feeds {
         for fed in &mut self.feeds {
             past.feed(&self.settings, fed);
         }
+    }
+
+    /// Through the archive: a line that is not opened is not fed.
+    fn run(&mut self) -> u64 {
+        let mut opening: Open = Single::of((), self.settings.clone());
+        let refusal = line::open(&mut opening);
+        let mut line = opening.answer.0;
+        for fed in &mut self.feeds {
+            (fed.refusal, fed.taken, fed.written) = (0, 0, 0);
+            if refusal == 0 {
+                line = fed.run(line);
+            }
+        }
+        refusal
     }
 }
 

@@ -37,6 +37,7 @@ pub const BAD_STEPS: [f32; 9] = [
 ];
 
 fields! {
+    /// What `Line::open` is lent.
     pub struct Settings {
         stages: u64,
         r: u64,

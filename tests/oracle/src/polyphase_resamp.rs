@@ -378,9 +378,11 @@ pub fn more(rng: &mut Rng) -> Cases {
     }
 }
 
-/// A long block, of which a place stays unwritten or not.
+/// A long block, of which a place stays unwritten or not. Levels alone leave every output a number.
 pub fn long(rng: &mut Rng) -> Cases {
     let mut state = midway_any(rng);
+    state.delay = float_samples::levels(rng);
+    state.prototype = float_samples::levels(rng);
     state.step = rng.within(1 << 18, 1 << 23) as f32 / (1 << 20) as f32;
     state.mu = some_mu(rng, state.step).max(0.0);
     let length = rng.within(LONGEST / 2, 2 * LONGEST);

@@ -1,6 +1,6 @@
 //! The float layer of the archive.
 
-use super::{with_fields, word};
+use super::{with_buffers, with_fields, word};
 use crate::{cascade, half_band, hbf_dec, hbf_int, hbf_stream};
 use crate::{linear, polyphase_resamp, values};
 use gauge_raw::*;
@@ -33,25 +33,6 @@ macro_rules! with_half_band {
     };
 }
 
-/// A call's samples and span, each as a pointer and a length, and the place for what is written.
-macro_rules! with_block {
-    ($with:ident, $function:expr, $call:expr) => {{
-        let (samples, span) = (&$call.lent.samples.elements, &mut $call.lent.span.elements);
-        $with!(
-            $function,
-            [],
-            $call.state,
-            [
-                samples.as_ptr(),
-                samples.len() as u64,
-                span.as_mut_ptr(),
-                span.len() as u64,
-                &mut $call.answer.written
-            ]
-        )
-    }};
-}
-
 macro_rules! half_band_new {
     ($function:expr, $call:expr) => {{
         let (taps, state) = (&$call.lent.taps.elements, &mut $call.answer);
@@ -68,11 +49,11 @@ pub fn hbf_int_new(call: &mut half_band::New<48>) -> u64 {
 }
 
 pub fn hbf_dec_process(call: &mut half_band::Block<96>) -> u64 {
-    with_block!(with_half_band, gauge_hbf_dec_process, call)
+    with_buffers!(with_half_band, gauge_hbf_dec_process, call, [written])
 }
 
 pub fn hbf_int_process(call: &mut half_band::Block<48>) -> u64 {
-    with_block!(with_half_band, gauge_hbf_int_process, call)
+    with_buffers!(with_half_band, gauge_hbf_int_process, call, [written])
 }
 
 pub fn hbf_dec_reset(call: &mut half_band::Reset<96>) -> u64 {
@@ -120,11 +101,11 @@ pub fn hbf_int_cascade_new(call: &mut cascade::New<240>) -> u64 {
 }
 
 pub fn hbf_dec_cascade_process(call: &mut cascade::Block<480>) -> u64 {
-    with_block!(with_cascade, gauge_hbf_dec_cascade_process, call)
+    with_buffers!(with_cascade, gauge_hbf_dec_cascade_process, call, [written])
 }
 
 pub fn hbf_int_cascade_process(call: &mut cascade::Block<240>) -> u64 {
-    with_block!(with_cascade, gauge_hbf_int_cascade_process, call)
+    with_buffers!(with_cascade, gauge_hbf_int_cascade_process, call, [written])
 }
 
 pub fn hbf_dec_cascade_reset(call: &mut cascade::Reset<480>) -> u64 {
@@ -197,19 +178,11 @@ pub fn polyphase_resamp_from_taps(call: &mut polyphase_resamp::New) -> u64 {
 }
 
 pub fn polyphase_resamp_process_block(call: &mut polyphase_resamp::Block) -> u64 {
-    let (samples, span) = (&call.lent.samples.elements, &mut call.lent.span.elements);
-    with_resampler!(
+    with_buffers!(
+        with_resampler,
         gauge_polyphase_resamp_process_block,
-        [],
-        call.state,
-        [
-            samples.as_ptr(),
-            samples.len() as u64,
-            span.as_mut_ptr(),
-            span.len() as u64,
-            &mut call.answer.taken,
-            &mut call.answer.written
-        ]
+        call,
+        [taken, written]
     )
 }
 

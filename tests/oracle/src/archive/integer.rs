@@ -1,6 +1,6 @@
 //! The CIC converters of the archive.
 
-use super::{with_fields, word};
+use super::{with_buffers, with_fields, word};
 use crate::element::Element;
 use crate::{cic_decimator, cic_interpolator};
 use gauge_raw::*;
@@ -63,19 +63,11 @@ pub fn cic_decimator_process_sample_scaled(call: &mut cic_decimator::Step) -> u6
 }
 
 pub fn cic_decimator_process_block(call: &mut cic_decimator::Block) -> u64 {
-    let (samples, span) = (&call.lent.samples.elements, &mut call.lent.span.elements);
-    with_decimator!(
+    with_buffers!(
+        with_decimator,
         gauge_cic_decimator_process_block,
-        [],
-        call.state,
-        [
-            samples.as_ptr(),
-            samples.len() as u64,
-            span.as_mut_ptr(),
-            span.len() as u64,
-            &mut call.answer.taken,
-            &mut call.answer.written
-        ]
+        call,
+        [taken, written]
     )
 }
 

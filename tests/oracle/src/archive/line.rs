@@ -1,12 +1,7 @@
 //! The gauge line of the archive.
 
-use super::with_fields;
-use crate::calls::{Buffers, Counts};
-use crate::field::Fields;
-use crate::gauge_line::Line;
+use super::{with_buffers, with_fields};
 use crate::line_calls::{Feed, Open, Reset, Step};
-use crate::line_feeds::{Fed, Feeds};
-use crate::line_settings::Settings;
 use gauge_raw::*;
 
 macro_rules! with_line {
@@ -42,7 +37,8 @@ macro_rules! with_line {
     };
 }
 
-fn open_line(settings: &Settings, line: &mut Line) -> u64 {
+pub fn open(call: &mut Open) -> u64 {
+    let (settings, line) = (&call.lent, &mut call.answer.0);
     with_line!(
         gauge_line_open,
         [
@@ -63,34 +59,8 @@ fn open_line(settings: &Settings, line: &mut Line) -> u64 {
     )
 }
 
-fn feed_line(line: &mut Line, samples: &[i32], span: &mut [f32], counts: &mut Counts) -> u64 {
-    with_line!(
-        gauge_line_feed,
-        [],
-        line,
-        [
-            samples.as_ptr(),
-            samples.len() as u64,
-            span.as_mut_ptr(),
-            span.len() as u64,
-            &mut counts.taken,
-            &mut counts.written
-        ]
-    )
-}
-
-pub fn open(call: &mut Open) -> u64 {
-    open_line(&call.lent, &mut call.answer.0)
-}
-
 pub fn feed(call: &mut Feed) -> u64 {
-    let Buffers { samples, span } = &mut call.lent;
-    feed_line(
-        &mut call.state,
-        &samples.elements,
-        &mut span.elements,
-        &mut call.answer,
-    )
+    with_buffers!(with_line, gauge_line_feed, call, [taken, written])
 }
 
 pub fn step(call: &mut Step) -> u64 {
@@ -113,25 +83,4 @@ pub fn step(call: &mut Step) -> u64 {
 
 pub fn reset(call: &mut Reset) -> u64 {
     with_line!(gauge_line_reset, [], call.state, [])
-}
-
-fn feed_next(line: &mut Line, fed: &mut Fed) {
-    let mut counts = Counts::zeros();
-    let (samples, span) = (&fed.samples.elements, &mut fed.span.elements);
-    fed.refusal = feed_line(line, samples, span, &mut counts) as u32;
-    fed.taken = counts.taken;
-    fed.written = counts.written;
-}
-
-/// A line that is not opened is not fed.
-pub fn feeds(call: &mut Feeds) -> u64 {
-    let mut line = Line::zeros();
-    let refusal = open_line(&call.settings, &mut line);
-    for fed in &mut call.feeds {
-        (fed.refusal, fed.taken, fed.written) = (0, 0, 0);
-        if refusal == 0 {
-            feed_next(&mut line, fed);
-        }
-    }
-    refusal
 }

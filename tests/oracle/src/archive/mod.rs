@@ -17,9 +17,29 @@ macro_rules! with_fields {
 }
 use with_fields;
 
-/// How many outputs were made, as a word: what no word holds is no count that is expected.
-fn word(made: u64) -> u32 {
-    u32::try_from(made).unwrap_or(u32::MAX)
+/// A call with samples and a span, each as a pointer and a length, and the places for its counts.
+macro_rules! with_buffers {
+    ($with:ident, $function:expr, $call:expr, [$($count:ident),*]) => {{
+        let (samples, span) = (&$call.lent.samples.elements, &mut $call.lent.span.elements);
+        $with!(
+            $function,
+            [],
+            $call.state,
+            [
+                samples.as_ptr(),
+                samples.len() as u64,
+                span.as_mut_ptr(),
+                span.len() as u64
+                $(, &mut $call.answer.$count)*
+            ]
+        )
+    }};
+}
+use with_buffers;
+
+/// A count or a refusal as a word: what no word holds is none that is expected.
+pub fn word(number: u64) -> u32 {
+    u32::try_from(number).unwrap_or(u32::MAX)
 }
 
 type Linear<T, R> = unsafe extern "C" fn(*const T, u64, *mut T, u64, R, &mut u64) -> u64;
