@@ -120,11 +120,13 @@ impl<const STAGES: usize> HbfIntCascade<STAGES> {
 }
 
 impl<const PHASES: usize, const TAPS: usize> PolyphaseResampF32<PHASES, TAPS> {
-    pub fn from_parts(h: [[f32; TAPS]; PHASES], delay: [f32; TAPS], mu: f32, step: f32) -> Self {
-        Self { h, delay, mu, step }
+    /// Midway: the newest samples and where the next output lies.
+    pub fn set_parts(&mut self, delay: &[f32], mu: f32) {
+        self.delay.copy_from_slice(delay);
+        self.mu = mu;
     }
 
-    pub fn parts(&self) -> ([[f32; TAPS]; PHASES], [f32; TAPS], f32, f32) {
-        (self.h, self.delay, self.mu, self.step)
+    pub fn parts(&self) -> (&[[f32; TAPS]], &[f32], f32, f32) {
+        (&self.h, &self.delay, self.mu, self.step)
     }
 }

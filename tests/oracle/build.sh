@@ -1,5 +1,6 @@
 #!/usr/bin/env bash
-# Builds target/oracle/oracle with rustc alone: the unchanged Rust as a crate of its own, then the program over it.
+# Builds target/oracle/oracle with rustc alone: the unchanged Rust as a crate of its own, then the program over it and over the archive.
+# GAUGE_ARCHIVE names an archive that is built already; without it the crate ffi is built here.
 set -euo pipefail
 cd "$(dirname "$0")/../.."
 
@@ -14,8 +15,33 @@ cat "$from/rust/resampling.rs" "$from/accessors.rs" >"$to/embedded_dsp/resamplin
 printf 'pub mod resampling;\npub mod types;\n' >"$to/embedded_dsp/lib.rs"
 
 # With overflow checks a call that the Rust does not define stops the oracle.
-flags=(--edition 2024 -C opt-level=3 -C overflow-checks=on)
-rustc "${flags[@]}" --crate-name embedded_dsp --crate-type rlib --cap-lints allow \
-    -o "$to/libembedded_dsp.rlib" "$to/embedded_dsp/lib.rs"
-rustc "${flags[@]}" --crate-name oracle \
-    --extern "embedded_dsp=$to/libembedded_dsp.rlib" -o "$to/oracle" "$from/src/main.rs"
+flags=(--edition 2024 -C overflow-checks=on)
+
+# The crates with the Rust in them are built again only where they, this script or the compiler have changed.
+now=$(rustc --version && sha256sum "$to"/embedded_dsp/*.rs "$from/resamplers.rs" "$from/build.sh")
+if [ "$now" != "$(cat "$to/built" 2>/dev/null)" ]; then
+    rustc "${flags[@]}" -C opt-level=3 --crate-name embedded_dsp --crate-type rlib --cap-lints allow \
+        -o "$to/libembedded_dsp.rlib" "$to/embedded_dsp/lib.rs"
+    # Smaller code: there are a thousand pairs of P and T.
+    rustc "${flags[@]}" -C opt-level=s --crate-name resamplers --crate-type rlib \
+        --extern "embedded_dsp=$to/libembedded_dsp.rlib" \
+        -o "$to/libresamplers.rlib" "$from/resamplers.rs"
+    echo "$now" >"$to/built"
+fi
+
+archive=${GAUGE_ARCHIVE:-}
+if [ -z "$archive" ]; then
+    archive=target/staticlib/libffi.a
+    if ! rt staticlib ffi >"$to/staticlib.log" 2>&1; then
+        tail -n 20 "$to/staticlib.log"
+        exit 1
+    fi
+fi
+
+rustc --edition 2024 -O --crate-name gauge_raw --crate-type rlib \
+    -o "$to/libgauge_raw.rlib" host/gauge-line/src/raw.rs
+rustc "${flags[@]}" -C opt-level=3 --crate-name oracle -L "dependency=$to" \
+    --extern "embedded_dsp=$to/libembedded_dsp.rlib" \
+    --extern "resamplers=$to/libresamplers.rlib" \
+    --extern "gauge_raw=$to/libgauge_raw.rlib" \
+    -C link-arg="$archive" -o "$to/oracle" "$from/src/main.rs"

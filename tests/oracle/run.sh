@@ -1,16 +1,18 @@
 #!/usr/bin/env bash
-# Compares the port with the unchanged Rust. Arguments: seeds of the larger lists.
+# Compares the port with the unchanged Rust: the archive in one process with it, and the Rattle program `replay` over a list. Arguments: seeds of the former.
 set -euo pipefail
 cd "$(dirname "$0")/../.."
 
+oracle=target/oracle/oracle
 stored=(--seed 1 --cases 60000 --each 24)
-cases=300000
+listed=20000
+compared=(--cases 300000 --samples 60000000)
 [ "$#" -gt 0 ] || set -- 20261115 577215664 6180339887
 
 tests/oracle/build.sh
 
 # The stored list, which the gate replays, is what the oracle lists.
-target/oracle/oracle list "${stored[@]}" | cmp - crates/replay/stdin
+"$oracle" list "${stored[@]}" | cmp - crates/replay/stdin
 
 # Nothing is proved again that has not changed.
 if ! rt check replay >target/oracle/check.log 2>&1; then
@@ -18,8 +20,10 @@ if ! rt check replay >target/oracle/check.log 2>&1; then
     exit 1
 fi
 
+said=$("$oracle" list --seed 2 --cases "$listed" | target/bin/replay) || true
+echo "replay, seed 2: $said"
+[ "$said" = "$listed records, 0 differences" ]
+
 for seed in "$@"; do
-    said=$(target/oracle/oracle list --seed "$seed" --cases "$cases" | target/bin/replay) || true
-    echo "seed $seed: $said"
-    [ "$said" = "$cases records, 0 differences" ]
+    "$oracle" compare --seed "$seed" "${compared[@]}"
 done

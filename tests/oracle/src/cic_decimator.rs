@@ -1,8 +1,11 @@
 //! Cases of `CicDecimator`.
 
-use crate::cic_settings;
+use crate::archive::integer;
+use crate::calls::{Buffers, Counts, Free, Made, Sample, Single, Value};
+use crate::case::{Case, Cases, Operation};
+use crate::cic_settings::{self, Settings};
+use crate::field::{Fields, fields};
 use crate::lent::{LONGEST, Lent};
-use crate::record::Record;
 use crate::refusals;
 use crate::rng::Rng;
 use crate::samples;
@@ -10,31 +13,73 @@ use crate::settings;
 use crate::sizes::{front, with_stages};
 use embedded_dsp::resampling::CicDecimator;
 
-const NEW: u32 = 0x11;
-const PROCESS_SAMPLE: u32 = 0x12;
-const PROCESS_SAMPLE_SCALED: u32 = 0x13;
-const GAIN: u32 = 0x14;
-const GAIN_BITS: u32 = 0x15;
-const PROCESS_BLOCK: u32 = 0x16;
+pub type New = Free<Settings, State>;
+pub type Step = Single<State, Sample<i32>, Made<i32>>;
+pub type Reading<T> = Free<State, Value<T>>;
+pub type Block = Single<State, Buffers<i32, i32>, Counts>;
 
-/// The port's state: the Rust has N as a constant, and N places for 8.
-struct State {
-    stages: u64,
-    r: u64,
-    integrators: [i32; 8],
-    combs: [i32; 8],
-    sample_counter: u64,
+const NEW: Operation<New> = Operation {
+    code: 0x11,
+    name: "CicDecimator::new",
+    refusal: Some(|call| call.lent.refusal()),
+    rust: |call| call.answer = State::opened(call.lent.stages, call.lent.r),
+    archive: integer::cic_decimator_new,
+};
+
+const PROCESS_SAMPLE: Operation<Step> = Operation {
+    code: 0x12,
+    name: "CicDecimator::process_sample",
+    refusal: Some(|call| call.state.refusal()),
+    rust: |call| call.answer = call.state.sample(call.lent.sample).into(),
+    archive: integer::cic_decimator_process_sample,
+};
+
+const PROCESS_SAMPLE_SCALED: Operation<Step> = Operation {
+    code: 0x13,
+    name: "CicDecimator::process_sample_scaled",
+    refusal: Some(|call| call.state.scaled_refusal()),
+    rust: |call| call.answer = call.state.scaled(call.lent.sample).into(),
+    archive: integer::cic_decimator_process_sample_scaled,
+};
+
+const GAIN: Operation<Reading<u64>> = Operation {
+    code: 0x14,
+    name: "CicDecimator::gain",
+    refusal: Some(|call| call.lent.refusal()),
+    rust: |call| call.answer.value = with_stages!(call.lent.stages, gain(&call.lent)),
+    archive: integer::cic_decimator_gain,
+};
+
+const GAIN_BITS: Operation<Reading<u32>> = Operation {
+    code: 0x15,
+    name: "CicDecimator::gain_bits",
+    refusal: Some(|call| call.lent.refusal()),
+    rust: |call| call.answer.value = with_stages!(call.lent.stages, gain_bits(&call.lent)),
+    archive: integer::cic_decimator_gain_bits,
+};
+
+const PROCESS_BLOCK: Operation<Block> = Operation {
+    code: 0x16,
+    name: "CicDecimator::process_block",
+    refusal: Some(|call| call.state.refusal()),
+    rust: |call| with_stages!(call.state.stages, block(call)),
+    archive: integer::cic_decimator_process_block,
+};
+
+fields! {
+    /// The port's state: the Rust has N as a constant, and N places for 8.
+    pub struct State {
+        stages: u64,
+        r: u64,
+        integrators: [i32; 8],
+        combs: [i32; 8],
+        sample_counter: u64,
+    }
 }
 
 impl State {
-    fn zeros(stages: u64, r: u64) -> Self {
-        State {
-            stages,
-            r,
-            integrators: [0; 8],
-            combs: [0; 8],
-            sample_counter: 0,
-        }
+    pub fn opened(stages: u64, r: u64) -> Self {
+        with_stages!(stages, opened(r))
     }
 
     fn rust<const N: usize>(&self) -> CicDecimator<N> {
@@ -55,22 +100,26 @@ impl State {
         self.sample_counter = sample_counter as u64;
     }
 
-    fn write(&self, record: &mut Record) {
-        record
-            .long(self.stages)
-            .long(self.r)
-            .words(&self.integrators)
-            .words(&self.combs)
-            .long(self.sample_counter);
-    }
-
     fn refusal(&self) -> u32 {
         refusals::cic_decimator(self.stages, self.r, self.sample_counter)
+    }
+
+    fn scaled_refusal(&self) -> u32 {
+        refusals::cic_scaled(self.stages, self.r, self.sample_counter)
+    }
+
+    fn sample(&mut self, input: i32) -> Option<i32> {
+        with_stages!(self.stages, sample(self, input))
+    }
+
+    pub fn scaled(&mut self, input: i32) -> Option<i32> {
+        with_stages!(self.stages, scaled(self, input))
     }
 }
 
 fn opened<const N: usize>(r: u64) -> State {
-    let mut state = State::zeros(N as u64, 0);
+    let mut state = State::zeros();
+    state.stages = N as u64;
     state.keep(&CicDecimator::<N>::new(r as usize));
     state
 }
@@ -98,8 +147,9 @@ fn gain_bits<const N: usize>(state: &State) -> u32 {
 }
 
 /// What the port adds: samples from the front while the span has a place, each through `process_sample`.
-fn block<const N: usize>(state: &mut State, input: &[i32], span: &mut [i32]) -> (u64, u64) {
-    let mut rust = state.rust::<N>();
+fn block<const N: usize>(call: &mut Block) {
+    let mut rust = call.state.rust::<N>();
+    let (input, span) = (&call.lent.samples.elements, &mut call.lent.span.elements);
     let mut taken = 0;
     let mut written = 0;
     while written < span.len() && taken < input.len() {
@@ -109,125 +159,39 @@ fn block<const N: usize>(state: &mut State, input: &[i32], span: &mut [i32]) -> 
         }
         taken += 1;
     }
-    state.keep(&rust);
-    (taken as u64, written as u64)
-}
-
-fn new_case(rng: &mut Rng) -> Record {
-    let (stages, r) = cic_settings::any(rng);
-    let refusal = refusals::cic_opening(stages, r);
-    let state = match refusal {
-        0 => with_stages!(stages, opened(r)),
-        _ => State::zeros(0, 0),
+    call.state.keep(&rust);
+    call.answer = Counts {
+        taken: taken as u64,
+        written: written as u64,
     };
-    let mut record = Record::of(NEW);
-    record.long(stages).long(r).refusal(refusal);
-    state.write(&mut record);
-    record
 }
 
-fn sample_case(rng: &mut Rng, state: &mut State) -> Record {
-    let input = samples::one(rng);
-    let mut record = Record::of(PROCESS_SAMPLE);
-    state.write(&mut record);
-    record.number(input);
-    let refusal = state.refusal();
-    let output = match refusal {
-        0 => with_stages!(state.stages, sample(state, input)),
-        _ => None,
-    };
-    write_step(&mut record, refusal, output, state);
-    record
+fn some_sample(rng: &mut Rng) -> Sample<i32> {
+    Sample {
+        sample: samples::one(rng),
+    }
 }
 
-fn scaled_case(rng: &mut Rng, state: &mut State) -> Record {
-    let input = samples::one(rng);
-    let mut record = Record::of(PROCESS_SAMPLE_SCALED);
-    state.write(&mut record);
-    record.number(input);
-    let refusal = refusals::cic_scaled(state.stages, state.r, state.sample_counter);
-    let output = match refusal {
-        0 => with_stages!(state.stages, scaled(state, input)),
-        _ => None,
-    };
-    write_step(&mut record, refusal, output, state);
-    record
+fn some_opening(rng: &mut Rng) -> Box<dyn Case> {
+    NEW.of(cic_settings::any(rng)).0
 }
 
-fn write_step(record: &mut Record, refusal: u32, output: Option<i32>, state: &State) {
-    record
-        .refusal(refusal)
-        .word(output.is_some().into())
-        .number(output.unwrap_or(0));
-    state.write(record);
-}
-
-fn gain_case(state: &State) -> Record {
-    let refusal = state.refusal();
-    let value = match refusal {
-        0 => with_stages!(state.stages, gain(state)),
-        _ => 0,
-    };
-    let mut record = Record::of(GAIN);
-    state.write(&mut record);
-    record.refusal(refusal).long(value);
-    record
-}
-
-fn gain_bits_case(state: &State) -> Record {
-    let refusal = state.refusal();
-    let value = match refusal {
-        0 => with_stages!(state.stages, gain_bits(state)),
-        _ => 0,
-    };
-    let mut record = Record::of(GAIN_BITS);
-    state.write(&mut record);
-    record.refusal(refusal).word(value);
-    record
-}
-
-fn block_case(state: &mut State, input: &Lent, span: &Lent) -> Record {
-    let mut record = Record::of(PROCESS_BLOCK);
-    state.write(&mut record);
-    record.lent(input).lent(span);
-    let lent: Vec<i32> = span.elements();
-    let mut places = lent.clone();
-    let refusal = state.refusal();
-    let (taken, written) = match refusal {
-        0 => with_stages!(
-            state.stages,
-            block(state, &input.elements::<i32>(), &mut places)
-        ),
-        _ => (0, 0),
-    };
-    record
-        .refusal(refusal)
-        .long(taken)
-        .long(written)
-        .left(&lent, &places);
-    state.write(&mut record);
-    record
+fn gains(state: &State) -> Cases {
+    vec![GAIN.of(state.clone()).0, GAIN_BITS.of(state.clone()).0]
 }
 
 /// A block whose samples complete about `outputs` sums, with a span around their number.
-fn some_block(rng: &mut Rng, state: &mut State, outputs: u64) -> Record {
+fn some_block(rng: &mut Rng, state: &mut State, outputs: u64) -> Box<dyn Case> {
     let r = state.r.clamp(1, 4096);
     let counter = state.sample_counter.min(r);
     let about = outputs * r + rng.pick(&[0, 1, 2, r]);
     let length = about.saturating_sub(counter + 1).min(LONGEST);
     let due = (counter + length) / r;
-    let places = match rng.below(8) {
-        0 => 0,
-        1 => rng.below(due + 1),
-        2 => due.saturating_sub(1),
-        3 | 4 => due,
-        5 => due + 1,
-        _ => due + rng.within(2, 9),
-    };
+    let places = settings::places_around(rng, due);
     let listed = rng.pick(&[0, 8, 40]);
     let input = samples::list(rng, length, listed);
     let span = samples::span(rng, places.min(LONGEST));
-    block_case(state, &input, &span)
+    PROCESS_BLOCK.on(state, Buffers::of(input, span))
 }
 
 fn few_outputs(rng: &mut Rng) -> u64 {
@@ -239,21 +203,21 @@ fn few_outputs(rng: &mut Rng) -> u64 {
 }
 
 /// One call of any kind, which leaves the state that the next one gets.
-fn any_call(rng: &mut Rng, state: &mut State) -> Record {
+fn any_call(rng: &mut Rng, state: &mut State) -> Box<dyn Case> {
     match rng.below(16) {
-        0 => gain_case(state),
-        1 => gain_bits_case(state),
+        0 => GAIN.of(state.clone()).0,
+        1 => GAIN_BITS.of(state.clone()).0,
         2..=6 => {
             let outputs = few_outputs(rng);
             some_block(rng, state, outputs)
         }
-        7..=10 => scaled_case(rng, state),
-        _ => sample_case(rng, state),
+        7..=10 => PROCESS_SAMPLE_SCALED.on(state, some_sample(rng)),
+        _ => PROCESS_SAMPLE.on(state, some_sample(rng)),
     }
 }
 
 /// Valid settings and counter, anything in the sums, in the places past N too.
-fn midway(rng: &mut Rng) -> State {
+pub fn midway(rng: &mut Rng) -> State {
     let r = cic_settings::factor(rng);
     State {
         stages: cic_settings::stages(rng),
@@ -274,7 +238,7 @@ fn damaged(rng: &mut Rng) -> State {
     match rng.below(5) {
         0 => state.stages = cic_settings::bad_stages(rng),
         1 => state.r = settings::bad_factor(rng),
-        2 => state = State::zeros(0, 0),
+        2 => state = State::zeros(),
         _ => {
             let r = state.r;
             state.sample_counter = rng.pick(&[r, r, r + 1, r + (1 << 32), u64::MAX]);
@@ -292,20 +256,20 @@ fn gain_edge(rng: &mut Rng) -> State {
 }
 
 /// From an opening: calls of every kind, each on the state that the one before left.
-fn stream(rng: &mut Rng) -> Vec<Record> {
+fn stream(rng: &mut Rng) -> Cases {
     let stages = cic_settings::stages(rng);
     let r = cic_settings::factor_up_to(rng, 64);
-    let mut state = with_stages!(stages, opened(r));
+    let mut state = State::opened(stages, r);
     (0..rng.within(4, 24))
         .map(|_| any_call(rng, &mut state))
         .collect()
 }
 
 /// From an opening: blocks of many samples at one level, past the first wrap of every integrator.
-fn long_run(rng: &mut Rng) -> Vec<Record> {
+fn long_run(rng: &mut Rng) -> Cases {
     let stages = cic_settings::stages(rng);
     let r = cic_settings::factor(rng);
-    let mut state = with_stages!(stages, opened(r));
+    let mut state = State::opened(stages, r);
     let level = rng.within(1 << 20, 1 << 28) as u32;
     let pattern = if rng.one_in(2) {
         level
@@ -318,36 +282,46 @@ fn long_run(rng: &mut Rng) -> Vec<Record> {
             let length = rng.within(most / 2, most);
             let input = Lent::pattern(length, pattern, 1);
             let span = samples::span(rng, 70);
-            block_case(&mut state, &input, &span)
+            PROCESS_BLOCK.on(&mut state, Buffers::of(input, span))
         })
         .collect()
 }
 
 /// A block at 01's limit of 65,536 and around it, which holds for other blocks and not for this one.
-fn longest_block(rng: &mut Rng) -> Record {
+fn longest_block(rng: &mut Rng) -> Box<dyn Case> {
     let around = [65_535, 65_536, 65_537, LONGEST];
     let (length, places) = (rng.pick(&around), rng.pick(&around));
     let input = samples::list(rng, length, 4);
     let span = samples::span(rng, places);
     let mut state = midway(rng);
     state.r = state.r.max(16);
-    block_case(&mut state, &input, &span)
+    PROCESS_BLOCK.on(&mut state, Buffers::of(input, span))
 }
 
-pub fn cases(rng: &mut Rng) -> Vec<Record> {
+/// A block that is longer than `replay` has room for.
+pub fn long(rng: &mut Rng) -> Cases {
+    let mut state = midway(rng);
+    let length = rng.within(LONGEST, 4 * LONGEST);
+    let places = settings::places_around(rng, (state.sample_counter + length) / state.r);
+    let input = samples::noise(rng, length);
+    let span = samples::span(rng, places);
+    vec![PROCESS_BLOCK.on(&mut state, Buffers::of(input, span))]
+}
+
+pub fn cases(rng: &mut Rng) -> Cases {
     match rng.below(64) {
-        0..=7 => (0..4).map(|_| new_case(rng)).collect(),
+        0..=7 => (0..4).map(|_| some_opening(rng)).collect(),
         8..=19 => {
             let mut state = damaged(rng);
             vec![any_call(rng, &mut state)]
         }
         20..=25 => {
             let state = gain_edge(rng);
-            vec![gain_case(&state), gain_bits_case(&state)]
+            gains(&state)
         }
         26..=31 => {
             let mut state = gain_edge(rng);
-            vec![scaled_case(rng, &mut state)]
+            vec![PROCESS_SAMPLE_SCALED.on(&mut state, some_sample(rng))]
         }
         32..=55 => {
             let mut state = midway(rng);

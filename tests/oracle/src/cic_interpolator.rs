@@ -1,8 +1,11 @@
 //! Cases of `CicInterpolator`.
 
-use crate::cic_settings;
+use crate::archive::integer;
+use crate::calls::{Free, Push, Single, Value, Written};
+use crate::case::{Case, Cases, Operation};
+use crate::cic_settings::{self, Settings};
+use crate::field::{Fields, fields};
 use crate::lent::{LONGEST, Lent};
-use crate::record::Record;
 use crate::refusals;
 use crate::rng::Rng;
 use crate::samples;
@@ -10,29 +13,53 @@ use crate::settings;
 use crate::sizes::{front, with_stages};
 use embedded_dsp::resampling::CicInterpolator;
 
-const NEW: u32 = 0x21;
-const PROCESS_SAMPLE: u32 = 0x22;
-const GAIN: u32 = 0x23;
-const GAIN_BITS: u32 = 0x24;
+pub type New = Free<Settings, State>;
+pub type Step = Single<State, Push<i32>, Written>;
+pub type Reading<T> = Free<State, Value<T>>;
 
-/// The port's state: the Rust has N as a constant, and N places for 8.
-struct State {
-    stages: u64,
-    r: u64,
-    combs: [i32; 8],
-    integrators: [i32; 8],
+const NEW: Operation<New> = Operation {
+    code: 0x21,
+    name: "CicInterpolator::new",
+    refusal: Some(|call| call.lent.refusal()),
+    rust: |call| call.answer = with_stages!(call.lent.stages, opened(call.lent.r)),
+    archive: integer::cic_interpolator_new,
+};
+
+const PROCESS_SAMPLE: Operation<Step> = Operation {
+    code: 0x22,
+    name: "CicInterpolator::process_sample",
+    refusal: Some(|call| refusals::cic_up(call.state.stages, call.state.r, call.lent.span.len())),
+    rust: |call| with_stages!(call.state.stages, sample(call)),
+    archive: integer::cic_interpolator_process_sample,
+};
+
+const GAIN: Operation<Reading<u64>> = Operation {
+    code: 0x23,
+    name: "CicInterpolator::gain",
+    refusal: Some(|call| call.lent.refusal()),
+    rust: |call| call.answer.value = with_stages!(call.lent.stages, gain(&call.lent)),
+    archive: integer::cic_interpolator_gain,
+};
+
+const GAIN_BITS: Operation<Reading<u32>> = Operation {
+    code: 0x24,
+    name: "CicInterpolator::gain_bits",
+    refusal: Some(|call| call.lent.refusal()),
+    rust: |call| call.answer.value = with_stages!(call.lent.stages, gain_bits(&call.lent)),
+    archive: integer::cic_interpolator_gain_bits,
+};
+
+fields! {
+    /// The port's state: the Rust has N as a constant, and N places for 8.
+    pub struct State {
+        stages: u64,
+        r: u64,
+        combs: [i32; 8],
+        integrators: [i32; 8],
+    }
 }
 
 impl State {
-    fn zeros(stages: u64, r: u64) -> Self {
-        State {
-            stages,
-            r,
-            combs: [0; 8],
-            integrators: [0; 8],
-        }
-    }
-
     fn rust<const N: usize>(&self) -> CicInterpolator<N> {
         CicInterpolator::from_parts(
             self.r as usize,
@@ -49,29 +76,23 @@ impl State {
         self.integrators[..N].copy_from_slice(&integrators);
     }
 
-    fn write(&self, record: &mut Record) {
-        record
-            .long(self.stages)
-            .long(self.r)
-            .words(&self.combs)
-            .words(&self.integrators);
-    }
-
     fn refusal(&self) -> u32 {
         refusals::cic_interpolator(self.stages, self.r)
     }
 }
 
 fn opened<const N: usize>(r: u64) -> State {
-    let mut state = State::zeros(N as u64, 0);
+    let mut state = State::zeros();
+    state.stages = N as u64;
     state.keep(&CicInterpolator::<N>::new(r as usize));
     state
 }
 
-fn sample<const N: usize>(state: &mut State, input: i32, span: &mut [i32]) {
-    let mut rust = state.rust::<N>();
-    rust.process_sample(input, span);
-    state.keep(&rust);
+fn sample<const N: usize>(call: &mut Step) {
+    let mut rust = call.state.rust::<N>();
+    rust.process_sample(call.lent.sample, &mut call.lent.span.elements);
+    call.state.keep(&rust);
+    call.answer.written = call.state.r;
 }
 
 fn gain<const N: usize>(state: &State) -> u64 {
@@ -82,60 +103,12 @@ fn gain_bits<const N: usize>(state: &State) -> u32 {
     state.rust::<N>().gain_bits()
 }
 
-fn new_case(rng: &mut Rng) -> Record {
-    let (stages, r) = cic_settings::any(rng);
-    let refusal = refusals::cic_opening(stages, r);
-    let state = match refusal {
-        0 => with_stages!(stages, opened(r)),
-        _ => State::zeros(0, 0),
-    };
-    let mut record = Record::of(NEW);
-    record.long(stages).long(r).refusal(refusal);
-    state.write(&mut record);
-    record
+fn some_opening(rng: &mut Rng) -> Box<dyn Case> {
+    NEW.of(cic_settings::any(rng)).0
 }
 
-fn sample_case(state: &mut State, input: i32, span: &Lent) -> Record {
-    let mut record = Record::of(PROCESS_SAMPLE);
-    state.write(&mut record);
-    record.number(input).lent(span);
-    let lent: Vec<i32> = span.elements();
-    let mut places = lent.clone();
-    let refusal = refusals::cic_up(state.stages, state.r, span.length);
-    let written = match refusal {
-        0 => {
-            with_stages!(state.stages, sample(state, input, &mut places));
-            state.r
-        }
-        _ => 0,
-    };
-    record.refusal(refusal).long(written).left(&lent, &places);
-    state.write(&mut record);
-    record
-}
-
-fn gain_case(state: &State) -> Record {
-    let refusal = state.refusal();
-    let value = match refusal {
-        0 => with_stages!(state.stages, gain(state)),
-        _ => 0,
-    };
-    let mut record = Record::of(GAIN);
-    state.write(&mut record);
-    record.refusal(refusal).long(value);
-    record
-}
-
-fn gain_bits_case(state: &State) -> Record {
-    let refusal = state.refusal();
-    let value = match refusal {
-        0 => with_stages!(state.stages, gain_bits(state)),
-        _ => 0,
-    };
-    let mut record = Record::of(GAIN_BITS);
-    state.write(&mut record);
-    record.refusal(refusal).word(value);
-    record
+fn gains(state: &State) -> Cases {
+    vec![GAIN.of(state.clone()).0, GAIN_BITS.of(state.clone()).0]
 }
 
 /// A span that is exactly r long, longer, or too short.
@@ -152,17 +125,17 @@ fn some_span(rng: &mut Rng, r: u64) -> Lent {
     samples::span(rng, length)
 }
 
-fn some_sample(rng: &mut Rng, state: &mut State) -> Record {
+fn some_sample(rng: &mut Rng, state: &mut State) -> Box<dyn Case> {
     let input = samples::one(rng);
     let span = some_span(rng, state.r);
-    sample_case(state, input, &span)
+    PROCESS_SAMPLE.on(state, Push::of(input, span))
 }
 
 /// One call of any kind, which leaves the state that the next one gets.
-fn any_call(rng: &mut Rng, state: &mut State) -> Record {
+fn any_call(rng: &mut Rng, state: &mut State) -> Box<dyn Case> {
     match rng.below(8) {
-        0 => gain_case(state),
-        1 => gain_bits_case(state),
+        0 => GAIN.of(state.clone()).0,
+        1 => GAIN_BITS.of(state.clone()).0,
         _ => some_sample(rng, state),
     }
 }
@@ -183,7 +156,7 @@ fn damaged(rng: &mut Rng) -> State {
     match rng.below(3) {
         0 => state.stages = cic_settings::bad_stages(rng),
         1 => state.r = settings::bad_factor(rng),
-        _ => state = State::zeros(0, 0),
+        _ => state = State::zeros(),
     }
     state
 }
@@ -196,7 +169,7 @@ fn gain_edge(rng: &mut Rng) -> State {
 }
 
 /// From an opening: calls of every kind, each on the state that the one before left.
-fn stream(rng: &mut Rng) -> Vec<Record> {
+fn stream(rng: &mut Rng) -> Cases {
     let stages = cic_settings::stages(rng);
     let r = cic_settings::factor_up_to(rng, 24);
     let mut state = with_stages!(stages, opened(r));
@@ -206,24 +179,24 @@ fn stream(rng: &mut Rng) -> Vec<Record> {
 }
 
 /// A span past 65,536 places, which limits other calls and not this one.
-fn longest_span(rng: &mut Rng) -> Record {
+fn longest_span(rng: &mut Rng) -> Box<dyn Case> {
     let mut state = midway(rng, 64);
     let input = samples::one(rng);
     let places = rng.pick(&[65_536, 65_537, LONGEST]);
     let span = samples::span(rng, places);
-    sample_case(&mut state, input, &span)
+    PROCESS_SAMPLE.on(&mut state, Push::of(input, span))
 }
 
-pub fn cases(rng: &mut Rng) -> Vec<Record> {
+pub fn cases(rng: &mut Rng) -> Cases {
     match rng.below(64) {
-        0..=7 => (0..4).map(|_| new_case(rng)).collect(),
+        0..=7 => (0..4).map(|_| some_opening(rng)).collect(),
         8..=17 => {
             let mut state = damaged(rng);
             vec![any_call(rng, &mut state)]
         }
         18..=25 => {
             let state = gain_edge(rng);
-            vec![gain_case(&state), gain_bits_case(&state)]
+            gains(&state)
         }
         26..=53 => {
             let mut state = midway(rng, 64);

@@ -1,9 +1,25 @@
 //! The settings of a CIC converter, N and r: within 01's limits, at their ends and outside.
 
+use crate::field::fields;
+use crate::refusals;
 use crate::rng::Rng;
 use crate::settings::bad_factor;
 
 const MOST: u64 = 4096;
+
+fields! {
+    /// What a CIC converter is opened with.
+    pub struct Settings {
+        stages: u64,
+        r: u64,
+    }
+}
+
+impl Settings {
+    pub fn refusal(&self) -> u32 {
+        refusals::cic_opening(self.stages, self.r)
+    }
+}
 
 pub fn stages(rng: &mut Rng) -> u64 {
     rng.within(1, 8)
@@ -51,11 +67,12 @@ pub fn bad_stages(rng: &mut Rng) -> u64 {
 }
 
 /// Settings of which one or both may be outside the limits.
-pub fn any(rng: &mut Rng) -> (u64, u64) {
-    match rng.below(8) {
+pub fn any(rng: &mut Rng) -> Settings {
+    let (stages, r) = match rng.below(8) {
         0 => (bad_stages(rng), factor(rng)),
         1 => (stages(rng), bad_factor(rng)),
         2 => (bad_stages(rng), bad_factor(rng)),
         _ => (stages(rng), factor(rng)),
-    }
+    };
+    Settings { stages, r }
 }

@@ -1,43 +1,91 @@
 //! Cases of the streaming `FirDecimator`, which the Rust does not have: its outputs are those of the Rust's `polyphase_decimate_q15` on the whole list.
 
-use crate::lent::Lent;
+use crate::archive::q15;
+use crate::calls::{Free, Made, Sample, Single};
+use crate::case::{Case, Cases, Operation};
+use crate::field::{Fields, fields};
+use crate::lent::{LONGEST, Lent, Slice};
+use crate::polyphase_q15;
 use crate::q15_samples;
-use crate::record::Record;
 use crate::refusals;
 use crate::rng::Rng;
 use crate::settings;
-use embedded_dsp::resampling::polyphase_decimate_q15;
-use embedded_dsp::types::q15;
+use crate::stream::{Lists, Stream};
 
-const NEW: u32 = 0x41;
-const PROCESS_SAMPLE: u32 = 0x42;
-const RESET: u32 = 0x43;
+pub type New = Free<Settings, State>;
+pub type Step = Single<State, Sample<i16>, Made<i16>>;
+pub type Reset = Single<State, (), ()>;
+type Run = Stream<Settings, State, i16>;
+
+const NEW: Operation<New> = Operation {
+    code: 0x41,
+    name: "FirDecimator::new",
+    refusal: Some(|call| call.lent.refusal()),
+    rust: |call| call.answer = State::opened(&call.lent.taps.elements, call.lent.factor),
+    archive: q15::fir_decimator_new,
+};
+
+const PROCESS_SAMPLE: Operation<Step> = Operation {
+    code: 0x42,
+    name: "FirDecimator::process_sample",
+    refusal: Some(|call| call.state.refusal()),
+    rust: |call| call.answer = call.state.sample(call.lent.sample).into(),
+    archive: q15::fir_decimator_process_sample,
+};
+
+const RESET: Operation<Reset> = Operation {
+    code: 0x43,
+    name: "FirDecimator::reset",
+    refusal: Some(|call| call.state.refusal()),
+    rust: |call| call.state = State::opened(call.state.own_taps(), call.state.factor),
+    archive: q15::fir_decimator_reset,
+};
+
+const RUN: Operation<Run> = Operation {
+    code: 0,
+    name: "FirDecimator::new, then process_sample for each sample",
+    refusal: Some(|call| call.lent.opening.refusal()),
+    rust: run,
+    archive: |call| call.run(q15::fir_decimator_new, q15::fir_decimator_process_sample),
+};
 
 const MOST_TAPS: u64 = 64;
-const ZERO: q15 = q15::from_bits(0);
 
-#[derive(Clone)]
-struct State {
-    tap_count: u64,
-    factor: u64,
-    wait: u64,
-    taps: [q15; 64],
-    delay: [q15; 64],
+fields! {
+    /// What a decimator is opened with.
+    pub struct Settings {
+        factor: u64,
+        taps: Slice<i16>,
+    }
 }
 
-impl State {
-    fn zeros() -> Self {
-        State {
-            tap_count: 0,
-            factor: 0,
-            wait: 0,
-            taps: [ZERO; 64],
-            delay: [ZERO; 64],
+impl Settings {
+    fn of(factor: u64, taps: Lent) -> Self {
+        Settings {
+            factor,
+            taps: taps.into(),
         }
     }
 
+    fn refusal(&self) -> u32 {
+        refusals::fir_opening(self.taps.len() as u64, self.factor)
+    }
+}
+
+fields! {
+    /// The port's state.
+    pub struct State {
+        tap_count: u64,
+        factor: u64,
+        wait: u64,
+        taps: [i16; 64],
+        delay: [i16; 64],
+    }
+}
+
+impl State {
     /// "wait .. T at opening"; no taps: zeros, settings too.
-    fn opened(taps: &[q15], factor: u64) -> Self {
+    pub fn opened(taps: &[i16], factor: u64) -> Self {
         let mut state = State::zeros();
         if !taps.is_empty() {
             state.tap_count = taps.len() as u64;
@@ -48,17 +96,34 @@ impl State {
         state
     }
 
-    fn refusal(&self) -> u32 {
+    pub fn refusal(&self) -> u32 {
         refusals::fir_state(self.tap_count, self.factor, self.wait)
     }
 
-    fn own_taps(&self) -> &[q15] {
+    pub fn own_taps(&self) -> &[i16] {
         &self.taps[..self.tap_count as usize]
+    }
+
+    /// The output that the sample makes: the Rust's, of the list that begins with that output's first sample.
+    pub fn sample(&mut self, sample: i16) -> Option<i16> {
+        if self.tap_count == 0 {
+            return Some(sample);
+        }
+        let mut list = match self.tap_count.checked_sub(self.wait) {
+            Some(come) => self.delay[..come as usize].to_vec(),
+            None => Vec::new(),
+        };
+        if self.wait <= self.tap_count {
+            list.push(sample);
+        }
+        self.keep(sample);
+        let outputs = polyphase_q15::decimated(self.own_taps(), self.factor, &list);
+        outputs.first().copied()
     }
 
     /// "wait is the number of samples up to and with the one that makes the next output .. D after each output". The next output's samples stand at the
     /// front of the delay: one is stored at its place, and an output moves the window by D.
-    fn keep(&mut self, sample: q15) {
+    fn keep(&mut self, sample: i16) {
         let (taps, factor) = (self.tap_count as usize, self.factor as usize);
         if self.wait <= self.tap_count {
             self.delay[taps - self.wait as usize] = sample;
@@ -69,126 +134,37 @@ impl State {
             self.delay.copy_within(factor.min(taps)..taps, 0);
         }
     }
+}
 
-    fn write(&self, record: &mut Record) {
-        record
-            .long(self.tap_count)
-            .long(self.factor)
-            .long(self.wait)
-            .array(&self.taps)
-            .array(&self.delay);
-    }
-
-    /// After a call on `before`.
-    fn write_after(&self, before: &State, record: &mut Record) {
-        record
-            .long(self.tap_count)
-            .long(self.factor)
-            .long(self.wait)
-            .left(&before.taps, &self.taps)
-            .left(&before.delay, &self.delay);
+/// Every output of the list, which the Rust makes of it as a whole.
+pub fn outputs(taps: &[i16], factor: u64, list: &[i16]) -> Vec<i16> {
+    match taps.is_empty() {
+        true => list.to_vec(),
+        false => polyphase_q15::decimated(taps, factor, list),
     }
 }
 
-/// A state with the list that led to it, of which the Rust makes the outputs.
-struct Stream {
-    state: State,
-    list: Vec<q15>,
-    /// The samples to come before the next output's first, where D exceeds T.
-    skipped: u64,
-}
-
-impl Stream {
-    /// A list that begins with the next output's first sample leads to any valid state.
-    fn midway(state: State) -> Self {
-        let mut stream = Stream {
-            list: Vec::new(),
-            skipped: 0,
-            state,
-        };
-        let state = &stream.state;
-        if state.refusal() == 0 {
-            match state.tap_count.checked_sub(state.wait) {
-                Some(come) => stream.list = state.delay[..come as usize].to_vec(),
-                None => stream.skipped = state.wait - state.tap_count,
-            }
-        }
-        stream
-    }
-
-    fn outputs(&self) -> Vec<q15> {
-        let mut span = vec![ZERO; self.list.len()];
-        let factor = self.state.factor as usize;
-        let written = polyphase_decimate_q15(&self.list, self.state.own_taps(), factor, &mut span);
-        span.truncate(written);
-        span
-    }
-
-    /// The output that the sample adds to the whole list's.
-    fn sample(&mut self, sample: q15) -> Option<q15> {
-        if self.state.tap_count == 0 {
-            return Some(sample);
-        }
-        let before = self.outputs().len();
-        match self.skipped {
-            0 => self.list.push(sample),
-            _ => self.skipped -= 1,
-        }
-        self.state.keep(sample);
-        self.outputs().get(before).copied()
-    }
-
-    fn sample_case(&mut self, rng: &mut Rng) -> Record {
-        let sample = q15_samples::one(rng);
-        let mut record = Record::of(PROCESS_SAMPLE);
-        let before = self.state.clone();
-        before.write(&mut record);
-        record.words(&[sample]);
-        let refusal = before.refusal();
-        let output = match refusal {
-            0 => self.sample(sample),
-            _ => None,
-        };
-        record
-            .refusal(refusal)
-            .word(output.is_some().into())
-            .words(&[output.unwrap_or(ZERO)]);
-        self.state.write_after(&before, &mut record);
-        record
-    }
-
-    fn reset_case(&mut self) -> Record {
-        let mut record = Record::of(RESET);
-        let before = self.state.clone();
-        before.write(&mut record);
-        let refusal = before.refusal();
-        if refusal == 0 {
-            *self = Stream::midway(State::opened(before.own_taps(), before.factor));
-        }
-        record.refusal(refusal);
-        self.state.write_after(&before, &mut record);
-        record
-    }
-
-    fn any_call(&mut self, rng: &mut Rng) -> Record {
-        match rng.below(12) {
-            0 => self.reset_case(),
-            _ => self.sample_case(rng),
-        }
+fn run(call: &mut Run) {
+    let (taps, factor) = (&call.lent.opening.taps.elements, call.lent.opening.factor);
+    let list = &call.lent.samples.elements;
+    call.answer.outputs = outputs(taps, factor, list);
+    call.answer.state = State::opened(taps, factor);
+    if !taps.is_empty() {
+        list.iter()
+            .for_each(|&sample| call.answer.state.keep(sample));
     }
 }
 
-fn new_case(factor: u64, taps: &Lent) -> (Record, State) {
-    let mut record = Record::of(NEW);
-    record.long(factor).lent(taps);
-    let refusal = refusals::fir_opening(taps.length as u64, factor);
-    let state = match refusal {
-        0 => State::opened(&taps.elements::<q15>(), factor),
-        _ => State::zeros(),
-    };
-    record.refusal(refusal);
-    state.write_after(&State::zeros(), &mut record);
-    (record, state)
+fn some_sample(rng: &mut Rng, state: &mut State) -> Box<dyn Case> {
+    let sample = q15_samples::one(rng);
+    PROCESS_SAMPLE.on(state, Sample { sample })
+}
+
+fn any_call(rng: &mut Rng, state: &mut State) -> Box<dyn Case> {
+    match rng.below(12) {
+        0 => RESET.on(state, ()),
+        _ => some_sample(rng, state),
+    }
 }
 
 fn some_taps(rng: &mut Rng) -> u64 {
@@ -201,7 +177,7 @@ fn some_taps(rng: &mut Rng) -> u64 {
 }
 
 /// Settings of which one or both may be outside the limits.
-fn some_opening(rng: &mut Rng) -> (Record, State) {
+fn some_opening(rng: &mut Rng) -> Box<dyn Case> {
     let taps = match rng.below(4) {
         0 => rng.pick(&[MOST_TAPS + 1, MOST_TAPS + 2, settings::MOST + 1]),
         _ => some_taps(rng),
@@ -210,11 +186,11 @@ fn some_opening(rng: &mut Rng) -> (Record, State) {
         0 => settings::bad_factor(rng),
         _ => settings::factor_around(rng, taps),
     };
-    new_case(factor, &q15_samples::list(rng, taps))
+    NEW.of(Settings::of(factor, q15_samples::list(rng, taps))).0
 }
 
 /// Valid settings and wait, anything in the delay and in the places past T.
-fn midway(rng: &mut Rng) -> State {
+pub fn midway(rng: &mut Rng) -> State {
     let tap_count = some_taps(rng);
     let factor = settings::factor_around(rng, tap_count);
     let most = tap_count.max(factor);
@@ -250,28 +226,53 @@ fn damaged(rng: &mut Rng) -> State {
 }
 
 /// From an opening: calls, each on the state that the one before left.
-fn stream(rng: &mut Rng) -> Vec<Record> {
+fn stream(rng: &mut Rng) -> Cases {
     let taps = some_taps(rng);
     let factor = match rng.below(2) {
         0 => rng.within(1, 8),
         _ => settings::factor_around(rng, taps).min(70),
     };
-    let (opening, state) = new_case(factor, &q15_samples::list(rng, taps));
-    let mut stream = Stream::midway(state);
-    let mut records = vec![opening];
+    let (opening, mut state) = NEW.of(Settings::of(factor, q15_samples::list(rng, taps)));
+    let mut cases = vec![opening];
     let calls = rng.within(4, 24) + rng.pick(&[0, taps]);
-    records.extend((0..calls).map(|_| match rng.below(40) {
-        0 => stream.reset_case(),
-        _ => stream.sample_case(rng),
+    cases.extend((0..calls).map(|_| match rng.below(40) {
+        0 => RESET.on(&mut state, ()),
+        _ => some_sample(rng, &mut state),
     }));
-    records
+    cases
 }
 
-pub fn cases(rng: &mut Rng) -> Vec<Record> {
+pub fn cases(rng: &mut Rng) -> Cases {
     match rng.below(32) {
-        0..=5 => vec![some_opening(rng).0],
-        6..=11 => vec![Stream::midway(damaged(rng)).any_call(rng)],
-        12..=29 => vec![Stream::midway(midway(rng)).any_call(rng)],
+        0..=5 => vec![some_opening(rng)],
+        6..=11 => {
+            let mut state = damaged(rng);
+            vec![any_call(rng, &mut state)]
+        }
+        12..=29 => {
+            let mut state = midway(rng);
+            vec![any_call(rng, &mut state)]
+        }
         _ => stream(rng),
     }
+}
+
+fn some_run(rng: &mut Rng, samples: Lent) -> Cases {
+    let taps = some_taps(rng);
+    let factor = settings::factor_around(rng, taps);
+    let settings = Settings::of(factor, q15_samples::list(rng, taps));
+    vec![RUN.of(Lists::of(settings, samples)).0]
+}
+
+/// Lists as a whole.
+pub fn more(rng: &mut Rng) -> Cases {
+    let length = rng.below(400);
+    let samples = q15_samples::list(rng, length);
+    some_run(rng, samples)
+}
+
+pub fn long(rng: &mut Rng) -> Cases {
+    let length = rng.within(LONGEST / 2, LONGEST);
+    let samples = q15_samples::noise(rng, length);
+    some_run(rng, samples)
 }

@@ -1,8 +1,7 @@
 //! f32 samples, taps and delays: levels of a signal, signed zeros, subnormals, the ends of the range, infinities, NaN, anything.
 
-use crate::lent::Lent;
+use crate::lent::{Lent, Slice};
 use crate::rng::Rng;
-use crate::word::Word;
 
 const SPECIAL: [f32; 16] = [
     0.0,
@@ -39,13 +38,18 @@ pub fn one(rng: &mut Rng) -> f32 {
     }
 }
 
+/// As a word: every NaN is one.
+fn word(x: f32) -> u32 {
+    if x.is_nan() { 0x7fc0_0000 } else { x.to_bits() }
+}
+
 /// Up to `most` values listed, and more at one level or rising by a stride.
 fn listed(rng: &mut Rng, length: u64, most: u64, value: fn(&mut Rng) -> f32) -> Lent {
     Lent {
         length: length as usize,
-        pattern: value(rng).word(),
+        pattern: word(value(rng)),
         stride: rng.pick(&[0, 1, 0x1235, 0x8001]),
-        listed: (0..length.min(most)).map(|_| value(rng).word()).collect(),
+        listed: (0..length.min(most)).map(|_| word(value(rng))).collect(),
     }
 }
 
@@ -53,18 +57,23 @@ fn listed(rng: &mut Rng, length: u64, most: u64, value: fn(&mut Rng) -> f32) -> 
 pub fn list(rng: &mut Rng, length: u64) -> Lent {
     let most = rng.pick(&[4, 12, 40]);
     match rng.below(16) {
-        0 => Lent::pattern(length, rng.pick(&SPECIAL).word(), 0),
+        0 => Lent::pattern(length, word(rng.pick(&SPECIAL)), 0),
         1 => Lent::pattern(length, rng.next() as u32, rng.next() as u32),
-        2 | 3 => Lent::pattern(length, level(rng).word(), rng.below(1 << 16) as u32),
+        2 | 3 => Lent::pattern(length, word(level(rng)), rng.below(1 << 16) as u32),
         4 | 5 => listed(rng, length, most, one),
         _ => listed(rng, length, most, level),
     }
 }
 
+/// `length` levels, all of them listed.
+pub fn noise(rng: &mut Rng, length: u64) -> Lent {
+    Lent::listed((0..length).map(|_| word(level(rng))).collect())
+}
+
 /// The places of a state's array.
 pub fn places<const N: usize>(rng: &mut Rng) -> [f32; N] {
-    let slice = list(rng, N as u64).elements();
-    std::array::from_fn(|i| slice[i])
+    let slice: Slice<f32> = list(rng, N as u64).into();
+    std::array::from_fn(|i| slice.elements[i])
 }
 
 /// The same, levels alone.

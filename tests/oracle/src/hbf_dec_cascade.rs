@@ -1,29 +1,41 @@
 //! `HbfDecCascade` of the Rust, for the cascades' cases.
 
-use crate::cascade::{self, Cascade, State};
-use crate::record::Record;
-use crate::rng::Rng;
+use crate::archive::float;
+use crate::cascade::{Block, Cascade, New, Reset, State};
+use crate::case::Operation;
+use crate::refusals;
 use crate::sizes::{front, with_depth};
 use embedded_dsp::resampling::HbfDecCascade;
 
-struct Decimators;
+pub struct Decimators;
 
 impl Cascade<480> for Decimators {
-    const NEW: u32 = 0x81;
     const TAKES: usize = 2;
     const GIVES: usize = 1;
 
-    fn new(depth: u64) -> [f32; 480] {
-        with_depth!(depth, new())
-    }
+    const NEW: Operation<New<480>> = Operation {
+        code: 0x81,
+        name: "HbfDecCascade::new",
+        refusal: Some(|call| refusals::cascade_opening(call.lent.depth)),
+        rust: |call| with_depth!(call.lent.depth, new(call)),
+        archive: float::hbf_dec_cascade_new,
+    };
 
-    fn process(state: &mut State<480>, samples: &[f32], span: &mut [f32]) {
-        with_depth!(state.depth, process(state, samples, span))
-    }
+    const PROCESS: Operation<Block<480>> = Operation {
+        code: 0x82,
+        name: "HbfDecCascade::process",
+        refusal: Some(Block::refusal),
+        rust: |call| with_depth!(call.state.depth, process(call)),
+        archive: float::hbf_dec_cascade_process,
+    };
 
-    fn reset(state: &mut State<480>) {
-        with_depth!(state.depth, reset(state))
-    }
+    const RESET: Operation<Reset<480>> = Operation {
+        code: 0x83,
+        name: "HbfDecCascade::reset",
+        refusal: Some(|call| call.state.refusal()),
+        rust: |call| with_depth!(call.state.depth, reset(call)),
+        archive: float::hbf_dec_cascade_reset,
+    };
 }
 
 fn delays<const D: usize>(cascade: &HbfDecCascade<D>) -> [f32; 480] {
@@ -34,22 +46,24 @@ fn rust<const D: usize>(state: &State<480>) -> HbfDecCascade<D> {
     HbfDecCascade::from_parts(state.delays.as_chunks().0.try_into().unwrap())
 }
 
-fn new<const D: usize>() -> [f32; 480] {
-    delays(&HbfDecCascade::<D>::new())
+fn new<const D: usize>(call: &mut New<480>) {
+    call.answer = State {
+        depth: D as u64,
+        delays: delays(&HbfDecCascade::<D>::new()),
+    };
 }
 
-fn process<const D: usize>(state: &mut State<480>, samples: &[f32], span: &mut [f32]) {
-    let mut cascade = rust::<D>(state);
-    cascade.process(samples, span);
-    state.delays = delays(&cascade);
+fn process<const D: usize>(call: &mut Block<480>) {
+    let mut cascade = rust::<D>(&call.state);
+    cascade.process(&call.lent.samples.elements, &mut call.lent.span.elements);
+    call.state.delays = delays(&cascade);
+    let (takes, gives) = Decimators::frame(call.state.depth);
+    call.answer.written = call.lent.whole(takes, gives);
 }
 
-fn reset<const D: usize>(state: &mut State<480>) {
-    let mut cascade = rust::<D>(state);
+/// A fresh opening of the same depth; the Rust clears every stage.
+fn reset<const D: usize>(call: &mut Reset<480>) {
+    let mut cascade = rust::<D>(&call.state);
     cascade.reset();
-    state.delays = delays(&cascade);
-}
-
-pub fn cases(rng: &mut Rng) -> Vec<Record> {
-    cascade::cases::<480, Decimators>(rng)
+    call.state.delays = delays(&cascade);
 }

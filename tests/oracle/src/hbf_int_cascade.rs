@@ -1,29 +1,41 @@
 //! `HbfIntCascade` of the Rust, for the cascades' cases.
 
-use crate::cascade::{self, Cascade, State};
-use crate::record::Record;
-use crate::rng::Rng;
+use crate::archive::float;
+use crate::cascade::{Block, Cascade, New, Reset, State};
+use crate::case::Operation;
+use crate::refusals;
 use crate::sizes::{front, with_depth};
 use embedded_dsp::resampling::HbfIntCascade;
 
-struct Interpolators;
+pub struct Interpolators;
 
 impl Cascade<240> for Interpolators {
-    const NEW: u32 = 0x91;
     const TAKES: usize = 1;
     const GIVES: usize = 2;
 
-    fn new(depth: u64) -> [f32; 240] {
-        with_depth!(depth, new())
-    }
+    const NEW: Operation<New<240>> = Operation {
+        code: 0x91,
+        name: "HbfIntCascade::new",
+        refusal: Some(|call| refusals::cascade_opening(call.lent.depth)),
+        rust: |call| with_depth!(call.lent.depth, new(call)),
+        archive: float::hbf_int_cascade_new,
+    };
 
-    fn process(state: &mut State<240>, samples: &[f32], span: &mut [f32]) {
-        with_depth!(state.depth, process(state, samples, span))
-    }
+    const PROCESS: Operation<Block<240>> = Operation {
+        code: 0x92,
+        name: "HbfIntCascade::process",
+        refusal: Some(Block::refusal),
+        rust: |call| with_depth!(call.state.depth, process(call)),
+        archive: float::hbf_int_cascade_process,
+    };
 
-    fn reset(state: &mut State<240>) {
-        with_depth!(state.depth, reset(state))
-    }
+    const RESET: Operation<Reset<240>> = Operation {
+        code: 0x93,
+        name: "HbfIntCascade::reset",
+        refusal: Some(|call| call.state.refusal()),
+        rust: |call| with_depth!(call.state.depth, reset(call)),
+        archive: float::hbf_int_cascade_reset,
+    };
 }
 
 fn delays<const D: usize>(cascade: &HbfIntCascade<D>) -> [f32; 240] {
@@ -34,22 +46,24 @@ fn rust<const D: usize>(state: &State<240>) -> HbfIntCascade<D> {
     HbfIntCascade::from_parts(state.delays.as_chunks().0.try_into().unwrap())
 }
 
-fn new<const D: usize>() -> [f32; 240] {
-    delays(&HbfIntCascade::<D>::new())
+fn new<const D: usize>(call: &mut New<240>) {
+    call.answer = State {
+        depth: D as u64,
+        delays: delays(&HbfIntCascade::<D>::new()),
+    };
 }
 
-fn process<const D: usize>(state: &mut State<240>, samples: &[f32], span: &mut [f32]) {
-    let mut cascade = rust::<D>(state);
-    cascade.process(samples, span);
-    state.delays = delays(&cascade);
+fn process<const D: usize>(call: &mut Block<240>) {
+    let mut cascade = rust::<D>(&call.state);
+    cascade.process(&call.lent.samples.elements, &mut call.lent.span.elements);
+    call.state.delays = delays(&cascade);
+    let (takes, gives) = Interpolators::frame(call.state.depth);
+    call.answer.written = call.lent.whole(takes, gives);
 }
 
-fn reset<const D: usize>(state: &mut State<240>) {
-    let mut cascade = rust::<D>(state);
+/// A fresh opening of the same depth; the Rust clears every stage.
+fn reset<const D: usize>(call: &mut Reset<240>) {
+    let mut cascade = rust::<D>(&call.state);
     cascade.reset();
-    state.delays = delays(&cascade);
-}
-
-pub fn cases(rng: &mut Rng) -> Vec<Record> {
-    cascade::cases::<240, Interpolators>(rng)
+    call.state.delays = delays(&cascade);
 }

@@ -1,41 +1,83 @@
-//! Cases of the streaming `HbfStream`, which the Rust does not have: each stage is the Rust's, run on the whole list of the stage before.
+//! Cases of the streaming `HbfStream`, which the Rust does not have: each stage is the Rust's.
 
+use crate::archive::float;
+use crate::calls::{Free, Made, Sample, Single};
+use crate::case::{Case, Cases, Operation};
+use crate::field::{Fields, fields};
 use crate::float_samples;
-use crate::record::Record;
+use crate::lent::{LONGEST, Lent, Slice};
 use crate::refusals;
 use crate::rng::Rng;
 use crate::settings;
 use crate::sizes::front;
+use crate::stream::{Lists, Stream};
+use crate::values::Depth;
 use embedded_dsp::resampling::{HBF_TAPS, HbfDec, HbfDecCascade};
 
-const NEW: u32 = 0xa1;
-const PROCESS_SAMPLE: u32 = 0xa2;
-const RESET: u32 = 0xa3;
+pub type New = Free<Depth, State>;
+pub type Step = Single<State, Sample<f32>, Made<f32>>;
+pub type Reset = Single<State, (), ()>;
+type Run = Stream<Depth, State, f32>;
 
-#[derive(Clone)]
-struct State {
-    depth: u64,
-    delays: [f32; 480],
-    held: [f32; 5],
-    counts: [u64; 5],
+const NEW: Operation<New> = Operation {
+    code: 0xa1,
+    name: "HbfStream::new",
+    refusal: Some(|call| refusals::depth(call.lent.depth)),
+    rust: |call| call.answer = State::opened(call.lent.depth),
+    archive: float::hbf_stream_new,
+};
+
+const PROCESS_SAMPLE: Operation<Step> = Operation {
+    code: 0xa2,
+    name: "HbfStream::process_sample",
+    refusal: Some(|call| call.state.refusal()),
+    rust: |call| call.answer = call.state.sample(call.lent.sample).into(),
+    archive: float::hbf_stream_process_sample,
+};
+
+const RESET: Operation<Reset> = Operation {
+    code: 0xa3,
+    name: "HbfStream::reset",
+    refusal: Some(|call| call.state.refusal()),
+    rust: |call| call.state = State::opened(call.state.depth),
+    archive: float::hbf_stream_reset,
+};
+
+const RUN: Operation<Run> = Operation {
+    code: 0,
+    name: "HbfStream::new, then process_sample for each sample",
+    refusal: Some(|call| refusals::depth(call.lent.opening.depth)),
+    rust: |call| {
+        let (depth, list) = (call.lent.opening.depth, &call.lent.samples.elements);
+        (call.answer.state, call.answer.outputs) = whole_list(depth, list);
+    },
+    archive: |call| call.run(float::hbf_stream_new, float::hbf_stream_process_sample),
+};
+
+fields! {
+    /// The port's state.
+    pub struct State {
+        depth: u64,
+        counts: [u64; 5],
+        delays: [f32; 480],
+        held: [f32; 5],
+    }
 }
 
 impl State {
-    fn zeros(depth: u64) -> Self {
+    pub fn opened(depth: u64) -> Self {
         State {
             depth,
-            delays: [0.0; 480],
-            held: [0.0; 5],
-            counts: [0; 5],
+            ..State::zeros()
         }
     }
 
-    fn refusal(&self) -> u32 {
+    pub fn refusal(&self) -> u32 {
         refusals::held_cascade(self.depth, &self.counts)
     }
 
     /// "The line holds an odd sample until its partner comes"; a stage is the Rust's.
-    fn sample(&mut self, sample: f32) -> Option<f32> {
+    pub fn sample(&mut self, sample: f32) -> Option<f32> {
         let mut rust =
             HbfDecCascade::<5>::from_parts(self.delays.as_chunks().0.try_into().unwrap());
         let mut value = sample;
@@ -53,27 +95,6 @@ impl State {
         self.delays = front(rust.parts().as_flattened());
         Some(value)
     }
-
-    fn write_counts(&self, record: &mut Record) {
-        for count in self.counts {
-            record.long(count);
-        }
-    }
-
-    fn write(&self, record: &mut Record) {
-        record.long(self.depth);
-        self.write_counts(record);
-        record.array(&self.delays).array(&self.held);
-    }
-
-    /// After a call on `before`.
-    fn write_after(&self, before: &State, record: &mut Record) {
-        record.long(self.depth);
-        self.write_counts(record);
-        record
-            .left(&before.delays, &self.delays)
-            .left(&before.held, &self.held);
-    }
 }
 
 /// One of the Rust's stages on a whole list: its outputs, and its delay after them.
@@ -86,7 +107,7 @@ fn whole<const M: usize>(taps: [f32; M], list: &[f32]) -> (Vec<f32>, [f32; 96]) 
 
 /// What a list from an opening leads to: the state, and every output so far.
 fn whole_list(depth: u64, list: &[f32]) -> (State, Vec<f32>) {
-    let mut state = State::zeros(depth);
+    let mut state = State::opened(depth);
     let mut values = list.to_vec();
     for stage in 0..depth as usize {
         let (outputs, delay) = match stage {
@@ -111,71 +132,18 @@ pub fn outputs(depth: u64, list: &[f32]) -> Vec<f32> {
     whole_list(depth, list).1
 }
 
-fn new_case(depth: u64) -> Record {
-    let mut record = Record::of(NEW);
-    record.long(depth);
-    let refusal = refusals::depth(depth);
-    let state = match refusal {
-        0 => State::zeros(depth),
-        _ => State::zeros(0),
-    };
-    record.refusal(refusal);
-    state.write_after(&State::zeros(0), &mut record);
-    record
-}
-
-/// One sample into `before`, which leaves `after` and makes `output`.
-fn write_sample(
-    before: &State,
-    sample: f32,
-    refusal: u32,
-    output: Option<f32>,
-    after: &State,
-) -> Record {
-    let mut record = Record::of(PROCESS_SAMPLE);
-    before.write(&mut record);
-    record
-        .words(&[sample])
-        .refusal(refusal)
-        .word(output.is_some().into())
-        .words(&[output.unwrap_or(0.0)]);
-    after.write_after(before, &mut record);
-    record
-}
-
-fn sample_case(rng: &mut Rng, before: &State) -> Record {
-    let sample = float_samples::one(rng);
-    let mut after = before.clone();
-    let refusal = before.refusal();
-    let output = match refusal {
-        0 => after.sample(sample),
-        _ => None,
-    };
-    write_sample(before, sample, refusal, output, &after)
-}
-
-fn reset_case(before: &State) -> Record {
-    let mut record = Record::of(RESET);
-    before.write(&mut record);
-    let refusal = before.refusal();
-    record.refusal(refusal);
-    let after = match refusal {
-        0 => State::zeros(before.depth),
-        _ => before.clone(),
-    };
-    after.write_after(before, &mut record);
-    record
-}
-
-fn any_call(rng: &mut Rng, state: &State) -> Record {
+fn any_call(rng: &mut Rng, state: &mut State) -> Box<dyn Case> {
     match rng.below(8) {
-        0 => reset_case(state),
-        _ => sample_case(rng, state),
+        0 => RESET.on(state, ()),
+        _ => {
+            let sample = float_samples::one(rng);
+            PROCESS_SAMPLE.on(state, Sample { sample })
+        }
     }
 }
 
 /// Valid settings and counts, anything held and in the delays, and in what belongs to stages that are not run. Often the next sample goes through.
-fn midway(rng: &mut Rng) -> State {
+pub fn midway(rng: &mut Rng) -> State {
     let depth = rng.below(6);
     let full = rng.one_in(2);
     State {
@@ -205,34 +173,57 @@ fn damaged(rng: &mut Rng) -> State {
     state
 }
 
-/// Some samples after a list from an opening, often where whole frames end. States and outputs are those of the whole list so far.
-fn stream(rng: &mut Rng) -> Vec<Record> {
+/// Some samples after a list from an opening, often where whole frames end, each on the state that the whole list so far leads to.
+fn stream(rng: &mut Rng) -> Cases {
     let depth = rng.below(6);
     let start = (rng.below(40) << depth).saturating_sub(rng.within(1, 3)) as usize;
     let calls = rng.within(1, 4) as usize;
-    let list = float_samples::list(rng, (start + calls) as u64).elements::<f32>();
+    let list: Slice<f32> = float_samples::list(rng, (start + calls) as u64).into();
     (start..start + calls)
         .map(|i| {
-            let (before, made) = whole_list(depth, &list[..i]);
-            let (after, outputs) = whole_list(depth, &list[..=i]);
-            let output = outputs.get(made.len()).copied();
-            write_sample(&before, list[i], before.refusal(), output, &after)
+            let (mut state, _) = whole_list(depth, &list.elements[..i]);
+            let sample = list.elements[i];
+            PROCESS_SAMPLE.on(&mut state, Sample { sample })
         })
         .collect()
 }
 
-pub fn cases(rng: &mut Rng) -> Vec<Record> {
+pub fn cases(rng: &mut Rng) -> Cases {
     match rng.below(32) {
-        0..=2 => vec![new_case(rng.below(6))],
-        3 => vec![new_case(settings::bad_depth(rng))],
+        0..=2 => {
+            let depth = rng.below(6);
+            vec![NEW.of(Depth { depth }).0]
+        }
+        3 => {
+            let depth = settings::bad_depth(rng);
+            vec![NEW.of(Depth { depth }).0]
+        }
         4..=7 => {
-            let state = damaged(rng);
-            vec![any_call(rng, &state)]
+            let mut state = damaged(rng);
+            vec![any_call(rng, &mut state)]
         }
         8..=19 => {
-            let state = midway(rng);
-            vec![any_call(rng, &state)]
+            let mut state = midway(rng);
+            vec![any_call(rng, &mut state)]
         }
         _ => stream(rng),
     }
+}
+
+fn some_run(rng: &mut Rng, samples: Lent) -> Cases {
+    let depth = rng.below(6);
+    vec![RUN.of(Lists::of(Depth { depth }, samples)).0]
+}
+
+/// Lists as a whole.
+pub fn more(rng: &mut Rng) -> Cases {
+    let length = rng.below(400);
+    let samples = float_samples::list(rng, length);
+    some_run(rng, samples)
+}
+
+pub fn long(rng: &mut Rng) -> Cases {
+    let length = rng.within(LONGEST / 2, LONGEST);
+    let samples = float_samples::noise(rng, length);
+    some_run(rng, samples)
 }

@@ -1,16 +1,20 @@
 //! Cases of `resample_linear_f32`.
 
+use crate::archive::float;
+use crate::case::{Case, Cases, Operation};
 use crate::differences;
 use crate::float_samples;
-use crate::lent::Lent;
-use crate::record::Record;
-use crate::refusals;
+use crate::linear::{self, Block};
 use crate::rng::Rng;
-use crate::samples;
-use crate::settings;
 use embedded_dsp::resampling::resample_linear_f32;
 
-const LINEAR: u32 = 0x51;
+const LINEAR: Operation<Block<f32, f32>> = Operation {
+    code: 0x51,
+    name: "resample_linear_f32",
+    refusal: Some(|call| call.lent.refusal(|ratio| ratio.is_finite() && ratio > 0.0)),
+    rust: |call| call.fill(resampled),
+    archive: float::resample_linear_f32,
+};
 
 /// What the Rust answers before the first position of 2^64 or more, and what 01 says from there on.
 fn resampled(samples: &[f32], span: &mut [f32], ratio: f32) {
@@ -19,30 +23,6 @@ fn resampled(samples: &[f32], span: &mut [f32], ratio: f32) {
     let (before, from_there) = span.split_at_mut(first);
     resample_linear_f32(samples, before, ratio);
     from_there.fill(samples[samples.len() - 1]);
-}
-
-fn case(ratio: f32, samples: &Lent, span: &Lent) -> Record {
-    let mut record = Record::of(LINEAR);
-    record.words(&[ratio]).lent(samples).lent(span);
-    let lent: Vec<f32> = span.elements();
-    let mut places = lent.clone();
-    let refusal = refusals::linear(
-        samples.length,
-        span.length,
-        ratio.is_finite() && ratio > 0.0,
-    );
-    let written = match refusal {
-        0 => {
-            resampled(&samples.elements::<f32>(), &mut places, ratio);
-            places.len()
-        }
-        _ => 0,
-    };
-    record
-        .refusal(refusal)
-        .long(written as u64)
-        .left(&lent, &places);
-    record
 }
 
 fn some_ratio(rng: &mut Rng) -> f32 {
@@ -59,45 +39,27 @@ fn some_ratio(rng: &mut Rng) -> f32 {
     }
 }
 
-/// Positions that stay inside, end at the last sample or go past it.
-fn some_call(rng: &mut Rng) -> Record {
+fn some_call(rng: &mut Rng) -> Box<dyn Case> {
     let ratio = some_ratio(rng);
-    let length = match rng.below(32) {
-        0 => rng.within(41, 600),
-        1..=8 => rng.within(1, 3),
-        _ => rng.within(1, 40),
-    };
-    let inside = (length as f32 / ratio).clamp(0.0, 100.0) as u64;
-    let places = match rng.below(8) {
-        0 => rng.below(2),
-        1..=3 => inside + rng.below(4),
-        _ => rng.below(60),
-    };
-    let mut input = float_samples::list(rng, length);
-    let mut span = samples::span(rng, places);
-    if rng.one_in(24) {
-        input.length = settings::bad_length(rng);
-    }
-    if rng.one_in(24) {
-        span.length = settings::bad_places(rng);
-    }
-    case(ratio, &input, &span)
+    let inside = |length| (length as f32 / ratio).clamp(0.0, 100.0) as u64;
+    let buffers = linear::some_buffers(rng, ratio, inside, float_samples::list);
+    LINEAR.of(buffers).0
 }
 
-/// At 01's limits and past them.
-fn longest_call(rng: &mut Rng) -> Record {
-    let (length, listed) = (settings::length_around(rng), rng.within(1, 40));
-    let places = match rng.below(64) {
-        0 => settings::length_around(rng),
-        _ => listed,
-    };
-    let ratio = rng.within(1, 1 << 18) as f32 / 8.0;
-    let input = float_samples::list(rng, length);
-    let span = samples::span(rng, places);
-    case(ratio, &input, &span)
+fn longest_call(rng: &mut Rng) -> Box<dyn Case> {
+    let ratio = |rng: &mut Rng| rng.within(1, 1 << 18) as f32 / 8.0;
+    LINEAR
+        .of(linear::longest_buffers(rng, ratio, float_samples::list))
+        .0
 }
 
-pub fn cases(rng: &mut Rng) -> Vec<Record> {
+pub fn long(rng: &mut Rng) -> Cases {
+    let ratio = rng.within(1 << 14, 1 << 18) as f32 / 65_536.0;
+    let buffers = linear::long_buffers(rng, ratio, float_samples::noise);
+    vec![LINEAR.of(buffers).0]
+}
+
+pub fn cases(rng: &mut Rng) -> Cases {
     match rng.below(128) {
         0 => vec![longest_call(rng)],
         _ => vec![some_call(rng)],

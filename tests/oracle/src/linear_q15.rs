@@ -1,47 +1,32 @@
 //! Cases of `resample_linear_q15`.
 
+use crate::archive::q15;
+use crate::case::{Case, Cases, Operation};
 use crate::differences;
-use crate::lent::Lent;
+use crate::linear::{self, Block};
 use crate::q15_samples;
-use crate::record::Record;
-use crate::refusals;
 use crate::rng::Rng;
-use crate::samples;
-use crate::settings;
 use embedded_dsp::resampling::resample_linear_q15;
-use embedded_dsp::types::q15;
 
-const LINEAR: u32 = 0x33;
+const LINEAR: Operation<Block<i16, i32>> = Operation {
+    code: 0x33,
+    name: "resample_linear_q15",
+    refusal: Some(|call| call.lent.refusal(|ratio| ratio > 0)),
+    rust: |call| call.fill(resampled),
+    archive: q15::resample_linear_q15,
+};
 
 /// What the Rust answers before the first output whose product leaves i32, and what 01 says from there on.
-fn resampled(samples: &[q15], span: &mut [q15], ratio: i32) {
+fn resampled(samples: &[i16], span: &mut [i16], ratio: i32) {
     let wraps = |i: &usize| differences::linear_product_wraps(samples, ratio, *i);
     let first = (0..span.len()).find(wraps).unwrap_or(span.len());
     let (before, from_there) = span.split_at_mut(first);
-    resample_linear_q15(samples, before, ratio);
+    let mut places = q15_samples::rust(before);
+    resample_linear_q15(&q15_samples::rust(samples), &mut places, ratio);
+    before.copy_from_slice(&q15_samples::bits(&places));
     for (i, place) in from_there.iter_mut().enumerate() {
         *place = differences::linear_q15(samples, ratio, first + i);
     }
-}
-
-fn case(ratio: i32, samples: &Lent, span: &Lent) -> Record {
-    let mut record = Record::of(LINEAR);
-    record.number(ratio).lent(samples).lent(span);
-    let lent: Vec<q15> = span.elements();
-    let mut places = lent.clone();
-    let refusal = refusals::linear(samples.length, span.length, ratio > 0);
-    let written = match refusal {
-        0 => {
-            resampled(&samples.elements::<q15>(), &mut places, ratio);
-            places.len()
-        }
-        _ => 0,
-    };
-    record
-        .refusal(refusal)
-        .long(written as u64)
-        .left(&lent, &places);
-    record
 }
 
 fn some_ratio(rng: &mut Rng) -> i32 {
@@ -55,45 +40,27 @@ fn some_ratio(rng: &mut Rng) -> i32 {
     }
 }
 
-/// Positions that stay inside, end at the last sample or go past it.
-fn some_call(rng: &mut Rng) -> Record {
+fn some_call(rng: &mut Rng) -> Box<dyn Case> {
     let ratio = some_ratio(rng);
-    let length = match rng.below(32) {
-        0 => rng.within(41, 600),
-        1..=8 => rng.within(1, 3),
-        _ => rng.within(1, 40),
-    };
-    let inside = (length << 16) / ratio.max(1) as u64;
-    let places = match rng.below(8) {
-        0 => rng.below(2),
-        1..=3 => inside.min(100) + rng.below(4),
-        _ => rng.below(60),
-    };
-    let mut input = q15_samples::list(rng, length);
-    let mut span = samples::span(rng, places);
-    if rng.one_in(24) {
-        input.length = settings::bad_length(rng);
-    }
-    if rng.one_in(24) {
-        span.length = settings::bad_places(rng);
-    }
-    case(ratio, &input, &span)
+    let inside = |length| (length << 16) / ratio.max(1) as u64;
+    let buffers = linear::some_buffers(rng, ratio, inside, q15_samples::list);
+    LINEAR.of(buffers).0
 }
 
-/// At 01's limits and past them.
-fn longest_call(rng: &mut Rng) -> Record {
-    let (length, listed) = (settings::length_around(rng), rng.within(1, 40));
-    let places = match rng.below(64) {
-        0 => settings::length_around(rng),
-        _ => listed,
-    };
-    let ratio = rng.within(1 << 26, i32::MAX as u64) as i32;
-    let input = q15_samples::list(rng, length);
-    let span = samples::span(rng, places);
-    case(ratio, &input, &span)
+fn longest_call(rng: &mut Rng) -> Box<dyn Case> {
+    let ratio = |rng: &mut Rng| rng.within(1 << 26, i32::MAX as u64) as i32;
+    LINEAR
+        .of(linear::longest_buffers(rng, ratio, q15_samples::list))
+        .0
 }
 
-pub fn cases(rng: &mut Rng) -> Vec<Record> {
+pub fn long(rng: &mut Rng) -> Cases {
+    let ratio = rng.within(1 << 14, 1 << 18) as i32;
+    let buffers = linear::long_buffers(rng, ratio, q15_samples::noise);
+    vec![LINEAR.of(buffers).0]
+}
+
+pub fn cases(rng: &mut Rng) -> Cases {
     match rng.below(128) {
         0 => vec![longest_call(rng)],
         _ => vec![some_call(rng)],

@@ -1,10 +1,16 @@
-//! Lists what the unchanged Rust answers on seeded cases. ../README.md has the records' format.
+//! Seeded cases for every converter: what the unchanged Rust answers, as a list or compared with the archive. ../README.md says how.
 
+mod archive;
+mod calls;
 mod cascade;
+mod case;
 mod cic_decimator;
 mod cic_interpolator;
 mod cic_settings;
+mod compare;
 mod differences;
+mod element;
+mod field;
 mod fir_decimator;
 mod float_samples;
 mod gauge_line;
@@ -16,139 +22,122 @@ mod hbf_int_cascade;
 mod hbf_stream;
 mod hbf_table;
 mod lent;
+mod line_calls;
+mod line_cases;
+mod line_damage;
+mod line_feeds;
+mod line_samples;
+mod line_settings;
+mod line_whole;
+mod linear;
 mod linear_f32;
 mod linear_q15;
+mod list;
+mod places;
 mod polyphase_q15;
 mod polyphase_resamp;
 mod q15_samples;
 mod record;
 mod refusals;
+mod report;
+mod request;
 mod rng;
 mod samples;
+mod search;
 mod settings;
+mod shrink;
+mod simpler;
 mod sizes;
+mod stream;
 mod values;
-mod word;
 
-use record::Record;
-use rng::Rng;
-use std::collections::HashMap;
-use std::io::{self, BufWriter, Write};
+use cascade::Cascade;
+use compare::{Difference, Done};
+use half_band::HalfBand;
+use request::{Command, Converter, Draw, Request, USAGE};
+use std::io::{self, BufWriter};
 use std::process::ExitCode;
 
-type Cases = fn(&mut Rng) -> Vec<Record>;
+/// A converter that has no cases but those of a list, and none with more samples.
+const fn listed(name: &'static str, cases: Draw) -> Converter {
+    Converter {
+        name,
+        cases,
+        more: cases,
+        long: cases,
+    }
+}
 
-const CONVERTERS: [(&str, Cases); 14] = [
-    ("cic_decimator", cic_decimator::cases),
-    ("cic_interpolator", cic_interpolator::cases),
-    ("polyphase_q15", polyphase_q15::cases),
-    ("linear_q15", linear_q15::cases),
-    ("fir_decimator", fir_decimator::cases),
-    ("values", values::cases),
-    ("linear_f32", linear_f32::cases),
-    ("hbf_dec", hbf_dec::cases),
-    ("hbf_int", hbf_int::cases),
-    ("hbf_dec_cascade", hbf_dec_cascade::cases),
-    ("hbf_int_cascade", hbf_int_cascade::cases),
-    ("hbf_stream", hbf_stream::cases),
-    ("polyphase_resamp", polyphase_resamp::cases),
-    ("gauge_line", gauge_line::cases),
+impl Converter {
+    const fn more(mut self, more: Draw) -> Self {
+        self.more = more;
+        self
+    }
+
+    const fn long(mut self, long: Draw) -> Self {
+        self.long = long;
+        self
+    }
+}
+
+const CONVERTERS: [Converter; 14] = [
+    listed("cic_decimator", cic_decimator::cases).long(cic_decimator::long),
+    listed("cic_interpolator", cic_interpolator::cases),
+    listed("polyphase_q15", polyphase_q15::cases).long(polyphase_q15::long),
+    listed("linear_q15", linear_q15::cases).long(linear_q15::long),
+    listed("fir_decimator", fir_decimator::cases)
+        .more(fir_decimator::more)
+        .long(fir_decimator::long),
+    listed("values", values::cases),
+    listed("linear_f32", linear_f32::cases).long(linear_f32::long),
+    listed("hbf_dec", hbf_dec::Decimator::cases).long(hbf_dec::Decimator::long),
+    listed("hbf_int", hbf_int::Interpolator::cases).long(hbf_int::Interpolator::long),
+    listed("hbf_dec_cascade", hbf_dec_cascade::Decimators::cases)
+        .long(hbf_dec_cascade::Decimators::long),
+    listed("hbf_int_cascade", hbf_int_cascade::Interpolators::cases)
+        .long(hbf_int_cascade::Interpolators::long),
+    listed("hbf_stream", hbf_stream::cases)
+        .more(hbf_stream::more)
+        .long(hbf_stream::long),
+    listed("polyphase_resamp", polyphase_resamp::cases)
+        .more(polyphase_resamp::more)
+        .long(polyphase_resamp::long),
+    listed("gauge_line", line_cases::cases)
+        .more(line_cases::more)
+        .long(line_cases::long),
 ];
 
-const USAGE: &str = "usage: oracle list --seed S --cases N [--only NAME] [--each K]";
-
-struct Request {
-    seed: u64,
-    cases: usize,
-    converters: Vec<Cases>,
-    each: Option<usize>,
-}
-
-fn request(mut words: impl Iterator<Item = String>) -> Option<Request> {
-    if words.next()? != "list" {
-        return None;
-    }
-    let (mut seed, mut cases, mut only, mut each) = (None, None, None, None);
-    while let Some(word) = words.next() {
-        let value = words.next()?;
-        match word.as_str() {
-            "--seed" => seed = Some(value.parse().ok()?),
-            "--cases" => cases = Some(value.parse().ok()?),
-            "--only" => only = Some(value),
-            "--each" => each = Some(value.parse().ok()?),
-            _ => return None,
-        }
-    }
-    let wanted = |name: &str| only.as_deref().is_none_or(|o| o == name);
-    let converters: Vec<Cases> = CONVERTERS
-        .iter()
-        .filter(|(name, _)| wanted(name))
-        .map(|&(_, cases)| cases)
-        .collect();
-    if converters.is_empty() {
-        return None;
-    }
-    Some(Request {
-        seed: seed?,
-        cases: cases?,
-        converters,
-        each,
-    })
-}
-
-/// A short list that has every operation and every answer: of each operation the first `each` with an answer, the first few of each refusal, and the first few with slices about as long as 01 allows.
-struct Short {
-    each: usize,
-    kept: HashMap<(u32, u32, bool), usize>,
-}
-
-impl Short {
-    const LONGEST_RECORD: usize = 1200;
-
-    fn keeps(&mut self, record: &Record) -> bool {
-        let is_long = record.longest_slice >= 65_000;
-        let most = match record.refusal {
-            0 if !is_long => self.each,
-            _ => self.each.div_ceil(6),
-        };
-        let kind = (record.operation, record.refusal, is_long);
-        let kept = self.kept.entry(kind).or_default();
-        let keeps = *kept < most && record.len() <= Self::LONGEST_RECORD;
-        *kept += usize::from(keeps);
-        keeps
-    }
-}
-
-fn list(request: &Request, out: &mut impl Write) -> io::Result<()> {
-    let mut rng = Rng::new(request.seed);
-    let mut short = request.each.map(|each| Short {
-        each,
-        kept: HashMap::new(),
-    });
-    let mut left = request.cases;
-    while left > 0 {
-        let cases = rng.pick(&request.converters);
-        let records = cases(&mut rng);
-        for record in records.iter().take(left) {
-            if short.as_mut().is_none_or(|short| short.keeps(record)) {
-                record.write(out)?;
-            }
-        }
-        left -= records.len().min(left);
-    }
-    out.flush()
-}
-
-fn main() -> ExitCode {
-    let Some(request) = request(std::env::args().skip(1)) else {
-        eprintln!("{USAGE}");
-        return ExitCode::from(2);
-    };
-    match list(&request, &mut BufWriter::new(io::stdout().lock())) {
+fn list(request: &Request) -> ExitCode {
+    match list::list(request, &mut BufWriter::new(io::stdout().lock())) {
         Ok(()) => ExitCode::SUCCESS,
         Err(error) => {
             eprintln!("oracle: {error}");
             ExitCode::FAILURE
         }
+    }
+}
+
+fn compare(request: &Request) -> ExitCode {
+    let seed = request.seed;
+    match compare::compare(request) {
+        Ok(Done { cases, samples }) => {
+            println!("seed {seed}: {cases} cases, {samples} samples, 0 differences");
+            ExitCode::SUCCESS
+        }
+        Err(Difference { number, case }) => {
+            println!("seed {seed}, case {number}: {}", case.report());
+            ExitCode::FAILURE
+        }
+    }
+}
+
+fn main() -> ExitCode {
+    let Some(request) = Request::of(std::env::args().skip(1), &CONVERTERS) else {
+        eprintln!("{USAGE}");
+        return ExitCode::from(2);
+    };
+    match request.command {
+        Command::List => list(&request),
+        Command::Compare => compare(&request),
     }
 }

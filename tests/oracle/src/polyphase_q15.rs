@@ -1,8 +1,11 @@
 //! Cases of `polyphase_decimate_q15` and `polyphase_interpolate_q15`.
 
-use crate::lent::Lent;
+use crate::archive::q15 as archive;
+use crate::calls::{Free, Written};
+use crate::case::{Case, Cases, Operation};
+use crate::field::fields;
+use crate::lent::{Lent, Slice};
 use crate::q15_samples;
-use crate::record::Record;
 use crate::refusals;
 use crate::rng::Rng;
 use crate::samples;
@@ -10,20 +13,78 @@ use crate::settings::{self, MOST};
 use embedded_dsp::resampling::{polyphase_decimate_q15, polyphase_interpolate_q15};
 use embedded_dsp::types::q15;
 
-const DECIMATE: u32 = 0x31;
-const INTERPOLATE: u32 = 0x32;
+pub type Block = Free<Buffers, Written>;
 
-/// What a call is lent.
-struct Block {
+const DECIMATE: Operation<Block> = Operation {
+    code: 0x31,
+    name: "polyphase_decimate_q15",
+    refusal: Some(|call| call.lent.refusal(refusals::q15_block)),
+    rust: |call| call.answer.written = call.lent.run(polyphase_decimate_q15),
+    archive: archive::polyphase_decimate_q15,
+};
+
+const INTERPOLATE: Operation<Block> = Operation {
+    code: 0x32,
+    name: "polyphase_interpolate_q15",
+    refusal: Some(|call| call.lent.refusal(refusals::q15_up)),
+    rust: |call| call.answer.written = call.lent.run(polyphase_interpolate_q15),
+    archive: archive::polyphase_interpolate_q15,
+};
+
+type Rust = fn(&[q15], &[q15], usize, &mut [q15]) -> usize;
+
+fields! {
+    /// What a call is lent.
+    pub struct Buffers {
+        factor: u64,
+        samples: Slice<i16>,
+        taps: Slice<i16>,
+        span: Slice<i16>,
+    }
+}
+
+impl Buffers {
+    fn refusal(&self, number: fn(u64, usize, usize, usize) -> u32) -> u32 {
+        number(
+            self.factor,
+            self.taps.len(),
+            self.samples.len(),
+            self.span.len(),
+        )
+    }
+
+    fn run(&mut self, rust: Rust) -> u64 {
+        let mut places = q15_samples::rust(&self.span.elements);
+        let written = rust(
+            &q15_samples::rust(&self.samples.elements),
+            &q15_samples::rust(&self.taps.elements),
+            self.factor as usize,
+            &mut places,
+        );
+        self.span.elements = q15_samples::bits(&places);
+        written as u64
+    }
+}
+
+/// Every output of a whole list.
+pub fn decimated(taps: &[i16], factor: u64, list: &[i16]) -> Vec<i16> {
+    let (list, taps) = (q15_samples::rust(list), q15_samples::rust(taps));
+    let mut outputs = list.clone();
+    let made = polyphase_decimate_q15(&list, &taps, factor as usize, &mut outputs);
+    q15_samples::bits(&outputs[..made])
+}
+
+/// The same as it is drawn.
+struct Drawn {
     factor: u64,
     samples: Lent,
     taps: Lent,
     span: Lent,
 }
 
-impl Block {
+impl Drawn {
     fn of(rng: &mut Rng, factor: u64, samples: u64, taps: u64, span: u64) -> Self {
-        Block {
+        Drawn {
             factor,
             samples: q15_samples::list(rng, samples),
             taps: q15_samples::list(rng, taps),
@@ -31,54 +92,14 @@ impl Block {
         }
     }
 
-    fn decimated(&self) -> Record {
-        let refusal = refusals::q15_block(
-            self.factor,
-            self.taps.length,
-            self.samples.length,
-            self.span.length,
-        );
-        self.case(DECIMATE, refusal, polyphase_decimate_q15)
-    }
-
-    fn interpolated(&self) -> Record {
-        let refusal = refusals::q15_up(
-            self.factor,
-            self.taps.length,
-            self.samples.length,
-            self.span.length,
-        );
-        self.case(INTERPOLATE, refusal, polyphase_interpolate_q15)
-    }
-
-    fn case(
-        &self,
-        operation: u32,
-        refusal: u32,
-        rust: fn(&[q15], &[q15], usize, &mut [q15]) -> usize,
-    ) -> Record {
-        let mut record = Record::of(operation);
-        record
-            .long(self.factor)
-            .lent(&self.samples)
-            .lent(&self.taps)
-            .lent(&self.span);
-        let lent: Vec<q15> = self.span.elements();
-        let mut places = lent.clone();
-        let written = match refusal {
-            0 => rust(
-                &self.samples.elements::<q15>(),
-                &self.taps.elements::<q15>(),
-                self.factor as usize,
-                &mut places,
-            ),
-            _ => 0,
+    fn case(self, operation: Operation<Block>) -> Box<dyn Case> {
+        let lent = Buffers {
+            factor: self.factor,
+            samples: self.samples.into(),
+            taps: self.taps.into(),
+            span: Slice::span(self.span),
         };
-        record
-            .refusal(refusal)
-            .long(written as u64)
-            .left(&lent, &places);
-        record
+        operation.of(lent).0
     }
 
     /// Often makes every sample and every tap −32768, of which 65,536 products come to 2^31.
@@ -111,7 +132,7 @@ impl Block {
 }
 
 /// T, D and n around each other.
-fn some_decimation(rng: &mut Rng) -> Block {
+fn some_decimation(rng: &mut Rng) -> Drawn {
     let taps = match rng.below(64) {
         0 => rng.within(65, 2000),
         1..=8 => rng.within(9, 64),
@@ -129,11 +150,11 @@ fn some_decimation(rng: &mut Rng) -> Block {
         None => 0,
     };
     let span = settings::places_around(rng, outputs);
-    Block::of(rng, factor, samples, taps, span)
+    Drawn::of(rng, factor, samples, taps, span)
 }
 
 /// L, K and n around each other, and a span that may end inside a sample's outputs.
-fn some_interpolation(rng: &mut Rng) -> Block {
+fn some_interpolation(rng: &mut Rng) -> Drawn {
     let (factor, each) = match rng.below(128) {
         0 => (rng.pick(&[255, 1000, 4095, 4096]), rng.within(1, 4)),
         1..=24 => (rng.within(9, 64), rng.within(1, 8)),
@@ -145,28 +166,28 @@ fn some_interpolation(rng: &mut Rng) -> Block {
     };
     let outputs = (samples + 1).saturating_sub(each) * factor;
     let span = settings::places_around(rng, outputs);
-    Block::of(rng, factor, samples, each * factor, span)
+    Drawn::of(rng, factor, samples, each * factor, span)
 }
 
 /// At 01's limits and past them. A small span or a large factor keeps the work small.
-fn longest_decimation(rng: &mut Rng) -> Block {
+fn longest_decimation(rng: &mut Rng) -> Drawn {
     let samples = settings::length_around(rng);
     let mut block = match rng.below(4) {
         0 => {
             let (taps, span) = (rng.within(1, 4), settings::length_around(rng));
             let factor = rng.pick(&[2048, 4095, 4096]);
-            Block::of(rng, factor, samples, taps, span)
+            Drawn::of(rng, factor, samples, taps, span)
         }
         _ => {
             let (taps, span) = (settings::length_around(rng), rng.within(1, 3));
-            Block::of(rng, 1, samples, taps, span)
+            Drawn::of(rng, 1, samples, taps, span)
         }
     };
     block.fill(rng);
     block
 }
 
-fn longest_interpolation(rng: &mut Rng) -> Block {
+fn longest_interpolation(rng: &mut Rng) -> Drawn {
     let factor = rng.pick(&[1, 16, 256, 4096]);
     let taps = rng.pick(&[MOST - factor, MOST, MOST, MOST + factor]);
     let samples = match rng.below(2) {
@@ -177,26 +198,40 @@ fn longest_interpolation(rng: &mut Rng) -> Block {
         4096 => rng.pick(&[4095, 4097]),
         _ => rng.within(1, 6),
     };
-    let mut block = Block::of(rng, factor, samples, taps, span);
+    let mut block = Drawn::of(rng, factor, samples, taps, span);
     block.fill(rng);
     block
 }
 
-pub fn cases(rng: &mut Rng) -> Vec<Record> {
+/// As long as 01 allows, and of any samples.
+pub fn long(rng: &mut Rng) -> Cases {
+    let (factor, each) = (rng.within(1, 8), rng.within(1, 24));
+    let operation = rng.pick(&[DECIMATE, INTERPOLATE]);
+    let (taps, takes, gives) = match operation.code == DECIMATE.code {
+        true => (each, factor, 1),
+        false => (each * factor, 1, factor),
+    };
+    let (samples, span) = settings::long_block(rng, takes, gives);
+    let mut block = Drawn::of(rng, factor, samples, taps, span);
+    block.samples = q15_samples::noise(rng, samples);
+    vec![block.case(operation)]
+}
+
+pub fn cases(rng: &mut Rng) -> Cases {
     match rng.below(256) {
-        0 => vec![longest_decimation(rng).decimated()],
-        1 => vec![longest_interpolation(rng).interpolated()],
+        0 => vec![longest_decimation(rng).case(DECIMATE)],
+        1 => vec![longest_interpolation(rng).case(INTERPOLATE)],
         2..=15 => {
             let mut block = some_decimation(rng);
             block.spoil(rng);
-            vec![block.decimated()]
+            vec![block.case(DECIMATE)]
         }
         16..=32 => {
             let mut block = some_interpolation(rng);
             block.spoil(rng);
-            vec![block.interpolated()]
+            vec![block.case(INTERPOLATE)]
         }
-        33..=140 => vec![some_decimation(rng).decimated()],
-        _ => vec![some_interpolation(rng).interpolated()],
+        33..=140 => vec![some_decimation(rng).case(DECIMATE)],
+        _ => vec![some_interpolation(rng).case(INTERPOLATE)],
     }
 }

@@ -1,59 +1,123 @@
 //! Cases of `PolyphaseResampF32`.
 
+use crate::archive::float;
+use crate::calls::{Buffers, Counts, Free, Push, Single, Written};
+use crate::case::{Case, Cases, Operation};
+use crate::field::{Fields, fields};
 use crate::float_samples;
-use crate::lent::Lent;
-use crate::record::Record;
+use crate::lent::{LONGEST, Slice};
 use crate::refusals;
 use crate::rng::Rng;
 use crate::samples;
-use crate::sizes::{RESAMPLERS, front, with_phases_and_taps};
-use embedded_dsp::resampling::PolyphaseResampF32;
+use crate::search;
+use crate::settings;
+use crate::sizes::RESAMPLERS;
+use resamplers::Resampler;
 
-const FROM_TAPS: u32 = 0xb1;
-const PROCESS_BLOCK: u32 = 0xb2;
-const PUSH: u32 = 0xb3;
-const RESET: u32 = 0xb4;
+pub type New = Free<Settings, State>;
+pub type Block = Single<State, Buffers<f32, f32>, Counts>;
+pub type Step = Single<State, Push<f32>, Written>;
+pub type Reset = Single<State, (), ()>;
+
+const FROM_TAPS: Operation<New> = Operation {
+    code: 0xb1,
+    name: "PolyphaseResampF32::from_taps",
+    refusal: Some(|call| call.lent.refusal()),
+    rust: |call| call.answer = State::opened(&call.lent),
+    archive: float::polyphase_resamp_from_taps,
+};
+
+const PROCESS_BLOCK: Operation<Block> = Operation {
+    code: 0xb2,
+    name: "PolyphaseResampF32::process_block",
+    refusal: Some(|call| call.state.refusal()),
+    rust: |call| call.answer = call.state.feed(&mut call.lent),
+    archive: float::polyphase_resamp_process_block,
+};
+
+const PUSH: Operation<Step> = Operation {
+    code: 0xb3,
+    name: "PolyphaseResampF32::push",
+    refusal: Some(|call| call.state.refusal()),
+    rust: |call| {
+        let Push { sample, span } = &mut call.lent;
+        call.answer.written = call.state.push(*sample, &mut span.elements);
+    },
+    archive: float::polyphase_resamp_push,
+};
+
+const RESET: Operation<Reset> = Operation {
+    code: 0xb4,
+    name: "PolyphaseResampF32::reset",
+    refusal: Some(|call| call.state.refusal()),
+    rust: |call| call.state.reset(),
+    archive: float::polyphase_resamp_reset,
+};
 
 /// The lowest mu: one less rounds to itself.
 const LOWEST_MU: f32 = -16_777_216.0;
 
-/// The port's state: the Rust has P and T as constants, and a row of taps for each phase.
-#[derive(Clone)]
-struct State {
-    phases: u64,
-    taps: u64,
-    mu: f32,
-    step: f32,
-    delay: [f32; 16],
-    prototype: [f32; 1024],
+fields! {
+    /// What a resampler is opened with.
+    pub struct Settings {
+        phases: u64,
+        taps: u64,
+        step: f32,
+        prototype: Slice<f32>,
+    }
+}
+
+impl Settings {
+    fn refusal(&self) -> u32 {
+        refusals::resampler_opening(self.phases, self.taps, self.prototype.len(), self.step)
+    }
+}
+
+fields! {
+    /// The port's state: the Rust has P and T as constants, and a row of taps for each phase.
+    pub struct State {
+        phases: u64,
+        taps: u64,
+        mu: f32,
+        step: f32,
+        delay: [f32; 16],
+        prototype: [f32; 1024],
+    }
 }
 
 impl State {
-    fn zeros() -> Self {
-        State {
-            phases: 0,
-            taps: 0,
-            mu: 0.0,
-            step: 0.0,
-            delay: [0.0; 16],
-            prototype: [0.0; 1024],
-        }
+    pub fn opened(settings: &Settings) -> Self {
+        let mut state = State::zeros();
+        state.phases = settings.phases;
+        state.taps = settings.taps;
+        state.keep(&*opened(
+            settings.phases,
+            settings.taps,
+            &settings.prototype.elements,
+            settings.step,
+        ));
+        state
     }
 
-    fn rust<const P: usize, const T: usize>(&self) -> PolyphaseResampF32<P, T> {
-        let h = std::array::from_fn(|p| std::array::from_fn(|t| self.prototype[t * P + p]));
-        PolyphaseResampF32::from_parts(h, front(&self.delay), self.mu, self.step)
+    /// The taps and phases that are run.
+    pub fn own_prototype(&self) -> &[f32] {
+        &self.prototype[..(self.phases * self.taps) as usize]
+    }
+
+    fn rust(&self) -> Box<dyn Resampler> {
+        let mut rust = opened(self.phases, self.taps, self.own_prototype(), self.step);
+        rust.set_parts(&self.delay[..self.taps as usize], self.mu);
+        rust
     }
 
     /// The places at and past T and P × T stay.
-    fn keep<const P: usize, const T: usize>(&mut self, rust: &PolyphaseResampF32<P, T>) {
+    fn keep(&mut self, rust: &dyn Resampler) {
         let (h, delay, mu, step) = rust.parts();
-        for (p, phase) in h.iter().enumerate() {
-            for (t, &tap) in phase.iter().enumerate() {
-                self.prototype[t * P + p] = tap;
-            }
+        let (phases, taps) = (self.phases as usize, self.taps as usize);
+        for (i, &tap) in h.iter().enumerate() {
+            self.prototype[i % taps * phases + i / taps] = tap;
         }
-        self.delay[..T].copy_from_slice(&delay);
+        self.delay[..taps].copy_from_slice(delay);
         self.mu = mu;
         self.step = step;
     }
@@ -62,165 +126,57 @@ impl State {
         refusals::resampler(self.phases, self.taps, self.step, self.mu)
     }
 
-    fn write(&self, record: &mut Record) {
-        record
-            .long(self.phases)
-            .long(self.taps)
-            .words(&[self.mu, self.step])
-            .array(&self.delay)
-            .array(&self.prototype);
+    pub fn block(&mut self, samples: &[f32], span: &mut [f32]) -> usize {
+        let mut rust = self.rust();
+        let written = rust.process_block(samples, span);
+        self.keep(&*rust);
+        written
     }
 
-    /// After a call on `before`.
-    fn write_after(&self, before: &State, record: &mut Record) {
-        record
-            .long(self.phases)
-            .long(self.taps)
-            .words(&[self.mu, self.step])
-            .left(&before.delay, &self.delay)
-            .left(&before.prototype, &self.prototype);
+    pub fn push(&mut self, sample: f32, span: &mut [f32]) -> u64 {
+        let mut rust = self.rust();
+        let written = rust.push(sample, span);
+        self.keep(&*rust);
+        written as u64
     }
-}
 
-fn opened<const P: usize, const T: usize>(prototype: &[f32], step: f32) -> State {
-    let mut state = State::zeros();
-    state.phases = P as u64;
-    state.taps = T as u64;
-    match PolyphaseResampF32::<P, T>::from_taps(prototype, step) {
-        Ok(rust) => state.keep(&rust),
-        Err(_) => unreachable!("the refusals come first"),
+    /// A fresh opening with the state's own settings: what stands behind T and P × T is no part of it.
+    fn reset(&mut self) {
+        let mut rust = self.rust();
+        rust.reset();
+        *self = State {
+            phases: self.phases,
+            taps: self.taps,
+            ..State::zeros()
+        };
+        self.keep(&*rust);
     }
-    state
-}
 
-fn block<const P: usize, const T: usize>(
-    state: &mut State,
-    samples: &[f32],
-    span: &mut [f32],
-) -> usize {
-    let mut rust = state.rust::<P, T>();
-    let written = rust.process_block(samples, span);
-    state.keep(&rust);
-    written
-}
-
-fn push<const P: usize, const T: usize>(state: &mut State, sample: f32, span: &mut [f32]) -> usize {
-    let mut rust = state.rust::<P, T>();
-    let written = rust.push(sample, span);
-    state.keep(&rust);
-    written
-}
-
-/// A fresh opening with the state's own settings: what stands behind T and P × T is no part of it.
-fn reset<const P: usize, const T: usize>(state: &mut State) {
-    let mut rust = state.rust::<P, T>();
-    rust.reset();
-    state.keep(&rust);
-    state.delay[T..].fill(0.0);
-    state.prototype[P * T..].fill(0.0);
-}
-
-/// How many samples the Rust's block took, which it does not say: all of them where a place is left, else the fewest that fill the span.
-fn taken(state: &State, samples: &[f32], places: usize, written: usize) -> usize {
-    if written < places {
-        return samples.len();
+    /// How many samples the Rust's block took, which it does not say: all of them where a place is left, else the fewest that fill the span.
+    fn taken(&self, samples: &[f32], places: usize, written: usize) -> usize {
+        if written < places {
+            return samples.len();
+        }
+        search::least(samples.len(), |taken| {
+            let mut span = vec![0.0; places];
+            self.rust().process_block(&samples[..taken], &mut span) == places
+        })
     }
-    let fills = |count: usize| {
-        let (mut state, mut span) = (state.clone(), vec![0.0; places]);
-        let samples = &samples[..count];
-        let (phases, taps) = (state.phases, state.taps);
-        with_phases_and_taps!(phases, taps, block(&mut state, samples, &mut span)) == places
-    };
-    let (mut low, mut high) = (0, samples.len());
-    while low < high {
-        let middle = (low + high) / 2;
-        if fills(middle) {
-            high = middle;
-        } else {
-            low = middle + 1;
+
+    fn feed(&mut self, lent: &mut Buffers<f32, f32>) -> Counts {
+        let (samples, span) = (&lent.samples.elements, &mut lent.span.elements);
+        let before = self.clone();
+        let written = self.block(samples, span);
+        Counts {
+            taken: before.taken(samples, span.len(), written) as u64,
+            written: written as u64,
         }
     }
-    low
 }
 
-fn from_taps_case(phases: u64, taps: u64, prototype: &Lent, step: f32) -> (Record, State) {
-    let mut record = Record::of(FROM_TAPS);
-    record
-        .long(phases)
-        .long(taps)
-        .words(&[step])
-        .lent(prototype);
-    let refusal = refusals::resampler_opening(phases, taps, prototype.length, step);
-    let state = match refusal {
-        0 => with_phases_and_taps!(phases, taps, opened(&prototype.elements::<f32>(), step)),
-        _ => State::zeros(),
-    };
-    record.refusal(refusal);
-    state.write_after(&State::zeros(), &mut record);
-    (record, state)
-}
-
-fn block_case(state: &mut State, samples: &Lent, span: &Lent) -> Record {
-    let mut record = Record::of(PROCESS_BLOCK);
-    let before = state.clone();
-    before.write(&mut record);
-    record.lent(samples).lent(span);
-    let input: Vec<f32> = samples.elements();
-    let lent: Vec<f32> = span.elements();
-    let mut places = lent.clone();
-    let refusal = before.refusal();
-    let (taken, written) = match refusal {
-        0 => {
-            let (phases, taps) = (state.phases, state.taps);
-            let written = with_phases_and_taps!(phases, taps, block(state, &input, &mut places));
-            (taken(&before, &input, places.len(), written), written)
-        }
-        _ => (0, 0),
-    };
-    record
-        .refusal(refusal)
-        .long(taken as u64)
-        .long(written as u64)
-        .left(&lent, &places);
-    state.write_after(&before, &mut record);
-    record
-}
-
-fn push_case(state: &mut State, sample: f32, span: &Lent) -> Record {
-    let mut record = Record::of(PUSH);
-    let before = state.clone();
-    before.write(&mut record);
-    record.words(&[sample]).lent(span);
-    let lent: Vec<f32> = span.elements();
-    let mut places = lent.clone();
-    let refusal = before.refusal();
-    let written = match refusal {
-        0 => {
-            let (phases, taps) = (state.phases, state.taps);
-            with_phases_and_taps!(phases, taps, push(state, sample, &mut places))
-        }
-        _ => 0,
-    };
-    record
-        .refusal(refusal)
-        .long(written as u64)
-        .left(&lent, &places);
-    state.write_after(&before, &mut record);
-    record
-}
-
-fn reset_case(state: &mut State) -> Record {
-    let mut record = Record::of(RESET);
-    let before = state.clone();
-    before.write(&mut record);
-    let refusal = before.refusal();
-    if refusal == 0 {
-        let (phases, taps) = (state.phases, state.taps);
-        with_phases_and_taps!(phases, taps, reset(state));
-    }
-    record.refusal(refusal);
-    state.write_after(&before, &mut record);
-    record
+/// The Rust's, with settings that are not refused.
+pub fn opened(phases: u64, taps: u64, prototype: &[f32], step: f32) -> Box<dyn Resampler> {
+    resamplers::from_taps(phases, taps, prototype, step).expect("the refusals come first")
 }
 
 /// A step from the least positive f32 to the largest.
@@ -241,7 +197,7 @@ fn bad_step(rng: &mut Rng) -> f32 {
 }
 
 /// A mu from −2^24 to 1 + step as rounded, at both ends and beside them.
-fn some_mu(rng: &mut Rng, step: f32) -> f32 {
+pub fn some_mu(rng: &mut Rng, step: f32) -> f32 {
     let most = 1.0 + step;
     let mu = match rng.below(16) {
         0 => rng.pick(&[0.0, -0.0, 1e-45, 1.0, 0.999_999_94]),
@@ -276,6 +232,13 @@ fn midway(rng: &mut Rng) -> State {
     }
 }
 
+/// The same with any P and T.
+pub fn midway_any(rng: &mut Rng) -> State {
+    let mut state = midway(rng);
+    (state.phases, state.taps) = settings::phases_and_taps(rng);
+    state
+}
+
 /// A state that 15 turns back.
 fn damaged(rng: &mut Rng) -> State {
     let mut state = midway(rng);
@@ -296,7 +259,7 @@ fn damaged(rng: &mut Rng) -> State {
 }
 
 /// One fault, several at once, or none.
-fn some_opening(rng: &mut Rng) -> Record {
+fn some_opening(rng: &mut Rng) -> Box<dyn Case> {
     let (mut phases, mut taps) = rng.pick(&RESAMPLERS);
     let mut length = phases * taps;
     let mut step = some_step(rng);
@@ -313,11 +276,17 @@ fn some_opening(rng: &mut Rng) -> Record {
     if faults & 8 != 0 {
         step = bad_step(rng);
     }
-    from_taps_case(phases, taps, &float_samples::list(rng, length), step).0
+    let settings = Settings {
+        phases,
+        taps,
+        step,
+        prototype: float_samples::list(rng, length).into(),
+    };
+    FROM_TAPS.of(settings).0
 }
 
 /// Samples and a span around each other; neither has a limit.
-fn some_block(rng: &mut Rng, state: &mut State) -> Record {
+fn some_block(rng: &mut Rng, state: &mut State) -> Box<dyn Case> {
     let length = match rng.below(16) {
         0..=2 => 0,
         3 => rng.within(21, 80),
@@ -330,51 +299,53 @@ fn some_block(rng: &mut Rng, state: &mut State) -> Record {
     };
     let input = float_samples::list(rng, length);
     let span = samples::span(rng, places);
-    block_case(state, &input, &span)
+    PROCESS_BLOCK.on(state, Buffers::of(input, span))
 }
 
-fn some_push(rng: &mut Rng, state: &mut State) -> Record {
+fn some_push(rng: &mut Rng, state: &mut State) -> Box<dyn Case> {
     let sample = float_samples::one(rng);
     let places = match rng.below(4) {
         0 => rng.within(3, 12),
         _ => rng.below(3),
     };
     let span = samples::span(rng, places);
-    push_case(state, sample, &span)
+    PUSH.on(state, Push::of(sample, span))
 }
 
 /// Past 65,536, which limits other blocks and not this one. A step of 64 and more keeps the record small.
-fn longest_block(rng: &mut Rng) -> Record {
+fn longest_block(rng: &mut Rng) -> Box<dyn Case> {
     let mut state = midway(rng);
     state.step = rng.within(64, 4096) as f32;
     state.mu = some_mu(rng, state.step).max(0.0);
-    let around = [65_536, 65_537, crate::lent::LONGEST];
+    let around = [65_536, 65_537, LONGEST];
     let (length, places) = (rng.pick(&around), rng.pick(&around));
     let input = float_samples::list(rng, length);
     let span = samples::span(rng, places);
-    block_case(&mut state, &input, &span)
+    PROCESS_BLOCK.on(&mut state, Buffers::of(input, span))
 }
 
-fn any_call(rng: &mut Rng, state: &mut State) -> Record {
+fn any_call(rng: &mut Rng, state: &mut State) -> Box<dyn Case> {
     match rng.below(16) {
-        0 => reset_case(state),
+        0 => RESET.on(state, ()),
         1..=8 => some_block(rng, state),
         _ => some_push(rng, state),
     }
 }
 
 /// From an opening: calls of every kind, each on the state that the one before left.
-fn stream(rng: &mut Rng) -> Vec<Record> {
-    let (phases, taps) = rng.pick(&RESAMPLERS);
-    let step = some_step(rng);
-    let prototype = float_samples::list(rng, phases * taps);
-    let (opening, mut state) = from_taps_case(phases, taps, &prototype, step);
-    let mut records = vec![opening];
-    records.extend((0..rng.within(3, 12)).map(|_| any_call(rng, &mut state)));
-    records
+fn stream(rng: &mut Rng, (phases, taps): (u64, u64)) -> Cases {
+    let (opening, mut state) = FROM_TAPS.of(Settings {
+        phases,
+        taps,
+        step: some_step(rng),
+        prototype: float_samples::list(rng, phases * taps).into(),
+    });
+    let mut cases = vec![opening];
+    cases.extend((0..rng.within(3, 12)).map(|_| any_call(rng, &mut state)));
+    cases
 }
 
-pub fn cases(rng: &mut Rng) -> Vec<Record> {
+pub fn cases(rng: &mut Rng) -> Cases {
     match rng.below(64) {
         0..=7 => vec![some_opening(rng)],
         8..=14 => {
@@ -386,6 +357,38 @@ pub fn cases(rng: &mut Rng) -> Vec<Record> {
             vec![any_call(rng, &mut state)]
         }
         56 if rng.one_in(4) => vec![longest_block(rng)],
-        _ => stream(rng),
+        _ => {
+            let pair = rng.pick(&RESAMPLERS);
+            stream(rng, pair)
+        }
     }
+}
+
+/// Any P and T: a list has only some.
+pub fn more(rng: &mut Rng) -> Cases {
+    match rng.one_in(4) {
+        true => {
+            let pair = settings::phases_and_taps(rng);
+            stream(rng, pair)
+        }
+        false => {
+            let mut state = midway_any(rng);
+            vec![any_call(rng, &mut state)]
+        }
+    }
+}
+
+/// A long block, of which a place stays unwritten or not. Levels alone leave every output a number.
+pub fn long(rng: &mut Rng) -> Cases {
+    let mut state = midway_any(rng);
+    state.delay = float_samples::levels(rng);
+    state.prototype = float_samples::levels(rng);
+    state.step = rng.within(1 << 18, 1 << 23) as f32 / (1 << 20) as f32;
+    state.mu = some_mu(rng, state.step).max(0.0);
+    let length = rng.within(LONGEST / 2, 2 * LONGEST);
+    let outputs = (length as f32 / state.step) as u64;
+    let places = settings::places_around(rng, outputs);
+    let input = float_samples::noise(rng, length);
+    let span = samples::span(rng, places);
+    vec![PROCESS_BLOCK.on(&mut state, Buffers::of(input, span))]
 }

@@ -1,16 +1,24 @@
 //! Q15 samples and taps: the ends of the range, the numbers around 0, anything.
 
-use crate::lent::Lent;
+use crate::lent::{Lent, Slice};
 use crate::rng::Rng;
-use crate::word::Word;
 use embedded_dsp::types::q15;
 
-pub fn one(rng: &mut Rng) -> q15 {
-    q15::from_bits(match rng.below(4) {
+/// As the Rust has them.
+pub fn rust(samples: &[i16]) -> Vec<q15> {
+    samples.iter().map(|&bits| q15::from_bits(bits)).collect()
+}
+
+pub fn bits(samples: &[q15]) -> Vec<i16> {
+    samples.iter().map(|sample| sample.to_bits()).collect()
+}
+
+pub fn one(rng: &mut Rng) -> i16 {
+    match rng.below(4) {
         0 => rng.pick(&[i16::MIN, i16::MAX, 0, 1, -1]),
         1 => rng.within(0, 200) as i16 - 100,
         _ => rng.next() as i16,
-    })
+    }
 }
 
 /// `length` samples: some of them listed, or all at one level so that a sum leaves 16 bits, or every number in turn.
@@ -26,14 +34,21 @@ pub fn list(rng: &mut Rng, length: u64) -> Lent {
                 length: length as usize,
                 pattern: level,
                 stride: rng.pick(&[0, 1, 0x3039]),
-                listed: (0..length.min(most)).map(|_| one(rng).word()).collect(),
+                listed: (0..length.min(most))
+                    .map(|_| u32::from(one(rng) as u16))
+                    .collect(),
             }
         }
     }
 }
 
+/// `length` samples, all of them listed.
+pub fn noise(rng: &mut Rng, length: u64) -> Lent {
+    Lent::listed((0..length).map(|_| u32::from(one(rng) as u16)).collect())
+}
+
 /// The 64 places of a state's array.
-pub fn places(rng: &mut Rng) -> [q15; 64] {
-    let slice = list(rng, 64);
-    std::array::from_fn(|i| slice.elements()[i])
+pub fn places(rng: &mut Rng) -> [i16; 64] {
+    let slice: Slice<i16> = list(rng, 64).into();
+    std::array::from_fn(|i| slice.elements[i])
 }

@@ -1,7 +1,7 @@
 //! One case as a line of words. ../README.md has the format.
 
+use crate::field::{Field, Role, Shape};
 use crate::lent::Lent;
-use crate::word::Word;
 use std::io::{self, Write};
 
 pub struct Record {
@@ -32,33 +32,17 @@ impl Record {
         self.word(number)
     }
 
-    /// A usize or a u64: the low word, then the high one.
-    pub fn long(&mut self, x: u64) -> &mut Self {
-        self.word(x as u32).word((x >> 32) as u32)
-    }
-
-    pub fn number(&mut self, x: i32) -> &mut Self {
-        self.word(x as u32)
-    }
-
-    pub fn words<T: Word>(&mut self, xs: &[T]) -> &mut Self {
-        self.words.extend(xs.iter().map(|x| x.word()));
-        self
-    }
-
-    pub fn lent(&mut self, slice: &Lent) -> &mut Self {
+    fn lent(&mut self, slice: &Lent) {
         self.longest_slice = self.longest_slice.max(slice.length);
         self.word(slice.length as u32)
             .word(slice.pattern)
             .word(slice.stride)
             .word(slice.listed.len() as u32);
         self.words.extend(&slice.listed);
-        self
     }
 
     /// An array of a state before a call, as a slice that is lent: the longest end of it that follows a pattern is not listed.
-    pub fn array<T: Word>(&mut self, places: &[T]) -> &mut Self {
-        let words: Vec<u32> = places.iter().map(|x| x.word()).collect();
+    fn array(&mut self, words: &[u32]) {
         let last = words.len() - 1;
         let stride = words[last].wrapping_sub(words[last - 1]);
         let follows = |i: &usize| words[i + 1].wrapping_sub(words[*i]) == stride;
@@ -69,14 +53,47 @@ impl Record {
             pattern: words[last].wrapping_sub(steps),
             stride,
             listed: words[..listed].to_vec(),
-        })
+        });
     }
 
     /// A span or a state's array after the call: up to the last place that changed, the places behind it being as before.
-    pub fn left<T: Word>(&mut self, before: &[T], after: &[T]) -> &mut Self {
-        let changed = |i: &usize| after[*i].word() != before[*i].word();
+    fn left(&mut self, before: &[u32], after: &[u32]) {
+        let changed = |i: &usize| after[*i] != before[*i];
         let listed = (0..after.len()).rev().find(changed).map_or(0, |i| i + 1);
-        self.word(listed as u32).words(&after[..listed])
+        self.word(listed as u32);
+        self.words.extend(&after[..listed]);
+    }
+
+    /// A field as it is lent.
+    pub fn input(&mut self, field: &Field) {
+        match &field.shape {
+            Shape::Plain => self.words.extend(field.values.words()),
+            Shape::Array => self.array(&field.values.words()),
+            Shape::Slice(drawn) => self.lent(drawn),
+        }
+    }
+
+    /// A field as it is left.
+    pub fn answer(&mut self, before: &Field, after: &Field) {
+        match after.shape {
+            Shape::Plain => self.words.extend(after.values.words()),
+            _ => self.left(&before.values.words(), &after.values.words()),
+        }
+    }
+
+    /// What is lent, the refusal, then the answers, the span and the state.
+    pub fn call(&mut self, before: &[Field], refusal: Option<u32>, after: &[Field]) {
+        for field in before.iter().filter(|field| field.is_lent()) {
+            self.input(field);
+        }
+        if let Some(number) = refusal {
+            self.refusal(number);
+        }
+        for role in [Role::Answer, Role::Span, Role::State] {
+            for (before, after) in before.iter().zip(after).filter(|(_, f)| f.role == role) {
+                self.answer(before, after);
+            }
+        }
     }
 
     pub fn len(&self) -> usize {

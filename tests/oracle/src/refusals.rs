@@ -14,7 +14,7 @@ const DEPTH: u32 = 11;
 const PHASES: u32 = 12;
 const PROTOTYPE: u32 = 13;
 const STEP: u32 = 14;
-const STATE: u32 = 15;
+pub const STATE: u32 = 15;
 
 /// The most samples, taps and places of a block.
 const MOST: usize = 65_536;

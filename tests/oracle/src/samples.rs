@@ -26,6 +26,13 @@ pub fn list(rng: &mut Rng, length: u64, listed: u64) -> Lent {
     }
 }
 
+/// `length` samples, all of them listed: anything, or small ones.
+pub fn noise(rng: &mut Rng, length: u64) -> Lent {
+    let shift = rng.pick(&[0, 8, 16]);
+    let sample = |_| (rng.next() as i32 >> shift) as u32;
+    Lent::listed((0..length).map(sample).collect())
+}
+
 /// A span as it is before a call: no two places next to each other are equal.
 pub fn span(rng: &mut Rng, length: u64) -> Lent {
     Lent::pattern(length, rng.next() as u32, 1)

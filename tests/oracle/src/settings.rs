@@ -1,5 +1,6 @@
 //! Factors, lengths and spans around 01's limits, for every converter but the CIC ones.
 
+use crate::lent::Lent;
 use crate::rng::Rng;
 
 /// 01's limit of a factor.
@@ -56,12 +57,35 @@ pub fn bad_places(rng: &mut Rng) -> usize {
     rng.pick(&[MOST as usize + 1, MOST as usize + 64])
 }
 
+/// Now and then gives a block samples or a span that it refuses.
+pub fn spoil_block(rng: &mut Rng, samples: &mut Lent, span: &mut Lent) {
+    if rng.one_in(24) {
+        samples.length = bad_length(rng);
+    }
+    if rng.one_in(24) {
+        span.length = bad_places(rng);
+    }
+}
+
 /// Just below 01's limit, at it and just past it.
 pub fn length_around(rng: &mut Rng) -> u64 {
     rng.pick(&[MOST - 1, MOST, MOST, MOST + 1])
 }
 
+/// Many samples, and a span for about what they make, where so many samples make so many outputs: both within 01's limit.
+pub fn long_block(rng: &mut Rng, takes: u64, gives: u64) -> (u64, u64) {
+    let most = (MOST / gives * takes).min(MOST);
+    let length = rng.within(most / 2, most);
+    let places = places_around(rng, length / takes * gives);
+    (length, places.min(MOST))
+}
+
 /// A depth that every cascade refuses, and 0, which the line's takes for off.
 pub fn bad_depth(rng: &mut Rng) -> u64 {
     rng.pick(&[0, 6, 6, 7, 1 << 32, (1 << 32) + 1, u64::MAX])
+}
+
+/// P and T of a resampler, any that 01 allows.
+pub fn phases_and_taps(rng: &mut Rng) -> (u64, u64) {
+    (rng.within(2, 64), rng.within(1, 16))
 }

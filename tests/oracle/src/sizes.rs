@@ -38,7 +38,7 @@ macro_rules! with_depth {
 }
 pub(crate) use with_depth;
 
-/// P and T of a resampler: the ends of both and some between. A function for every pair that 01 allows would take minutes to compile.
+/// P and T of a resampler in a list: the ends of both and some between.
 pub const RESAMPLERS: [(u64, u64); 30] = [
     (2, 1),
     (2, 2),
@@ -71,30 +71,6 @@ pub const RESAMPLERS: [(u64, u64); 30] = [
     (64, 15),
     (64, 16),
 ];
-
-macro_rules! with_phases_and_taps {
-    ($phases:expr, $taps:expr, $function:ident $arguments:tt) => {
-        crate::sizes::with_pair!(
-            ($phases, $taps),
-            [
-                2 1, 2 2, 2 3, 2 16, 3 1, 3 2, 3 4, 3 15, 4 1, 4 2, 4 3, 4 8, 5 1, 5 3, 5 5, 7 2, 7 4, 8 1, 8 4, 8 12,
-                16 6, 31 3, 32 16, 33 2, 63 1, 63 15, 63 16, 64 1, 64 15, 64 16
-            ],
-            $function $arguments
-        )
-    };
-}
-pub(crate) use with_phases_and_taps;
-
-macro_rules! with_pair {
-    ($pair:expr, [$($phases:literal $taps:literal),*], $function:ident $arguments:tt) => {
-        match $pair {
-            $(($phases, $taps) => $function::<$phases, $taps> $arguments,)*
-            _ => unreachable!("the refusals come first"),
-        }
-    };
-}
-pub(crate) use with_pair;
 
 /// The first N places of an array.
 pub fn front<const N: usize, T: Copy>(places: &[T]) -> [T; N] {

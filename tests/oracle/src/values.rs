@@ -1,19 +1,81 @@
 //! Cases of what has no state and lends no slice: the cut to 16 bits, Q15 to f32, the response lengths, the half-band table.
 
+use crate::archive::{float, q15 as archive};
+use crate::calls::{Free, Sample, Value};
+use crate::case::{Case, Cases, Operation};
+use crate::field::fields;
 use crate::hbf_table;
 use crate::q15_samples;
-use crate::record::Record;
 use crate::refusals;
 use crate::rng::Rng;
 use crate::settings;
 use embedded_dsp::resampling::{hbf_dec_response_length, hbf_int_response_length};
 use embedded_dsp::types::q15;
 
-const CUT: u32 = 0x34;
-const TO_F32: u32 = 0x52;
-const DEC_RESPONSE_LENGTH: u32 = 0x53;
-const INT_RESPONSE_LENGTH: u32 = 0x54;
-const TAP_TABLE: u32 = 0x55;
+pub type Cut = Free<Sample<i64>, Value<i16>>;
+pub type ToF32 = Free<Sample<i16>, Value<f32>>;
+pub type Length = Free<Depth, Value<u64>>;
+pub type TapTable = Free<(), Table>;
+
+const CUT: Operation<Cut> = Operation {
+    code: 0x34,
+    name: "cut_q15",
+    refusal: None,
+    rust: |call| call.answer.value = cut(call.lent.sample),
+    archive: archive::cut_q15,
+};
+
+const TO_F32: Operation<ToF32> = Operation {
+    code: 0x52,
+    name: "q15_to_f32",
+    refusal: None,
+    rust: |call| call.answer.value = q15::from_bits(call.lent.sample).to_num(),
+    archive: float::q15_to_f32,
+};
+
+const DEC_RESPONSE_LENGTH: Operation<Length> = Operation {
+    code: 0x53,
+    name: "hbf_dec_response_length",
+    refusal: Some(|call| refusals::depth(call.lent.depth)),
+    rust: |call| call.answer.value = hbf_dec_response_length(call.lent.depth as usize) as u64,
+    archive: float::hbf_dec_response_length,
+};
+
+const INT_RESPONSE_LENGTH: Operation<Length> = Operation {
+    code: 0x54,
+    name: "hbf_int_response_length",
+    refusal: Some(|call| refusals::depth(call.lent.depth)),
+    rust: |call| call.answer.value = hbf_int_response_length(call.lent.depth as usize) as u64,
+    archive: float::hbf_int_response_length,
+};
+
+/// The printed decimals, rounded by another route than the compiler's.
+const TAP_TABLE: Operation<TapTable> = Operation {
+    code: 0x55,
+    name: "hbf_tap_table",
+    refusal: None,
+    rust: |call| call.answer.taps.copy_from_slice(&hbf_table::rounded()),
+    archive: float::hbf_tap_table,
+};
+
+fields! {
+    /// How many stages a cascade has.
+    pub struct Depth {
+        depth: u64,
+    }
+}
+
+fields! {
+    /// The taps of all stages.
+    pub struct Table {
+        taps: [f32; 45],
+    }
+}
+
+/// 01, section 2: "The line (not the Rust) cuts the scaled sum to −32,768..32,767."
+pub fn cut(sum: i64) -> i16 {
+    sum.clamp(-32_768, 32_767) as i16
+}
 
 /// Around the ends of 16, 32 and 64 bits, and anything.
 fn some_sum(rng: &mut Rng) -> i64 {
@@ -28,59 +90,30 @@ fn some_sum(rng: &mut Rng) -> i64 {
     }
 }
 
-/// 01, section 2: the line's cut, which the Rust does not have.
-fn cut_case(rng: &mut Rng) -> Record {
-    let sum = some_sum(rng);
-    let cut = q15::from_bits(sum.clamp(-32_768, 32_767) as i16);
-    let mut record = Record::of(CUT);
-    record.long(sum as u64).words(&[cut]);
-    record
-}
-
-fn to_f32_case(rng: &mut Rng) -> Record {
-    let level = q15_samples::one(rng);
-    let mut record = Record::of(TO_F32);
-    record.words(&[level]).words(&[level.to_num::<f32>()]);
-    record
-}
-
-fn length_case(rng: &mut Rng, operation: u32, rust: fn(usize) -> usize) -> Record {
+fn some_depth(rng: &mut Rng) -> Depth {
     let depth = match rng.below(3) {
         0 => settings::bad_depth(rng),
         _ => rng.below(6),
     };
-    let refusal = refusals::depth(depth);
-    let length = match refusal {
-        0 => rust(depth as usize),
-        _ => 0,
-    };
-    let mut record = Record::of(operation);
-    record.long(depth).refusal(refusal).long(length as u64);
-    record
+    Depth { depth }
 }
 
-/// The printed decimals, rounded by another route than the compiler's.
-fn table_case() -> Record {
-    let mut record = Record::of(TAP_TABLE);
-    let taps = hbf_table::rounded();
-    record.left(&vec![0.0; taps.len()], &taps);
-    record
-}
-
-pub fn cases(rng: &mut Rng) -> Vec<Record> {
+fn some_call(rng: &mut Rng) -> Box<dyn Case> {
     match rng.below(32) {
-        0 => vec![table_case()],
-        1..=4 => vec![length_case(
-            rng,
-            DEC_RESPONSE_LENGTH,
-            hbf_dec_response_length,
-        )],
-        5..=8 => vec![length_case(
-            rng,
-            INT_RESPONSE_LENGTH,
-            hbf_int_response_length,
-        )],
-        9..=18 => vec![cut_case(rng)],
-        _ => vec![to_f32_case(rng)],
+        0 => TAP_TABLE.of(()).0,
+        1..=4 => DEC_RESPONSE_LENGTH.of(some_depth(rng)).0,
+        5..=8 => INT_RESPONSE_LENGTH.of(some_depth(rng)).0,
+        9..=18 => {
+            let sample = some_sum(rng);
+            CUT.of(Sample { sample }).0
+        }
+        _ => {
+            let sample = q15_samples::one(rng);
+            TO_F32.of(Sample { sample }).0
+        }
     }
+}
+
+pub fn cases(rng: &mut Rng) -> Cases {
+    vec![some_call(rng)]
 }
