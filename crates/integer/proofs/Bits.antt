@@ -2,22 +2,13 @@
 use mathlib.Core.Path.{_≡_, refl, sym, ap, _∙_}
 use mathlib.Core.Bool.{Bool, true, false, cond}
 use Prim.Native.Nat.{ℕ, zero, suc, _+_, _-_, _*_, _^_, _≤_, _<_, min}
+use native.Mathlib.Nat.{pow-suc}
 use native.Mathlib.Omega.{arith}
 use native.Mathlib.Decide.{decLe}
 use borrow.Author.Count.{below-more}
 use borrow.Author.Tests.{le-leb, lt-leb}
+use lib.Pow.{pow-mono}
 use Rattle.integer.specs.Gain.{held, gainOf, gainBits, bitsFrom, bitsOf, Least}
-
--- how the search goes
-pub bits-here : (g b : ℕ) → b < 64 → g ≤ 2 ^ b → bitsFrom (64 - b) b g ≡ b
-bits-here g b h l =
-    let e : 64 - b ≡ suc (64 - (b + 1)) = omega arith in
-    ap (λ n. bitsFrom n b g) e ∙ ap (λ t. cond t b (bitsFrom (64 - (b + 1)) (b + 1) g)) (le-leb g (2 ^ b) l)
-
-pub bits-on : (g b : ℕ) → b < 64 → 2 ^ b < g → bitsFrom (64 - b) b g ≡ bitsFrom (64 - (b + 1)) (b + 1) g
-bits-on g b h l =
-    let e : 64 - b ≡ suc (64 - (b + 1)) = omega arith in
-    ap (λ n. bitsFrom n b g) e ∙ ap (λ t. cond t b (bitsFrom (64 - (b + 1)) (b + 1) g)) (lt-leb g (2 ^ b) l)
 
 -- it is the least: whatever is below does not reach g, and it does, unless it is 64
 bits-least′ : (fuel b g : ℕ) → ((k : ℕ) → k < b → 2 ^ k < g) → (k : ℕ) → k < bitsFrom fuel b g → 2 ^ k < g
@@ -43,6 +34,18 @@ bits-reach′ (suc fuel) b g h = go (bits-reach′ fuel (b + 1) g (let e : b + s
 pub bits-reach : (g : ℕ) → g ≤ 2 ^ 64 → g ≤ 2 ^ bitsOf g
 unfolding bitsOf
 bits-reach g h = bits-reach′ 64 0 g h
+
+-- no other b reaches g without being twice as far as need be
+pub bits-only : (g b : ℕ) → g ≤ 2 ^ 64 → g ≤ 2 ^ b → 2 ^ b < 2 * g → b ≡ bitsOf g
+bits-only g b h reached near = go (decLe b (bitsOf g)) (decLe (bitsOf g) b)
+  where
+    go : Dec (b ≤ bitsOf g) → Dec (bitsOf g ≤ b) → b ≡ bitsOf g
+    go (yes l) (yes u) = omega arith
+    go (yes l) (no u) = let e : 2 ^ b < g = bits-least g b (omega arith) in absurd (omega arith)
+    go (no l) u =
+        let p : 2 ^ suc (bitsOf g) ≤ 2 ^ b = pow-mono (let q : suc (bitsOf g) ≤ b = omega arith in q) in
+        let e : g ≤ 2 ^ bitsOf g = bits-reach g h in
+        absurd (omega (arith, pow-suc 2 (bitsOf g)))
 
 pub gain-least : (n r : ℕ) → Least (gainOf n r) (gainBits n r)
 gain-least n r = record { reaches = bits-reach (gainOf n r) (omega arith); least = bits-least (gainOf n r) }

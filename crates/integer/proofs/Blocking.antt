@@ -1,20 +1,20 @@
 -- A turn of the block's loop is many steps of a feed: the samples that complete no sum are taken at once, and the one that completes it writes a sum.
-use mathlib.Core.Path.{_≡_, refl, sym, ap, ap₂, _∙_, subst, subst⁻¹}
-use mathlib.Core.Bool.{Bool, true, false, cond}
-use mathlib.Core.List.{List, [], _∷_, _++_}
-use mathlib.Core.Option.{Option, none, some}
-use Prim.Native.Nat.{ℕ, zero, suc, _+_, _-_, _<_, _≤_}
+use mathlib.Core.Path.{_≡_, refl, sym, ap, _∙_, subst, subst⁻¹}
+use mathlib.Core.Bool.{Bool, true, false}
+use mathlib.Core.List.{List, [], _∷_}
+use mathlib.Core.Option.{none, some}
+use Prim.Native.Nat.{ℕ, suc, _+_, _-_, _<_, _≤_}
 use native.Mathlib.Nat.{add-zero}
 use native.Mathlib.Omega.{arith}
 use borrow.Author.Tests.{lt-ltb, le-ltb}
 use lib.Dec.{ltb}
 use lib.IntN.{ℤ, pos}
 use lib.ListN.{length, take, drop, getD, set, length-drop, drop-of-length-le}
-use lib.Seq.{take-suc, length-take-le, drop-cons, getD-drop}
-use Rattle.theory.specs.Feeds.{Event, took, wrote, both, stopped, Stepped, Fed, headOf, step, feed}
+use lib.Seq.{length-take-le, drop-cons}
+use Rattle.theory.specs.Feeds.{both, stopped, headOf, step, feed}
 use Rattle.theory.proofs.Machines.{Lawful, lawful-alone}
-use Rattle.theory.proofs.FeedLoop.{Midway, start, Quiet, after-quiet, after-both, after-stopped, Ended}
-use Rattle.integer.specs.Stages.{Passed, integrated, combed, ran}
+use Rattle.theory.proofs.FeedLoop.{Midway, Quiet, after-quiet, after-both, after-stopped}
+use Rattle.integer.specs.Stages.{integrated, combed, ran}
 use Rattle.refusal.specs.Outcome.{Outcome, Moved}
 use Rattle.integer.specs.CicDecimator.{decimatorOf, valid, decimator, machine, fedBlock, block, blockSpan}
 use Rattle.integer.specs.declared.cic_decimator.CicDecimator.{CicDecimator}
@@ -26,11 +26,11 @@ Good d = valid d ≡ true
 pub law : Lawful machine 0 Good
 law = lawful-alone (pos 0) decimator 0 Good valid-kept
 
--- a run and one sample more
-pub ran-snoc : (n : ℕ) (s : List ℤ) (v : ℤ) (w : List ℤ) (x : ℤ) → ran n s v (w ++ (x ∷ [])) ≡ integrated n (ran n s v w .state) x
-unfolding ran
-ran-snoc n s v [] x = refl
-ran-snoc n s v (y ∷ w) x = ran-snoc n (integrated n s y .state) (integrated n s y .val) w x
+-- what holds between two steps goes by no proof of the law
+pub whichever : {d₀ : CicDecimator} {xs out₀ out : List ℤ} {d : CicDecimator} {t w : ℕ} (other : Lawful machine 0 Good)
+    → Midway machine 0 Good law d₀ xs out₀ out d t w → Midway machine 0 Good other d₀ xs out₀ out d t w
+whichever other m =
+    record { some-taken = m .some-taken; some-written = m .some-written; same = m .same; good = m .good; rest = m .rest; ahead = m .ahead }
 
 module _ (N r : ℕ) (combs : List ℤ) where
   -- the decimator after the samples w, which complete no sum
@@ -75,54 +75,19 @@ module _ (N r : ℕ) (combs : List ℤ) where
         (subst (λ (k : ℕ). Quiet machine (take m (drop t xs)) (decimatorOf N r s combs j) (decimatorOf N r (ran N s (pos 0) (take m (drop t xs)) .state) combs (j + k))) n
         (quiet (take m (drop t xs)) s (pos 0) j q))
 
-    -- m samples of which the last completes a sum
-    pub after-summing : (m : ℕ) → j + m ≡ r → 0 < m → t + m ≤ length xs →
-        let p = ran N s (pos 0) (take m (drop t xs)) in
-        Midway machine 0 Good law d₀ xs out₀ (set out w (combed N combs (p .val) .val)) (decimatorOf N r (p .state) (combed N combs (p .val) .state) 0) (t + m) (w + 1)
-    after-summing zero h z l = absurd (omega arith)
-    after-summing (suc k) h z l =
-        subst (λ (n : ℕ). Midway machine 0 Good law d₀ xs out₀ (set out w (made q)) (after q) n (w + 1)) e
-        (subst (λ (v : Passed ℤ). Midway machine 0 Good law d₀ xs out₀ (set out w (made v)) (after v) (t + k + 1) (w + 1)) (sym run)
-        (after-both machine 0 Good law d₀ xs out₀ out (decimatorOf N r (p .state) combs (j + k)) (t + k) w before
-        (record { event = both (made (integrated N (p .state) x)); line = after (integrated N (p .state) x) }) stepped
-        (made (integrated N (p .state) x)) refl .2))
-      where
-        p : Passed ℤ
-        p = ran N s (pos 0) (take k (drop t xs))
-
-        x : ℤ
-        x = getD xs (t + k) (pos 0)
-
-        q : Passed ℤ
-        q = ran N s (pos 0) (take (suc k) (drop t xs))
-
-        made : Passed ℤ → ℤ
-        made v = combed N combs (v .val) .val
-
-        after : Passed ℤ → CicDecimator
-        after v = decimatorOf N r (v .state) (combed N combs (v .val) .state) 0
-
-        e : t + k + 1 ≡ t + suc k
-        e = omega arith
-
-        run : q ≡ integrated N (p .state) x
-        run =
-            ap (ran N s (pos 0)) (take-suc (drop t xs) k (pos 0) (omega (arith, length-drop t xs)))
-            ∙ ran-snoc N s (pos 0) (take k (drop t xs)) (getD (drop t xs) k (pos 0))
-            ∙ ap (integrated N (p .state)) (getD-drop t xs k (pos 0))
-
-        before : Midway machine 0 Good law d₀ xs out₀ out (decimatorOf N r (p .state) combs (j + k)) (t + k) w
-        before = after-counting k (omega arith) (omega arith)
-
-        c : (decimator .out (decimatorOf N r (p .state) combs (j + k)) x ≡ some (made (integrated N (p .state) x)))
-            × (decimator .next (decimatorOf N r (p .state) combs (j + k)) x ≡ after (integrated N (p .state) x))
-        c = completing (p .state) (j + k) x (omega arith)
-
-        stepped : record { event = both (made (integrated N (p .state) x)); line = after (integrated N (p .state) x) } ≡ step machine (ltb w (length out)) (decimatorOf N r (p .state) combs (j + k)) (headOf (drop (t + k) xs))
-        stepped =
-            let there : ltb w (length out) ≡ true = lt-ltb w (length out) (let g = mid .same in omega arith) in
-            let more : t + k < length xs = omega arith in
-            rw (there, drop-cons xs (t + k) (pos 0) more, c .0, c .1)
+    -- a sample that completes a sum
+    pub after-summing : j + 1 ≡ r → t < length xs →
+        let p = integrated N s (getD xs t (pos 0)) in
+        let q = combed N combs (p .val) in
+        Midway machine 0 Good law d₀ xs out₀ (set out w (q .val)) (decimatorOf N r (p .state) (q .state) 0) (t + 1) (w + 1)
+    after-summing h l =
+        let p = integrated N s (getD xs t (pos 0)) in
+        let q = combed N combs (p .val) in
+        let c = completing s j (getD xs t (pos 0)) h in
+        let there : ltb w (length out) ≡ true = lt-ltb w (length out) (let g = mid .same in omega arith) in
+        after-both machine 0 Good law d₀ xs out₀ out (decimatorOf N r s combs j) t w mid
+        (record { event = both (q .val); line = decimatorOf N r (p .state) (q .state) 0 })
+        (rw (there, drop-cons xs t (pos 0) l, c .0, c .1)) (q .val) refl .2
 
 -- where the loop stops, its locals are the block's answer and span
 module _ (d₀ : CicDecimator) (valid₀ : valid d₀ ≡ true) (xs out₀ out : List ℤ) (d : CicDecimator) (t w : ℕ) (mid : Midway machine 0 Good law d₀ xs out₀ out d t w) where

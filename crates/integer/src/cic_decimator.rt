@@ -1,8 +1,11 @@
 // 01, section 1: the cascaded integrator-comb decimator.
 ghost use mathlib.Core.Path.{_≡_};
-ghost use Prim.Native.Nat.{_+_, _≤_, min};
+ghost use mathlib.Core.Bool.{true};
+ghost use Prim.Native.Nat.{_+_, _-_, _*_, _^_, _≤_, _<_};
 ghost use lib.Dec.{ltb};
 ghost use lib.ListN.{length};
+ghost use Rattle.theory.proofs.Machines.{Lawful};
+ghost use Rattle.theory.proofs.FeedLoop.{Midway};
 ghost use Rattle.refusal.specs.Table.{numberOf};
 ghost use Rattle.refusal.specs.Outcome.{openingNumber};
 ghost use Rattle.integer.specs.Opening.{opening, onState};
@@ -15,10 +18,12 @@ use crate::gain::gain_of;
 use crate::gain::scaled;
 use crate::limits::MAX_STAGES;
 use crate::limits::factor_ok;
+use crate::limits::least;
 use crate::limits::stages_ok;
 use crate::stages::comb;
 use crate::stages::integrate;
 use crate::stages::run;
+use crate::stages::run_on;
 use refusal::Counts;
 use refusal::Opening;
 use refusal::Refusal;
@@ -55,6 +60,12 @@ pub struct CicStep {
 pub struct CicBlock {
     pub counts: Counts,
     pub state: CicDecimator,
+}
+
+// What a block gave where the arrays are lent: the counts, and the next counter.
+pub struct CicMoved {
+    pub counts: Counts,
+    pub sample_counter: usize,
 }
 
 // What a sample gives a state that is known to be valid.
@@ -155,12 +166,6 @@ fn scaled_output_of(sum: CicSum, bits: u32) -> CicOutput
     }
 }
 
-fn least(a: usize, b: usize) -> usize
-    ensures { λ m. ⌜ m ≡ min a b ⌝ }
-{
-    if a < b { a } else { b }
-}
-
 fn assembled(
     stages: usize,
     r: usize,
@@ -176,6 +181,134 @@ fn assembled(
         integrator_state: integrators,
         comb_state: combs,
         sample_counter,
+    }
+}
+
+// So many sums into the front of dst, from the samples that they take. The stages are held in locals, and the sample that completes a sum stands apart: where r
+// is 1 there is no other.
+fn sums_of(
+    stages: usize,
+    r: usize,
+    sample_counter: usize,
+    integrators: &mut [i32; MAX_STAGES],
+    combs: &mut [i32; MAX_STAGES],
+    src: &[i32],
+    dst: &mut [i32],
+    count: usize,
+)
+    requires { ⌜ (D.validAt stages r «sample_counter» ≡ true) × (count ≤ length (now dst)) × (count * r ≤ length (now src) + «sample_counter») ⌝ }
+    ensures { λ _. ⌜ ((law : Lawful D.machine 0 (λ d. D.valid d ≡ true)) → Midway D.machine 0 (λ d. D.valid d ≡ true) law (D.decimatorOf stages r (now (integrators .entry)) (now (combs .entry)) «sample_counter») (now (src .entry)) (now (dst .entry)) (now (dst .exit)) (D.decimatorOf stages r (now (integrators .exit)) (now (combs .exit)) («sample_counter» + (count * r - «sample_counter») - count * r)) (count * r - «sample_counter») count) ⌝ }
+{
+    let mut held = *integrators;
+    let mut kept = *combs;
+    let mut taken = 0;
+    let mut last = r - sample_counter - 1;
+    let mut written = 0;
+    while written < count {
+        run_on(stages, &mut held, src, taken, last);
+        let val = integrate(stages, &mut held, src[last]);
+        dst[written] = comb(stages, &mut kept, val);
+        taken = last + 1;
+        last += r;
+        written += 1;
+    }
+    *integrators = held;
+    *combs = kept;
+}
+
+// The same, the number of stages a constant in each arm, so that the compiler unrolls the stages and holds them in registers.
+fn sums(
+    stages: usize,
+    r: usize,
+    sample_counter: usize,
+    integrators: &mut [i32; MAX_STAGES],
+    combs: &mut [i32; MAX_STAGES],
+    src: &[i32],
+    dst: &mut [i32],
+    count: usize,
+)
+    requires { ⌜ (D.validAt stages r «sample_counter» ≡ true) × (count ≤ length (now dst)) × (count * r ≤ length (now src) + «sample_counter») ⌝ }
+    ensures { λ _. ⌜ ((law : Lawful D.machine 0 (λ d. D.valid d ≡ true)) → Midway D.machine 0 (λ d. D.valid d ≡ true) law (D.decimatorOf stages r (now (integrators .entry)) (now (combs .entry)) «sample_counter») (now (src .entry)) (now (dst .entry)) (now (dst .exit)) (D.decimatorOf stages r (now (integrators .exit)) (now (combs .exit)) («sample_counter» + (count * r - «sample_counter») - count * r)) (count * r - «sample_counter») count) ⌝ }
+{
+    match stages {
+        1 => sums_of(1, r, sample_counter, integrators, combs, src, dst, count),
+        2 => sums_of(2, r, sample_counter, integrators, combs, src, dst, count),
+        3 => sums_of(3, r, sample_counter, integrators, combs, src, dst, count),
+        4 => sums_of(4, r, sample_counter, integrators, combs, src, dst, count),
+        5 => sums_of(5, r, sample_counter, integrators, combs, src, dst, count),
+        6 => sums_of(6, r, sample_counter, integrators, combs, src, dst, count),
+        7 => sums_of(7, r, sample_counter, integrators, combs, src, dst, count),
+        8 => sums_of(8, r, sample_counter, integrators, combs, src, dst, count),
+        _ => sums_of(
+            stages,
+            r,
+            sample_counter,
+            integrators,
+            combs,
+            src,
+            dst,
+            count,
+        ),
+    }
+}
+
+// How many samples so many sums take.
+fn samples_of(count: usize, r: usize, sample_counter: usize) -> usize
+    requires { ⌜ count * r < 2 ^ 64 ⌝ }
+    ensures { λ n. ⌜ n ≡ count * r - «sample_counter» ⌝ }
+{
+    let all = count * r;
+    if all < sample_counter {
+        return 0;
+    }
+    all - sample_counter
+}
+
+// A block, the numbers by value and the arrays lent.
+pub fn block_at(
+    stages: usize,
+    r: usize,
+    sample_counter: usize,
+    integrators: &mut [i32; MAX_STAGES],
+    combs: &mut [i32; MAX_STAGES],
+    src: &[i32],
+    dst: &mut [i32],
+) -> CicMoved
+    ensures answer { λ m. ⌜ D.toldBlock (record { counts = m .counts; state = D.decimatorOf stages r (now (integrators .exit)) (now (combs .exit)) (m .«sample_counter») }) ≡ D.block (D.decimatorOf stages r (now (integrators .entry)) (now (combs .entry)) «sample_counter») (now (src .entry)) (length (now (dst .entry))) ⌝ }
+    ensures span { λ _. ⌜ now (dst .exit) ≡ D.blockSpan (D.decimatorOf stages r (now (integrators .entry)) (now (combs .entry)) «sample_counter») (now (src .entry)) (now (dst .entry)) ⌝ }
+{
+    if !valid(stages, r, sample_counter) {
+        return CicMoved {
+            counts: Counts::Refused(Refusal::State),
+            sample_counter,
+        };
+    }
+    let written = least(dst.len(), (src.len() + sample_counter) / r);
+    sums(
+        stages,
+        r,
+        sample_counter,
+        integrators,
+        combs,
+        src,
+        dst,
+        written,
+    );
+    let taken = samples_of(written, r, sample_counter);
+    let left = sample_counter + taken - written * r;
+    if written < dst.len() {
+        run(stages, integrators, src, taken, src.len());
+        return CicMoved {
+            counts: Counts::Moved {
+                taken: src.len(),
+                written,
+            },
+            sample_counter: left + (src.len() - taken),
+        };
+    }
+    CicMoved {
+        counts: Counts::Moved { taken, written },
+        sample_counter: left,
     }
 }
 
@@ -283,44 +416,30 @@ impl CicDecimator {
         }
     }
 
-    // Samples of src become sums in dst while dst has a place. It takes up to r samples at once.
+    // Samples of src become sums in dst while dst has a place.
     pub fn process_block(self, src: &[i32], dst: &mut [i32]) -> CicBlock
         ensures answer { λ b. ⌜ D.toldBlock b ≡ D.block self (now (src .entry)) (length (now (dst .entry))) ⌝ }
         ensures span { λ b. ⌜ now (dst .exit) ≡ D.blockSpan self (now (src .entry)) (now (dst .entry)) ⌝ }
     {
-        let stages = self.stages;
-        let r = self.r;
-        let mut counter = self.sample_counter;
-        if !valid(stages, r, counter) {
-            return CicBlock {
-                counts: Counts::Refused(Refusal::State),
-                state: self,
-            };
-        }
         let mut integrators = self.integrator_state;
         let mut combs = self.comb_state;
-        let mut taken = 0;
-        let mut written = 0;
-        while written < dst.len() {
-            let m = least(r - counter, src.len() - taken);
-            let val = run(stages, &mut integrators, src, taken, taken + m);
-            taken += m;
-            counter += m;
-            if counter < r {
-                let state = assembled(stages, r, integrators, combs, counter);
-                return CicBlock {
-                    counts: Counts::Moved { taken, written },
-                    state,
-                };
-            }
-            counter = 0;
-            dst[written] = comb(stages, &mut combs, val);
-            written += 1;
-        }
-        let state = assembled(stages, r, integrators, combs, counter);
-        CicBlock {
-            counts: Counts::Moved { taken, written },
-            state,
-        }
+        let moved = block_at(
+            self.stages,
+            self.r,
+            self.sample_counter,
+            &mut integrators,
+            &mut combs,
+            src,
+            dst,
+        );
+        let counts = moved.counts;
+        let state = assembled(
+            self.stages,
+            self.r,
+            integrators,
+            combs,
+            moved.sample_counter,
+        );
+        CicBlock { counts, state }
     }
 }

@@ -20,6 +20,10 @@ pub enum GainBits {
 fn saturating_mul_u64(a: u64, b: u64) -> u64
     ensures { λ p. ⌜ p ≡ held (a * b) ⌝ }
 {
+    // No division where the factors are small, as in every line that opens.
+    if a < 4294967296 && b < 4294967296 {
+        return a * b;
+    }
     if b == 0 {
         return 0;
     }
@@ -43,19 +47,14 @@ pub fn gain_of(n: usize, r: usize) -> u64
     g
 }
 
-// The least b with 2^b no less than g.
+// The least b with 2^b no less than g: the length of g - 1 in bits.
 pub fn bits_of(g: u64) -> u32
     ensures { λ b. ⌜ b ≡ bitsOf g ⌝ }
 {
-    let mut b: u32 = 0;
-    while b < 64 {
-        let p = 1u64 << b;
-        if g <= p {
-            return b;
-        }
-        b += 1;
+    if g == 0 {
+        return 0;
     }
-    64
+    64 - u64::leading_zeros(g - 1)
 }
 
 // floor(y / 2^bits).

@@ -1,5 +1,6 @@
 // 01, section 1: "Stages N 1 to 8, factor r 1 to 4,096".
 ghost use mathlib.Core.Path.{_≡_};
+ghost use Prim.Native.Nat.{min};
 ghost use Rattle.integer.specs.Limits.{stagesOk, factorOk, oneTo};
 
 pub const MAX_STAGES: usize = 8;
@@ -25,4 +26,10 @@ pub fn factor_ok(r: usize) -> bool
     ensures { λ b. ⌜ b ≡ factorOk r ⌝ }
 {
     one_to(MAX_FACTOR, r)
+}
+
+pub(crate) fn least(a: usize, b: usize) -> usize
+    ensures { λ m. ⌜ m ≡ min a b ⌝ }
+{
+    if a < b { a } else { b }
 }

@@ -1,10 +1,11 @@
 // Integrators and combs in a row, over lent arrays: the leaves of both CIC converters.
 ghost use mathlib.Core.Path.{_≡_};
-ghost use Prim.Native.Nat.{_-_};
+ghost use Prim.Native.Nat.{_-_, _≤_};
 ghost use lib.IntN.{pos};
 ghost use lib.ListN.{length, take, drop};
 ghost use Rattle.integer.specs.Stages.{integrated, combed, ran};
 use crate::limits::MAX_STAGES;
+use crate::limits::least;
 use crate::wrapping::wrapping_add_i32;
 use crate::wrapping::wrapping_sub_i32;
 
@@ -45,7 +46,27 @@ pub fn comb(stages: usize, combs: &mut [i32; MAX_STAGES], input: i32) -> i32
     val
 }
 
-// The samples from..to go through the integrators, which are held in a local; the last one's value comes back, 0 where there is none.
+// The samples from..to go through the integrators; the last one's value comes back, 0 where there is none.
+pub(crate) fn run_on(
+    stages: usize,
+    integrators: &mut [i32; MAX_STAGES],
+    samples: &[i32],
+    from: usize,
+    to: usize,
+) -> i32
+    requires { ⌜ to ≤ length (now samples) ⌝ }
+    ensures { λ r. ⌜ (now (integrators .exit) ≡ ran stages (now (integrators .entry)) (pos 0) (take (to - from) (drop from (now (samples .entry)))) .state) × (r ≡ ran stages (now (integrators .entry)) (pos 0) (take (to - from) (drop from (now (samples .entry)))) .val) ⌝ }
+{
+    let mut val = 0;
+    let mut i = from;
+    while i < to {
+        val = integrate(stages, integrators, samples[i]);
+        i += 1;
+    }
+    val
+}
+
+// As many of them as there are, the integrators held in a local.
 fn run_of(
     stages: usize,
     integrators: &mut [i32; MAX_STAGES],
@@ -56,12 +77,8 @@ fn run_of(
     ensures { λ r. ⌜ (now (integrators .exit) ≡ ran stages (now (integrators .entry)) (pos 0) (take (to - from) (drop from (now (samples .entry)))) .state) × (r ≡ ran stages (now (integrators .entry)) (pos 0) (take (to - from) (drop from (now (samples .entry)))) .val) ⌝ }
 {
     let mut held = *integrators;
-    let mut val = 0;
-    let mut i = from;
-    while i < samples.len() && i < to {
-        val = integrate(stages, &mut held, samples[i]);
-        i += 1;
-    }
+    let end = least(to, samples.len());
+    let val = run_on(stages, &mut held, samples, from, end);
     *integrators = held;
     val
 }
@@ -84,6 +101,7 @@ pub fn run(
         5 => run_of(5, integrators, samples, from, to),
         6 => run_of(6, integrators, samples, from, to),
         7 => run_of(7, integrators, samples, from, to),
+        8 => run_of(8, integrators, samples, from, to),
         _ => run_of(stages, integrators, samples, from, to),
     }
 }

@@ -36,6 +36,9 @@ run-of-requires-7 c κs = search needs
 run-of-requires-8 : tie.Need-run-of-requires-8
 run-of-requires-8 c κs = search needs
 
+run-of-requires-9 : tie.Need-run-of-requires-9
+run-of-requires-9 c κs = search needs
+
 returns : tie.Need-returns
 returns c = rw (c .before .before .match .keys1) (read (record { sfits = c .run-of .ok }) (c .run-of .ensures))
 
@@ -58,7 +61,10 @@ returns-7 : tie.Need-returns-7
 returns-7 c = rw (c .before .before .match .keys7) (read (record { sfits = c .run-of7 .ok }) (c .run-of7 .ensures))
 
 returns-8 : tie.Need-returns-8
-returns-8 c = read (record { sfits = c .run-of8 .ok }) (c .run-of8 .ensures)
+returns-8 c = rw (c .before .before .match .keys8) (read (record { sfits = c .run-of8 .ok }) (c .run-of8 .ensures))
+
+returns-9 : tie.Need-returns-9
+returns-9 c = read (record { sfits = c .run-of9 .ok }) (c .run-of9 .ensures)
 
 pub run-spec : {M : Type 1} → statement M
 run-spec =
@@ -72,6 +78,7 @@ run-spec =
     run-of-requires-6
     run-of-requires-7
     run-of-requires-8
+    run-of-requires-9
     returns
     returns-2
     returns-3
@@ -79,4 +86,5 @@ run-spec =
     returns-5
     returns-6
     returns-7
-    returns-8)
+    returns-8
+    returns-9)
