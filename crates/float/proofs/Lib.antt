@@ -1,5 +1,5 @@
 pub mod Flags
-pub mod Saturate
+pub mod WholePart
 pub mod PolyphaseOutput
 pub mod DelayLine
 pub mod Packing
