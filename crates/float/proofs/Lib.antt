@@ -1,7 +1,9 @@
 pub mod Flags
-pub mod Saturate
+pub mod WholePart
+pub mod Place
 pub mod PolyphaseOutput
 pub mod DelayLine
+pub mod Tape
 pub mod Packing
 pub mod PolyphaseRange
 pub mod PolyphaseWhole

@@ -12,7 +12,7 @@ use lib.Seq.{take-append-seam, drop-nil}
 use lib.Ieee.{Float, binary32, sub}
 use Rattle.theory.specs.Feeds.{Fed, feed}
 use Rattle.theory.specs.Runs.{Runs}
-use Rattle.theory.proofs.FeedRules.{feed-keeps, feed-short, feed-conserves}
+use Rattle.theory.proofs.FeedRules.{Between, Ended, feed-keeps, feed-short, feed-conserves}
 use Rattle.refusal.specs.Outcome.{Outcome, Opened}
 use Rattle.float.specs.F32.{one32, aboveZero}
 use Rattle.float.specs.PolyphaseResamp.{inLimits, valid, consumed, resampler, fresh, refusedOpening, opening, ownTaps, reset, Counts, laid, together, RanTo, shiftedIn, block, blockOutcome, blockSpan, push, pushOutcome, pushSpan}
@@ -85,6 +85,14 @@ fed-valid s xs n v = feed-keeps resampler (λ t. valid t ≡ true) (λ t g d. va
 
 fed-conserves : (s : PolyphaseResampF32) (xs : List Float) (n : ℕ) (written : List Float) → written ≡ feed resampler s xs n .written → Conserves s xs written (feed resampler s xs n .taken) (feed resampler s xs n .line)
 fed-conserves s xs n written e = let c = feed-conserves resampler s xs n in rw e (record { onward = c .onward; only = c .only })
+
+-- a loop over the machine that has ended is a run
+pub finished :
+    (P T : ℕ) (step mu : Float) (h d₀ xs o₀ : List Float) (r : Ran) (d o : List Float)
+    (mid : Between resampler (together P T mu step d₀ h) xs o₀ o (together P T (r .mu) step d h) (r .taken) (r .written))
+    → Ended resampler _ _ _ _ _ _ _ mid → RanTo P T step mu h d₀ xs o₀ r d o
+finished P T step mu h d₀ xs o₀ r d o mid e =
+    record { state = rw (e .is-fed); taken = rw (e .is-fed); written = rw (e .is-fed) (sym (e .count)); span = rw (e .is-fed) (e .span) }
 
 -- where two counts leave the same samples
 left-alike : {s t : PolyphaseResampF32} {xs w : List Float} {n k : ℕ} → drop n xs ≡ drop k xs → Conserves s xs w n t → Conserves s xs w k t

@@ -1,16 +1,17 @@
 -- The resampler's output from its parts: what the limits of P and T say, that each index lies in the prototype and each phase is a float exactly.
-use mathlib.Core.Path.{_≡_, ap, _∙_}
+use mathlib.Core.Path.{_≡_, refl, ap, ap₂, _∙_}
 use mathlib.Core.List.{List}
 use mathlib.Core.Bool.{true}
-use Prim.Native.Nat.{ℕ, _+_, _*_, _%_, _≤_, _<_}
-use native.Mathlib.Nat.{le-trans, le-antisymm, mul-le-mul-right}
+use Prim.Native.Nat.{ℕ, zero, suc, _+_, _*_, _%_, _≤_, _<_}
+use native.Mathlib.Nat.{le-trans, le-antisymm, mul-le-mul-right, mod-lt}
 use native.Mathlib.Omega.{arith}
 use borrow.Author.Tests.{leb-true}
 use lib.Dec.{T, leb, leb→le, le→leb, lit≤}
 use lib.IntN.{pos}
-use lib.Ieee.{Float, binary32, ofInt, toUnsigned, inFloat, sub, mul}
+use lib.ListN.{getD}
+use lib.Ieee.{Float, nan, binary32, ofInt, inFloat, sub, mul}
 use Rattle.float.specs.F32.{one32, blend}
-use Rattle.float.specs.PolyphaseOutput.{cutUnit, place, phase0, phase1, fraction, phaseSum, output}
+use Rattle.float.specs.PolyphaseOutput.{tap, cutUnit, place, phase0, phase1, fraction, phaseSum, output}
 use Rattle.float.specs.PolyphaseResamp.{within, inLimits}
 use Rattle.float.proofs.Flags.{both-true}
 
@@ -51,9 +52,26 @@ last-tap h d P p T t y a b e = e ∙ ap (λ (x : ℕ). phaseSum h d P p x) (le-a
 
 -- the result, from what its parts ensure
 pub whole :
-    (P T : ℕ) (mu : Float) (d h : List Float) (cut : Float) (floor p0 p1 : ℕ) (y0 y1 : Float)
-    → cut ≡ cutUnit mu → floor ≡ toUnsigned 64 (mul binary32 (sub binary32 one32 cut) (ofInt binary32 (pos P))) → p0 ≡ floor % P → p1 ≡ (p0 + 1) % P
-    → y0 ≡ phaseSum h d P p0 T → y1 ≡ phaseSum h d P p1 T
-    → blend y0 y1 (sub binary32 (mul binary32 (sub binary32 one32 cut) (ofInt binary32 (pos P))) (ofInt binary32 (pos p0))) ≡ output P T mu d h
-unfolding output place phase0 phase1 fraction
-whole P T mu d h cut floor p0 p1 y0 y1 c k a b e f = rw (e, f, b, a, k, c)
+    (P T : ℕ) (mu : Float) (d h : List Float) (cut : Float) (p0 p1 : ℕ) (r : Float)
+    → cut ≡ cutUnit mu → p0 ≡ phase0 P (mul binary32 (sub binary32 one32 cut) (ofInt binary32 (pos P))) → p1 ≡ (p0 + 1) % P
+    → r ≡ blend (phaseSum h d P p0 T) (phaseSum h d P p1 T) (sub binary32 (mul binary32 (sub binary32 one32 cut) (ofInt binary32 (pos P))) (ofInt binary32 (pos p0)))
+    → r ≡ output P T mu d h
+unfolding output place phase1 fraction
+whole P T mu d h cut p0 p1 r c a b e = e ∙ rw (b, a, c)
+
+-- outputs of prototypes and delays that are alike as far as they are read
+module _
+    (P T : ℕ) (h k d e : List Float) (some : 0 < P)
+    (taps : (p t : ℕ) → p < P → t < T → tap h P p t ≡ tap k P p t) (delays : (t : ℕ) → t < T → getD d t nan ≡ getD e t nan)
+  where
+    sums-alike : (p : ℕ) → p < P → (t : ℕ) → t ≤ T → phaseSum h d P p t ≡ phaseSum k e P p t
+    unfolding phaseSum
+    sums-alike p b zero a = refl
+    sums-alike p b (suc t) a = rw (sums-alike p b t (omega arith), taps p t b a, delays t a)
+
+    pub outputs-alike : (mu : Float) → output P T mu d h ≡ output P T mu e k
+    unfolding output phase0 phase1
+    outputs-alike mu =
+        let q : Float = place P mu in
+        let p0 : ℕ = phase0 P q in
+        ap₂ {C = Float} (λ a b. blend a b (fraction q p0)) (sums-alike p0 (mod-lt _ some) T (omega arith)) (sums-alike (phase1 P p0) (mod-lt _ some) T (omega arith))

@@ -4,7 +4,7 @@ use mathlib.Core.Path.{_≡_, refl, sym, ap, ap₂, _∙_, subst, subst⁻¹}
 use mathlib.Core.Bool.{true}
 use mathlib.Core.List.{List, [], _∷_, _++_, append-assoc}
 use Prim.Native.Nat.{ℕ, zero, suc, _+_, _-_, _*_, _≤_, _<_}
-use native.Mathlib.Nat.{mod-lt, mul-le-mul-right, mul-le-mul, suc-mul, mul-comm}
+use native.Mathlib.Nat.{mul-le-mul-right, mul-le-mul, suc-mul, mul-comm}
 use native.Mathlib.Omega.{arith}
 use borrow.Author.Tests.{le-leb, ne-eqb}
 use lib.ListN.{length, getD, take, replicate, List·getD-append}
@@ -16,12 +16,12 @@ use Rattle.theory.proofs.Listed.{length-listed}
 use Rattle.theory.proofs.Machines.{Lawful, Seen, all, all-seen, all-off}
 use Rattle.theory.proofs.Runs.{all-runs}
 use Rattle.theory.proofs.RunsSeen.{runs-unique, runs-seen, runs-unseen, lawful-seen}
-use Rattle.float.specs.F32.{zero32, one32, blend}
-use Rattle.float.specs.PolyphaseOutput.{tap, phase0, phase1, place, fraction, phaseSum, output}
+use Rattle.float.specs.F32.{zero32, one32}
+use Rattle.float.specs.PolyphaseOutput.{tap, output}
 use Rattle.float.specs.PolyphaseResamp.{inLimits, shiftedIn, consumed, outputOf, passed, resampler, isOn, inLine, validInLine, stepInLine, packed, fresh}
 use Rattle.float.specs.PolyphaseWhole.{Progress, delays, wholeList, begin, Becomes}
 use Rattle.float.specs.declared.polyphase_resamp.PolyphaseResampF32.{PolyphaseResampF32}
-use Rattle.float.proofs.PolyphaseOutput.{Limits, limits-say}
+use Rattle.float.proofs.PolyphaseOutput.{Limits, limits-say, outputs-alike}
 use Rattle.float.proofs.PolyphaseRange.{line-lawful, line-fresh}
 
 -- ---- lists by index, from the front
@@ -66,26 +66,9 @@ module _ (P T : ℕ) (h : List Float) (lim : inLimits P T ≡ true) (long : leng
       ap (λ (l : List Float). getD (l ++ replicate (1024 - length h) zero32) (t * P + p) nan) (take-all 1024 h few-cells)
       ∙ List·getD-append h (replicate (1024 - length h) zero32) nan (t * P + p) (cell-lent t p a b)
 
-  module _ (d z : List Float) (whole : length d ≡ T) where
-    sum-same : (p : ℕ) → p < P → (t : ℕ) → t ≤ T → phaseSum (packed h) (d ++ z) P p t ≡ phaseSum h d P p t
-    unfolding phaseSum
-    sum-same p b zero a = refl
-    sum-same p b (suc t) a =
-        rw (sum-same p b t (omega arith), tap-same t p a b, List·getD-append d z nan t (omega arith))
-
-    output-same : (mu : Float) → output P T mu (d ++ z) (packed h) ≡ output P T mu d h
-    unfolding output
-    output-same mu =
-        let q : Float = place P mu in
-        let p0 : ℕ = phase0 P q in
-        let some : 0 < P = let g = limits .some-phases in omega arith in
-        ap₂ {C = Float} (λ a b. blend a b (fraction q p0)) (sum-same p0 (below0 q some) T (omega arith)) (sum-same (phase1 P p0) (below1 p0 some) T (omega arith))
-      where
-        below0 : (q : Float) → 0 < P → phase0 P q < P
-        below0 q g = unfold phase0 in mod-lt _ g
-
-        below1 : (p0 : ℕ) → 0 < P → phase1 P p0 < P
-        below1 p0 g = unfold phase1 in mod-lt _ g
+  output-same : (d z : List Float) → length d ≡ T → (mu : Float) → output P T mu (d ++ z) (packed h) ≡ output P T mu d h
+  output-same d z whole =
+      outputs-alike P T (packed h) h (d ++ z) d (let g = limits .some-phases in omega arith) (λ p t b a. tap-same t p a b) (λ t a. List·getD-append d z nan t (omega arith))
 
   -- ---- mu and the values consumed so far, seen as a state
   module _ (step : Float) where

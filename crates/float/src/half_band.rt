@@ -1,12 +1,15 @@
 // What the half-band filters do to a window of the last samples, the newest at its end.
 ghost use mathlib.Core.Path.{_≡_};
 ghost use mathlib.Core.List.{[], _∷_, _++_};
-ghost use Prim.Native.Nat.{_≤_, _-_, _*_};
+ghost use Prim.Native.Nat.{_≤_, _+_, _-_, _*_};
 ghost use lib.Ieee.{binary32, add, mul};
 ghost use lib.ListN.{length, take, drop, replicate};
 ghost use Rattle.theory.specs.Sections.{state, outs};
 ghost use Rattle.float.specs.HalfBand.{zero32, flat};
 ghost use Rattle.float.specs.Windows.{slid, folded, decValue, intValue, pairs, decimator, interpolator};
+
+// Places for the longest window and for many samples more.
+const TAPE: usize = 192;
 
 // The window moves down by so many places; the last so many stay.
 fn move_down(window: &mut [f32], by: usize)
@@ -75,6 +78,16 @@ pub(crate) struct Both {
     pub odd: f32,
 }
 
+// The interpolator's outputs at a window.
+fn both_at(window: &[f32], taps: &[f32]) -> Both
+    requires { ⌜ (1 ≤ length (now taps)) × (length (now window) ≡ 2 * length (now taps)) ⌝ }
+    ensures { λ r. ⌜ (r .even, r .odd) ≡ intValue (now (taps .entry)) (now (window .entry)) ⌝ }
+{
+    let even = window[taps.len()];
+    let odd = folded_sum(window, taps, 1, 0.0);
+    Both { even, odd }
+}
+
 // The interpolator takes a sample in, and gives its outputs.
 pub(crate) fn take_sample(window: &mut [f32], taps: &[f32], x: f32) -> Both
     requires { ⌜ (1 ≤ length (now taps)) × (length (now window) ≡ 2 * length (now taps)) ⌝ }
@@ -83,9 +96,7 @@ pub(crate) fn take_sample(window: &mut [f32], taps: &[f32], x: f32) -> Both
     let n = window.len();
     move_down(window, 1);
     window[n - 1] = x;
-    let even = window[taps.len()];
-    let odd = folded_sum(window, taps, 1, 0.0);
-    Both { even, odd }
+    both_at(window, taps)
 }
 
 // The samples stand at the span's end.
@@ -101,27 +112,71 @@ pub(crate) fn put_at_end(span: &mut [f32], src: &[f32])
     }
 }
 
+// A tape with the window in front.
+fn on_tape(window: &[f32]) -> [f32; TAPE]
+    requires { ⌜ length (now window) ≤ 192 ⌝ }
+    ensures { λ r. ⌜ take (length (now (window .entry))) r ≡ now (window .entry) ⌝ }
+{
+    let long = window.len();
+    let mut tape = [0.0f32; TAPE];
+    put_at_end(&mut tape[..long], window);
+    tape
+}
+
+// The window from `at` on, put in front of its tape.
+fn wound_back(tape: [f32; TAPE], at: usize, long: usize) -> [f32; TAPE]
+    requires { ⌜ at + long ≤ 192 ⌝ }
+    ensures { λ r. ⌜ take long r ≡ take long (drop at tape) ⌝ }
+{
+    let past = at + long;
+    let mut front = tape;
+    put_at_end(&mut front[..long], &tape[at..past]);
+    front
+}
+
+// The window from `at` on takes a sample in; what it returns is where the window is now.
+fn put_on(tape: &mut [f32; TAPE], at: usize, long: usize, x: f32) -> usize
+    requires { ⌜ (length (now tape) ≡ 192) × (1 ≤ long) × (long ≤ 46) × (at + long ≤ 192) ⌝ }
+    ensures { λ r. ⌜ (length (now (tape .exit)) ≡ 192) × (r + long ≤ 192) × (take long (drop r (now (tape .exit))) ≡ slid (take long (drop at (now (tape .entry)))) (x ∷ [])) ⌝ }
+{
+    let end = at + long;
+    if end < TAPE {
+        tape[end] = x;
+        return at + 1;
+    }
+    let mut front = wound_back(*tape, at, long);
+    front[long] = x;
+    *tape = front;
+    1
+}
+
 // The last n samples of the span go through the interpolator, and their 2n outputs stand at its end. An output is never written over a sample that is
-// still to be read: output 2i + 1 stands n - 1 - i places before sample i.
+// still to be read: output 2i + 1 stands n - 1 - i places before sample i. The window moves along a tape, so that it is not moved for each sample.
 pub(crate) fn expand(window: &mut [f32], taps: &[f32], span: &mut [f32], n: usize)
-    requires { ⌜ (1 ≤ length (now taps)) × (length (now window) ≡ 2 * length (now taps)) × (2 * n ≤ length (now span)) ⌝ }
+    requires { ⌜ (1 ≤ length (now taps)) × (length (now taps) ≤ 23) × (length (now window) ≡ 2 * length (now taps)) × (2 * n ≤ length (now span)) ⌝ }
     ensures { λ _. ⌜ (now (window .exit) ≡ state (interpolator (now (taps .entry))) (now (window .entry)) (drop (length (now (span .entry)) - n) (now (span .entry)))) × (now (span .exit) ≡ take (length (now (span .entry)) - 2 * n) (now (span .entry)) ++ flat (outs (interpolator (now (taps .entry))) (now (window .entry)) (drop (length (now (span .entry)) - n) (now (span .entry))))) ⌝ }
 {
     let from = span.len() - n;
     let to = from - n;
+    let long = window.len();
+    let mut tape = on_tape(window);
+    let mut at = 0;
     let mut i = 0;
     while i < n {
-        let x = span[from + i];
-        let y = take_sample(window, taps, x);
+        at = put_on(&mut tape, at, long, span[from + i]);
+        let past = at + long;
+        let y = both_at(&tape[at..past], taps);
         span[to + 2 * i] = y.even;
         span[to + 2 * i + 1] = y.odd;
         i += 1;
     }
+    let past = at + long;
+    put_at_end(window, &tape[at..past]);
 }
 
 // The interpolator takes src in, and its outputs fill the span.
 pub(crate) fn interpolate(window: &mut [f32], taps: &[f32], src: &[f32], span: &mut [f32])
-    requires { ⌜ (1 ≤ length (now taps)) × (length (now window) ≡ 2 * length (now taps)) × (length (now span) ≡ 2 * length (now src)) ⌝ }
+    requires { ⌜ (1 ≤ length (now taps)) × (length (now taps) ≤ 23) × (length (now window) ≡ 2 * length (now taps)) × (length (now span) ≡ 2 * length (now src)) ⌝ }
     ensures { λ _. ⌜ (now (window .exit) ≡ state (interpolator (now (taps .entry))) (now (window .entry)) (now (src .entry))) × (now (span .exit) ≡ flat (outs (interpolator (now (taps .entry))) (now (window .entry)) (now (src .entry)))) ⌝ }
 {
     put_at_end(span, src);

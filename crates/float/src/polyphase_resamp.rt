@@ -1,14 +1,17 @@
 // 01, section 5: the polyphase resampler of f32 samples.
 ghost use mathlib.Core.Path.{_≡_};
-ghost use mathlib.Core.Bool.{true, cond};
-ghost use Prim.Native.Nat.{_%_, _<_};
-ghost use lib.ListN.{length};
-ghost use Rattle.float.specs.F32.{zero32, aboveZero};
-ghost use Rattle.float.specs.PolyphaseOutput.{cutUnit, output};
+ghost use mathlib.Core.Bool.{true, false, cond};
+ghost use mathlib.Core.List.{[], _∷_};
+ghost use Prim.Native.Nat.{_+_, _≤_, _<_};
+ghost use lib.ListN.{length, take, drop};
+ghost use lib.Ieee.{binary32, ofBits, le, toUnsigned};
+ghost use Rattle.float.specs.F32.{zero32, aboveZero, blend};
+ghost use Rattle.float.specs.PolyphaseOutput.{cutUnit, phase0, phaseSum, output};
 ghost use Rattle.float.specs.PolyphaseResamp as R;
 ghost use Rattle.float.specs.PolyphaseWhole as W;
 ghost use Rattle.refusal.specs.Table.{numberOf};
-use crate::cast::f32_to_usize_saturating;
+use crate::cast::whole_part;
+use crate::half_band::put_at_end;
 use refusal::Count;
 use refusal::Opening;
 use refusal::Refusal;
@@ -22,6 +25,10 @@ pub const LEAST_TAPS: usize = 1;
 pub const MOST_TAPS: usize = 16;
 
 pub const MOST_CELLS: usize = MOST_PHASES * MOST_TAPS;
+
+// A run writes the samples it consumes one before the other on a tape, so that the delay need not be moved for each; what is on it goes back to its end
+// where no place is left before it.
+const TAPE: usize = 64 + MOST_TAPS;
 
 // The largest f32: a step above it is not finite.
 const LARGEST: f32 = 3.40282347e38;
@@ -140,19 +147,61 @@ fn cut_unit(x: f32) -> f32
     x
 }
 
-// n modulo m, with no division where n is below 2m.
-fn reduced(n: usize, m: usize) -> usize
-    requires { ⌜ 0 < m ⌝ }
-    ensures { λ r. ⌜ r ≡ n % m ⌝ }
+// The first phase at the place q. Its whole part is at most P, so that no division is needed.
+fn phase_at(q: f32, phases: usize) -> usize
+    requires { ⌜ (1 ≤ phases) × (le (ofBits binary32 0x4b80_0000) q ≡ false) × (toUnsigned 64 q ≤ phases) ⌝ }
+    ensures { λ r. ⌜ r ≡ phase0 phases q ⌝ }
 {
-    if n < m {
-        return n;
+    let whole = whole_part(q);
+    if whole < phases {
+        return whole;
     }
-    let rest = n - m;
-    if rest < m {
-        return rest;
+    0
+}
+
+// The sums of phases p0 and p1 over the taps, f of the way from the one to the other.
+fn blended(
+    prototype: &[f32; MOST_CELLS],
+    delay: &[f32],
+    phases: usize,
+    taps: usize,
+    p0: usize,
+    p1: usize,
+    f: f32,
+) -> f32
+    requires { ⌜ (R.inLimits phases taps ≡ true) × (taps ≤ length (now delay)) × (p0 < phases) × (p1 < phases) ⌝ }
+    ensures { λ r. ⌜ r ≡ blend (phaseSum (now (prototype .entry)) (now (delay .entry)) phases p0 taps) (phaseSum (now (prototype .entry)) (now (delay .entry)) phases p1 taps) f ⌝ }
+{
+    let mut y0 = 0.0f32;
+    let mut y1 = 0.0f32;
+    let mut t = 0;
+    while t < taps {
+        let x = delay[t];
+        y0 = y0 + prototype[t * phases + p0] * x;
+        y1 = y1 + prototype[t * phases + p1] * x;
+        t += 1;
     }
-    rest % m
+    y0 * (1.0 - f) + y1 * f
+}
+
+// One output at mu. Two neighbouring phases, which all are but the last and the first, are read as pairs: so each has a call of its own.
+fn interpolate_within(
+    prototype: &[f32; MOST_CELLS],
+    delay: &[f32],
+    phases: usize,
+    taps: usize,
+    mu: f32,
+) -> f32
+    requires { ⌜ (R.inLimits phases taps ≡ true) × (taps ≤ length (now delay)) ⌝ }
+    ensures { λ r. ⌜ r ≡ output phases taps mu (now (delay .entry)) (now (prototype .entry)) ⌝ }
+{
+    let q = (1.0 - cut_unit(mu)) * (phases as f32);
+    let p0 = phase_at(q, phases);
+    let f = q - (p0 as f32);
+    if p0 + 1 < phases {
+        return blended(prototype, delay, phases, taps, p0, p0 + 1, f);
+    }
+    blended(prototype, delay, phases, taps, p0, 0, f)
 }
 
 // One output at mu, of the prototype and the delay that are lent. Where P or T is outside its limits, 0.0.
@@ -168,20 +217,8 @@ pub fn interpolate(
     if !in_limits(phases, taps) {
         return 0.0;
     }
-    let q = (1.0 - cut_unit(mu)) * (phases as f32);
-    let p0 = reduced(f32_to_usize_saturating(q), phases);
-    let p1 = reduced(p0 + 1, phases);
-    let f = q - (p0 as f32);
-    let mut y0 = 0.0f32;
-    let mut y1 = 0.0f32;
-    let mut t = 0;
-    while t < taps {
-        let x = delay[t];
-        y0 = y0 + prototype[t * phases + p0] * x;
-        y1 = y1 + prototype[t * phases + p1] * x;
-        t += 1;
-    }
-    y0 * (1.0 - f) + y1 * f
+    lent_whole(*delay);
+    interpolate_within(prototype, delay, phases, taps, mu)
 }
 
 // An array by value is known to be as long as its type says, and one that is lent is not: this call, which compiles to nothing, tells it.
@@ -207,6 +244,23 @@ pub fn shift_in(delay: &mut [f32; MOST_TAPS], taps: usize, x: f32)
     }
 }
 
+// The sample x goes in before the newest on the tape; what it returns is x's place.
+fn take_in(tape: &mut [f32; TAPE], newest: usize, taps: usize, x: f32) -> usize
+    requires { ⌜ (length (now tape) ≡ 80) × (1 ≤ taps) × (taps ≤ R.mostTaps) × (newest + taps ≤ 80) ⌝ }
+    ensures { λ r. ⌜ (length (now (tape .exit)) ≡ 80) × (r + taps ≤ 80) × (take taps (drop r (now (tape .exit))) ≡ take taps (x ∷ drop newest (now (tape .entry)))) ⌝ }
+{
+    if newest == 0 {
+        let held = *tape;
+        put_at_end(tape, &held[..taps]);
+        let before = TAPE - taps - 1;
+        tape[before] = x;
+        return before;
+    }
+    let before = newest - 1;
+    tape[before] = x;
+    before
+}
+
 // While dst has a place: an output that is due is written, else a sample is consumed, else the run stops.
 fn run(
     prototype: &[f32; MOST_CELLS],
@@ -218,29 +272,67 @@ fn run(
     src: &[f32],
     dst: &mut [f32],
 ) -> Ran
-    requires { ⌜ R.inLimits phases taps ≡ true ⌝ }
+    requires { ⌜ (R.inLimits phases taps ≡ true) × (length (now delay) ≡ R.mostTaps) ⌝ }
     ensures { λ r. ⌜ R.RanTo phases taps step mu (now (prototype .entry)) (now (delay .entry)) (now (src .entry)) (now (dst .entry)) r (now (delay .exit)) (now (dst .exit)) ⌝ }
 {
+    let mut held = *delay;
+    let mut tape = [0.0f32; TAPE];
+    put_at_end(&mut tape, &held[..taps]);
+    let mut newest = TAPE - taps;
     let mut at = mu;
     let mut taken = 0usize;
     let mut written = 0usize;
     while written < dst.len() {
         if at < 1.0 {
-            dst[written] = interpolate(prototype, delay, phases, taps, at);
+            dst[written] = interpolate_within(prototype, &tape[newest..], phases, taps, at);
             written += 1;
             at = at + step;
         } else {
             if src.len() <= taken {
                 break;
             }
-            shift_in(delay, taps, src[taken]);
+            newest = take_in(&mut tape, newest, taps, src[taken]);
             taken += 1;
             at = at - 1.0;
         }
     }
+    let past = newest + taps;
+    put_at_end(&mut held[..taps], &tape[newest..past]);
+    *delay = held;
     Ran {
         mu: at,
         taken,
+        written,
+    }
+}
+
+// What is due from mu on is written, as long as dst has a place.
+fn emit(
+    prototype: &[f32; MOST_CELLS],
+    delay: &[f32; MOST_TAPS],
+    phases: usize,
+    taps: usize,
+    step: f32,
+    mu: f32,
+    dst: &mut [f32],
+) -> Ran
+    requires { ⌜ R.inLimits phases taps ≡ true ⌝ }
+    ensures { λ r. ⌜ R.RanTo phases taps step mu (now (prototype .entry)) (now (delay .entry)) [] (now (dst .entry)) r (now (delay .entry)) (now (dst .exit)) ⌝ }
+{
+    let mut next = mu;
+    let mut written = 0usize;
+    while written < dst.len() {
+        if next < 1.0 {
+            dst[written] = interpolate(prototype, delay, phases, taps, next);
+            written += 1;
+            next = next + step;
+        } else {
+            break;
+        }
+    }
+    Ran {
+        mu: next,
+        taken: 0,
         written,
     }
 }
@@ -354,15 +446,13 @@ impl PolyphaseResampF32 {
         }
         let mut delay = self.delay;
         shift_in(&mut delay, self.taps, x);
-        let none = [0.0f32; 0];
-        let ran = run(
+        let ran = emit(
             &self.prototype,
-            &mut delay,
+            &delay,
             self.phases,
             self.taps,
             self.step,
             self.mu - 1.0,
-            &none,
             out,
         );
         self.mu = ran.mu;

@@ -18,7 +18,7 @@ abbrev begun : tie.After-put-at-end → tie.Start
 begun c = c .before .before .before .before .before .before
 
 placed : (c : tie.After-put-at-end) → length (c .put-at-end .last .0) ≡ 2 * length (now (begun c .args .src))
-placed c = ap length (c .put-at-end .ensures) ∙ long (now (begun c .args .span)) (now (begun c .args .src)) (begun c .pre .2)
+placed c = ap length (c .put-at-end .ensures) ∙ long (now (begun c .args .span)) (now (begun c .args .src)) (begun c .pre .3)
 
 put-at-end-requires : tie.Need-put-at-end-requires
 put-at-end-requires c κs = search needs
@@ -27,7 +27,7 @@ expand-requires : tie.Need-expand-requires
 expand-requires c κs = let k = c .before .before .before .before in
     let s = begun k in
     let e = placed k in
-    (s .pre .0, s .pre .1, omega arith)
+    (s .pre .0, s .pre .1, s .pre .2, omega arith)
 
 same-length : tie.Need-same-length
 same-length c = search needs
@@ -42,7 +42,7 @@ returns c = let k = c .before .before .before .before .before .before .before .b
     let t = k .put-at-end .last .0 in
     let o = c .before .before .before .before .expand in
     let i = interpolator (now (a .taps)) in
-    let e : drop (length t - n) t ≡ now (a .src) = ap (λ (l : List Float). drop (length l - n) l) (k .put-at-end .ensures) ∙ ends (now (a .span)) (now (a .src)) (begun k .pre .2) in
+    let e : drop (length t - n) t ≡ now (a .src) = ap (λ (l : List Float). drop (length l - n) l) (k .put-at-end .ensures) ∙ ends (now (a .span)) (now (a .src)) (begun k .pre .3) in
     let z : length t - 2 * n ≡ 0 = omega (arith, placed k) in (
       o .ensures .0 ∙ ap (state i (now (a .window))) e,
       o .ensures .1

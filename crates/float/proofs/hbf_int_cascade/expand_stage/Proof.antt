@@ -85,9 +85,10 @@ part-expand-end-2 c = placed (c .before .before .before .before) .inside
 expand-requires : tie.Need-expand-requires
 expand-requires c κs = let m = c .before .before .before .before .before .before in
     let l = int-stages .least (begun m .args .k) (begun m .pre .0) in
+    let h = int-stages .most (begun m .args .k) (begun m .pre .0) in
     let t = ap length (taps-of m) in
     let w = window-long m in
-    (omega arith, omega arith, begun m .pre .2)
+    (omega arith, omega arith, omega arith, begun m .pre .2)
 
 same-length : tie.Need-same-length
 same-length c = search needs

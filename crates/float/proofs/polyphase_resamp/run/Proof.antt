@@ -1,30 +1,80 @@
--- `run` meets its contract: the loop keeps `Between` of the state put together from its locals, and each turn is one of its laws.
-use mathlib.Core.Path.{_≡_, refl, sym}
-use mathlib.Core.List.{List}
-use Prim.Native.Nat.{ℕ, _+_, _-_}
+-- `run` meets its contract: the loop keeps `Between` of the state put together from its locals, whose delay is the one on the tape (`Tape`), and each turn
+-- is one of its laws.
+use mathlib.Core.Path.{_≡_, refl, sym, _∙_}
+use mathlib.Core.Logic.{inl, inr}
+use Prim.Native.Nat.{_+_, _-_, _≤_, _<_}
+use native.Mathlib.Omega.{arith}
 use borrow.Author.Needs.{needs}
 use denote.Ref.{now}
-use lib.ListN.{length}
-use lib.Ieee.{Float, nan}
+use lib.ListN.{length, take, drop, replicate, length-take, length-drop}
+use lib.Seq.{length-take-le}
+use lib.Ieee.{nan}
 use Rattle.theory.proofs.FeedRules.{Between, between-start, after-output, after-input, Ended, ended-full, ended-dry}
-use Rattle.float.specs.PolyphaseResamp.{consumed, outputOf, passed, resampler, together, RanTo}
-use Rattle.float.specs.declared.polyphase_resamp.Ran.{Ran}
+use Rattle.float.specs.F32.{zero32}
 use Rattle.float.specs.PolyphaseOutput.{output}
+use Rattle.float.specs.PolyphaseResamp.{consumed, outputOf, passed, resampler, together}
+use Rattle.float.proofs.PolyphaseCalls.{finished}
+use Rattle.float.proofs.PolyphaseOutput.{Limits, limits-say, outputs-alike}
+use Rattle.float.proofs.Tape.{wound, wound-start, wound-in, wound-at, wound-off}
 use Rattle.float.proofs.polyphase_resamp.run.Statement.{statement}
 use Rattle.float.proofs.polyphase_resamp.run.Tie as tie
 
 abbrev Inv-loop : tie.InvT-loop
-Inv-loop prototype delay₀ phases taps step mu src dst₀ at₀ taken₀ written₀ delay dst at taken written =
-    Between resampler (together phases taps mu step delay₀ prototype) src dst₀ dst (together phases taps at step delay prototype) taken written
+Inv-loop prototype delay phases taps step mu src dst₀ held tape₀ newest₀ at₀ taken₀ written₀ dst tape newest at taken written =
+    (Between resampler (together phases taps mu step delay prototype) src dst₀ dst (together phases taps at step (wound taps tape newest delay) prototype) taken written)
+    × (newest + taps ≤ 80) × (length tape ≡ 80)
 
 abbrev μ-loop : tie.MeasureT-loop
-μ-loop prototype delay₀ phases taps step mu src dst₀ at₀ taken₀ written₀ delay dst at taken written = length src - taken + (length dst₀ - written)
+μ-loop prototype delay phases taps step mu src dst₀ held tape₀ newest₀ at₀ taken₀ written₀ dst tape newest at taken written =
+    length src - taken + (length dst₀ - written)
+
+limits : (c : tie.Start Inv-loop μ-loop) → Limits (c .args .phases) (c .args .taps)
+limits c = limits-say _ _ (c .pre .0)
+
+-- the taps that are put on the tape are so many
+taps-long : (c : tie.Start Inv-loop μ-loop) → length (take (c .args .taps) (now (c .args .delay))) ≡ c .args .taps
+taps-long c = length-take-le _ _ (omega (arith, limits c .few-taps, c .pre .1))
+
+slice-aggregate-put-at-end : tie.Need-slice-aggregate-put-at-end Inv-loop μ-loop
+slice-aggregate-put-at-end c = search needs
+
+array-share-prefix-held : tie.Need-array-share-prefix-held Inv-loop μ-loop
+array-share-prefix-held c = let s = c .before .before .before .before in omega (arith, limits s .few-taps, s .pre .1)
+
+slice-aggregate-put-at-end-2 : tie.Need-slice-aggregate-put-at-end-2 Inv-loop μ-loop
+slice-aggregate-put-at-end-2 c = sym (taps-long (c .before .before .before .before .before))
+
+put-at-end-requires : tie.Need-put-at-end-requires Inv-loop μ-loop
+put-at-end-requires c κs = let s = c .before .before .before .before .before in omega (arith, taps-long s, limits s .few-taps)
+
+sub-newest : tie.Need-sub-newest Inv-loop μ-loop
+sub-newest c = let s = c .before .before .before .before .before .before .before in omega (arith, limits s .few-taps)
 
 loop-holds : tie.Need-loop-holds Inv-loop μ-loop
-loop-holds c = let a = c .before .before .args in between-start resampler (together (a .phases) (a .taps) (a .mu) (a .step) (now (a .delay)) (now (a .prototype))) (now (a .src)) (now (a .dst))
+loop-holds c =
+    let s = c .before .before .before .before .before .before .before in
+    let a = s .args in
+    let few = limits s .few-taps in
+    let start : wound (a .taps) (c .before .put-at-end .last .0) (80 - a .taps) (now (a .delay)) ≡ now (a .delay) =
+    rw (c .before .put-at-end .ensures, taps-long s) (wound-start (a .taps) (now (a .delay)) (replicate 80 zero32) (omega arith)) in
+    (rw start (between-start resampler (together (a .phases) (a .taps) (a .mu) (a .step) (now (a .delay)) (now (a .prototype))) (now (a .src)) (now (a .dst))), omega arith, c .before .put-at-end .kept .0)
 
-interpolate-requires : tie.Need-interpolate-requires Inv-loop μ-loop
-interpolate-requires c κs = search needs
+mul-interpolate-within : tie.Need-mul-interpolate-within Inv-loop μ-loop
+mul-interpolate-within c = search needs
+
+sub-interpolate-within : tie.Need-sub-interpolate-within Inv-loop μ-loop
+sub-interpolate-within c = search needs
+
+part-interpolate-within-start : tie.Need-part-interpolate-within-start Inv-loop μ-loop
+part-interpolate-within-start c = search needs
+
+part-interpolate-within-end : tie.Need-part-interpolate-within-end Inv-loop μ-loop
+part-interpolate-within-end c = search needs
+
+interpolate-within-requires : tie.Need-interpolate-within-requires Inv-loop μ-loop
+interpolate-within-requires c κs =
+    let i = c .before .before .before .before .loop .inv in
+    (c .before .before .before .before .before .before .before .before .before .before .before .before .pre .0, simp (length-take, length-drop) (omega (arith, i)))
 
 mul-dst : tie.Need-mul-dst Inv-loop μ-loop
 mul-dst c = search needs
@@ -41,19 +91,22 @@ loop-less c = search needs
 loop-again : tie.Need-loop-again Inv-loop μ-loop
 unfolding resampler outputOf passed
 loop-again c =
-    let l = c .before .before .before .before .loop in
-    let a = c .before .before .before .before .before .before .before .args in
-    let y : c .interpolate .result ≡ output (a .phases) (a .taps) (l .at) (l .delay) (now (a .prototype)) = rw (c .before .before .before .before .before .before .before .pre) at (c .interpolate .ensures) in
-    rw y (after-output resampler _ _ _ _ _ _ _ (l .inv) (c .before .before .if1 .taken) (c .before .before .before .loop-test .taken))
+    let l = c .before .before .before .before .before .loop in
+    let s = c .before .before .before .before .before .before .before .before .before .before .before .before .before in
+    let a = s .args in
+    let some : 0 < a .phases = let g = limits s .some-phases in omega arith in
+    let y : c .interpolate-within .result ≡ output (a .phases) (a .taps) (l .at) (wound (a .taps) (l .tape) (l .newest) (now (a .delay))) (now (a .prototype)) =
+    c .interpolate-within .ensures ∙ outputs-alike (a .phases) (a .taps) (now (a .prototype)) (now (a .prototype)) _ _ some (λ p t b u. refl) (λ t u. wound-at (a .taps) (now (a .delay)) (l .tape) (l .newest) (80 - l .newest) t (omega (arith, l .inv)) (omega (arith, l .inv)) u) (l .at) in
+    (rw y (after-output resampler _ _ _ _ _ _ _ (l .inv .0) (c .before .before .before .if1 .taken) (c .before .before .before .before .loop-test .taken)), l .inv .1, l .inv .2)
 
-mul-shift-in : tie.Need-mul-shift-in Inv-loop μ-loop
-mul-shift-in c = search needs
+mul-take-in : tie.Need-mul-take-in Inv-loop μ-loop
+mul-take-in c = search needs
 
-shared-slice-read-shift-in : tie.Need-shared-slice-read-shift-in Inv-loop μ-loop
-shared-slice-read-shift-in c = search needs
+shared-slice-read-take-in : tie.Need-shared-slice-read-take-in Inv-loop μ-loop
+shared-slice-read-take-in c = search needs
 
-shift-in-requires : tie.Need-shift-in-requires Inv-loop μ-loop
-shift-in-requires c κs = search needs
+take-in-requires : tie.Need-take-in-requires Inv-loop μ-loop
+take-in-requires c κs = let i = c .before .before .before .before .before .loop .inv in let l = limits (c .before .before .before .before .before .before .before .before .before .before .before .before .before) in (i .2, l .some-taps, l .few-taps, i .1)
 
 add-taken : tie.Need-add-taken Inv-loop μ-loop
 add-taken c = search needs
@@ -65,33 +118,60 @@ loop-again-2 : tie.Need-loop-again-2 Inv-loop μ-loop
 unfolding resampler consumed
 loop-again-2 c =
     let l = c .before .before .before .before .before .before .loop in
-    let a = c .before .before .before .before .before .before .before .before .before .args in
-    rw (c .shift-in .ensures)
-    (after-input resampler _ _ _ _ _ _ _ (l .inv) nan (c .before .before .before .before .if1 .left) refl (c .before .before .before .before .before .loop-test .taken) (c .before .before .before .if2 .left))
+    let s = c .before .before .before .before .before .before .before .before .before .before .before .before .before .before in
+    let a = s .args in
+    let moved = wound-in (a .taps) (now (a .delay)) (l .tape) (c .take-in .last .0) (l .newest) (c .take-in .result) _ (limits s .few-taps) (omega (arith, l .inv)) (c .take-in .ensures .2) in (
+      rw moved (after-input resampler _ _ _ _ _ _ _ (l .inv .0) nan (c .before .before .before .before .if1 .left) refl (c .before .before .before .before .before .loop-test .taken) (c .before .before .before .if2 .left)),
+      c .take-in .ensures .1,
+      c .take-in .ensures .0,
+    )
 
-finished :
-    (P T : ℕ) (step mu : Float) (h d₀ xs o₀ : List Float) (r : Ran) (d o : List Float)
-    (mid : Between resampler (together P T mu step d₀ h) xs o₀ o (together P T (r .mu) step d h) (r .taken) (r .written))
-    → Ended resampler _ _ _ _ _ _ _ mid → RanTo P T step mu h d₀ xs o₀ r d o
-finished P T step mu h d₀ xs o₀ r d o mid e =
-    record { state = rw (e .is-fed); taken = rw (e .is-fed); written = rw (e .is-fed) (sym (e .count)); span = rw (e .is-fed) (e .span) }
+add-past : tie.Need-add-past Inv-loop μ-loop
+add-past c = search needs
+
+array-borrow-prefix-held : tie.Need-array-borrow-prefix-held Inv-loop μ-loop
+array-borrow-prefix-held c = let s = c .before .before .before .before .before .before .before .before .before in omega (arith, limits s .few-taps, s .pre .1)
+
+slice-aggregate-put-at-end-3 : tie.Need-slice-aggregate-put-at-end-3 Inv-loop μ-loop
+slice-aggregate-put-at-end-3 c = sym (taps-long (c .before .before .before .before .before .before .before .before .before .before))
+
+mul-put-at-end : tie.Need-mul-put-at-end Inv-loop μ-loop
+mul-put-at-end c = search needs
+
+sub-put-at-end : tie.Need-sub-put-at-end Inv-loop μ-loop
+sub-put-at-end c = search needs
+
+part-put-at-end-start : tie.Need-part-put-at-end-start Inv-loop μ-loop
+part-put-at-end-start c = search needs
+
+part-put-at-end-end : tie.Need-part-put-at-end-end Inv-loop μ-loop
+part-put-at-end-end c = search needs
+
+put-at-end-requires-2 : tie.Need-put-at-end-requires-2 Inv-loop μ-loop
+put-at-end-requires-2 c κs =
+    let l = c .before .before .before .before .loop in
+    let s = c .before .before .before .before .before .before .before .before .before .before .before .before in
+    omega (arith, taps-long s, length-take (l .newest + s .args .taps - l .newest) (drop (l .newest) (l .tape)))
 
 same-length : tie.Need-same-length Inv-loop μ-loop
-same-length c = c .before .loop .inv .same
+same-length c = c .before .before .before .before .before .before .loop .inv .0 .same
+
+-- both ways out of the loop
+ended : (c : tie.Left-loop Inv-loop μ-loop) → Ended resampler _ _ _ _ _ _ _ (c .before .loop .inv .0)
+unfolding resampler
+ended c =
+    elim (c .loop-test .came) [
+      | inl w ↦ ended-full resampler _ _ _ _ _ _ _ (c .before .loop .inv .0) (w .left)
+      | inr w ↦ ended-dry resampler _ _ _ _ _ _ _ (c .before .loop .inv .0) (w .1 .left) (w .2 .taken)
+    ]
 
 returns : tie.Need-returns Inv-loop μ-loop
 returns c =
-    let i = c .before .loop .inv in
-    finished _ _ _ _ _ _ _ _ _ _ _ i (ended-full resampler _ _ _ _ _ _ _ i (c .loop-test .left))
-
-same-length-2 : tie.Need-same-length-2 Inv-loop μ-loop
-same-length-2 c = c .before .before .before .loop .inv .same
-
-returns-2 : tie.Need-returns-2 Inv-loop μ-loop
-unfolding resampler
-returns-2 c =
-    let i = c .before .before .before .loop .inv in
-    finished _ _ _ _ _ _ _ _ _ _ _ i (ended-dry resampler _ _ _ _ _ _ _ i (c .before .if1 .left) (c .if2 .taken))
+    let l = c .before .before .before .before .before .before .loop in
+    let s = c .before .before .before .before .before .before .before .before .before .before .before .before .before .before in
+    let a = s .args in
+    let off = wound-off (a .taps) (now (a .delay)) (l .tape) (c .before .put-at-end2 .last .0) (l .newest) (l .newest + a .taps - l .newest) (omega arith) (omega (arith, l .inv)) (omega (arith, limits s .few-taps, s .pre .1)) (c .before .put-at-end2 .ensures) in
+    rw off (finished _ _ _ _ _ _ _ _ _ _ _ (l .inv .0) (ended (c .before .before .before .before .before)))
 
 pub run-spec : {M : Type 1} → statement M
 run-spec =
@@ -99,20 +179,35 @@ run-spec =
     (tie.spec
     Inv-loop
     μ-loop
+    slice-aggregate-put-at-end
+    array-share-prefix-held
+    slice-aggregate-put-at-end-2
+    put-at-end-requires
+    sub-newest
     loop-holds
-    interpolate-requires
+    mul-interpolate-within
+    sub-interpolate-within
+    part-interpolate-within-start
+    part-interpolate-within-end
+    interpolate-within-requires
     mul-dst
     slice-write-dst
     add-written
     loop-less
     loop-again
-    mul-shift-in
-    shared-slice-read-shift-in
-    shift-in-requires
+    mul-take-in
+    shared-slice-read-take-in
+    take-in-requires
     add-taken
     loop-less-2
     loop-again-2
+    add-past
+    array-borrow-prefix-held
+    slice-aggregate-put-at-end-3
+    mul-put-at-end
+    sub-put-at-end
+    part-put-at-end-start
+    part-put-at-end-end
+    put-at-end-requires-2
     same-length
-    returns
-    same-length-2
-    returns-2)
+    returns)

@@ -94,7 +94,7 @@ interpolate-requires c κs = let k = c .before .before .before .before .before .
     let u = usable (tested k) in
     let t = taps-long _ u in
     let w = window-long _ u in
-    (omega (arith, u .least), omega arith, places-long k ∙ ap (λ (n : ℕ). 2 * n) (sym (samples-long k)))
+    (omega (arith, u .least), omega (arith, u .most), omega arith, places-long k ∙ ap (λ (n : ℕ). 2 * n) (sym (samples-long k)))
 
 mul-t13 : tie.Need-mul-t13
 mul-t13 c = omega (arith, count (c .before .before .before .before .before .before .before .before .before .before), begun (tested (c .before .before .before .before .before .before .before .before .before .before)) .good)

@@ -5,7 +5,6 @@ use borrow.Author.Needs.{needs}
 use borrow.Author.Tests.{not-true, not-false}
 use denote.Ref.{now}
 use Rattle.float.specs.PolyphaseResamp.{valid}
-use Rattle.float.specs.declared.polyphase_resamp.PolyphaseResampF32.{PolyphaseResampF32}
 use Rattle.float.proofs.PolyphaseRange.{valid-in-limits}
 use Rattle.float.proofs.PolyphaseCalls.{block-refused, block-ran}
 use Rattle.float.proofs.polyphase_resamp.PolyphaseResampF32.process_block.Statement.{statement}
@@ -26,7 +25,7 @@ unfolding valid
 is-so c = sym (c .before .is-valid .ensures) ∙ not-false (c .before .is-valid .result) (c .if1 .left)
 
 run-requires : tie.Need-run-requires
-run-requires c κs = valid-in-limits _ (is-so (c .before .before .before .before .before))
+run-requires c κs = (valid-in-limits _ (is-so (c .before .before .before .before .before)), search needs)
 
 same-length : tie.Need-same-length
 same-length c = search needs

@@ -1,4 +1,4 @@
--- `push` meets its contract: the sample goes in first, then `run` makes the feed of no samples, and the claims follow from the two equations
+-- `push` meets its contract: the sample goes in first, then `emit` makes the feed of no samples, and the claims follow from the two equations
 -- (`push-kept`).
 use mathlib.Core.Path.{_≡_, sym, _∙_}
 use mathlib.Core.Bool.{true}
@@ -28,20 +28,17 @@ is-so c = sym (c .before .is-valid .ensures) ∙ not-false (c .before .is-valid 
 shift-in-requires : tie.Need-shift-in-requires
 shift-in-requires c κs = search needs
 
-slice-aggregate-run : tie.Need-slice-aggregate-run
-slice-aggregate-run c = search needs
-
-run-requires : tie.Need-run-requires
-run-requires c κs = valid-in-limits _ (is-so (c .before .before .before .before .before .before .before .before))
+emit-requires : tie.Need-emit-requires
+emit-requires c κs = valid-in-limits _ (is-so (c .before .before .before .before .before .before .before))
 
 same-length : tie.Need-same-length
 same-length c = search needs
 
 returns-2 : tie.Need-returns-2
 returns-2 c =
-    let a = c .before .before .before .before .before .before .before .before .before .before .before .before .before .before .args in
-    push-ran (a .t1) (a .x) (now (a .out)) _ _ _ _ (is-so (c .before .before .before .before .before .before .before .before .before .before .before))
-    (c .before .before .before .before .before .before .before .before .shift-in .ensures) (c .before .before .run .ensures)
+    let a = c .before .before .before .before .before .before .before .before .before .before .before .before .before .args in
+    push-ran (a .t1) (a .x) (now (a .out)) _ _ _ _ (is-so (c .before .before .before .before .before .before .before .before .before .before))
+    (c .before .before .before .before .before .before .before .shift-in .ensures) (c .before .before .emit .ensures)
 
 pub push-spec : {M : Type 1} → statement M
 push-spec =
@@ -50,7 +47,6 @@ push-spec =
     is-valid-requires
     returns
     shift-in-requires
-    slice-aggregate-run
-    run-requires
+    emit-requires
     same-length
     returns-2)
