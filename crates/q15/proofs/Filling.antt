@@ -1,18 +1,26 @@
 -- A span that is filled from the front: i outputs stand there, and the rest is as it was.
 use mathlib.Core.Path.{_≡_, refl, sym, ap, _∙_}
-use mathlib.Core.List.{List, [], _∷_, _++_}
+use mathlib.Core.List.{List, [], _∷_, _++_, append-nil, append-assoc}
 use Prim.Native.Nat.{ℕ, zero, suc, _+_, _-_, _≤_, _<_, min}
 use native.Mathlib.Decide.{decLe}
-use native.Mathlib.Nat.{min-eq-left, min-eq-right}
+use native.Mathlib.Nat.{min-eq-left, min-eq-right, add-zero, add-suc}
 use native.Mathlib.Numerals.{add-one}
 use native.Mathlib.Omega.{arith}
 use lib.IntN.{ℤ}
-use lib.ListN.{length, getD, set, take, drop, replicate, length-set, length-replicate, replicate-append-replicate, drop-of-length-le}
-use lib.Seq.{drop-cons, drop-length, set-at, append-snoc, take-suc, take-all, take-append-le, drop-at}
+use lib.ListN.{length, getD, set, take, drop, replicate, length-set, length-append, length-drop, length-replicate, replicate-append-replicate, drop-of-length-le}
+use lib.Seq.{drop-cons, drop-length, drop-drop, take-at, set-at, append-snoc, take-suc, take-all, take-append-le, drop-at}
 use Rattle.refusal.specs.Outcome.{Answer}
 use Rattle.theory.specs.Lists.{listed}
 use Rattle.theory.proofs.Listed.{length-listed}
 use Rattle.q15.specs.Block.{written, blockAnswer, blockSpan}
+
+-- i outputs, and m after them
+listed-more : {A : Type 0} (g : ℕ → A) (i m : ℕ) → listed i g ++ listed m (λ k. g (i + k)) ≡ listed (i + m) g
+listed-more g i zero = append-nil (listed i g) ∙ ap (λ (n : ℕ). listed n g) (sym (add-zero i))
+listed-more {A} g i (suc m) =
+    sym (append-assoc (listed i g) (listed m (λ k. g (i + k))) (g (i + m) ∷ []))
+    ∙ ap (λ (l : List A). l ++ (g (i + m) ∷ [])) (listed-more g i m)
+    ∙ ap (λ (n : ℕ). listed n g) (sym (add-suc i m))
 
 module _ {A : Type 0} (g : ℕ → A) (d : List A) where
   one-filled : (z : A) (i : ℕ) → i < length d → set (listed i g ++ drop i d) i (g i) ≡ listed (i + 1) g ++ drop (i + 1) d
@@ -43,6 +51,32 @@ module _ {A : Type 0} (g : ℕ → A) (d : List A) where
   all-filled count e i l f =
       let q : i ≡ count = omega (arith, f .within) in
       f .is ∙ ap (λ (n : ℕ). listed n g ++ drop n d) q
+
+  -- m outputs go into the rest of the span, after those that stand there
+  pub more-filled :
+      (count : ℕ) (e : List A) (i m : ℕ) (part : List A) → i + m ≤ count → count ≤ length d → Filled count e i
+      → part ≡ listed m (λ k. g (i + k)) ++ drop m (take (length e - i) (drop i e))
+      → Filled count (take i e ++ (part ++ drop (length e - i) (drop i e))) (i + m)
+  more-filled count e i m part l n f q =
+      let t : take i e ≡ listed i g = ap (take i) (f .is) ∙ take-at (listed i g) (drop i d) i (length-listed i g) in
+      let r : drop i e ≡ drop i d = ap (drop i) (f .is) ∙ drop-at (listed i g) (drop i d) i (length-listed i g) in
+      let all : length (drop i e) ≤ length e - i = omega (arith, length-drop i e) in
+      let p : part ≡ listed m (λ k. g (i + k)) ++ drop m (drop i d) =
+      q ∙ ap (λ (x : List A). listed m (λ k. g (i + k)) ++ drop m x) (take-all (length e - i) (drop i e) all ∙ r)
+      in
+      let whole : take i e ++ (part ++ drop (length e - i) (drop i e)) ≡ listed (i + m) g ++ drop (i + m) d =
+      ap (λ (x : List A). take i e ++ (part ++ x)) (drop-of-length-le (drop i e) all)
+      ∙ ap (λ (x : List A). take i e ++ x) (append-nil part ∙ p)
+      ∙ ap (λ (x : List A). x ++ (listed m (λ k. g (i + k)) ++ drop m (drop i d))) t
+      ∙ sym (append-assoc (listed i g) (listed m (λ k. g (i + k))) (drop m (drop i d)))
+      ∙ ap (λ (x : List A). x ++ drop m (drop i d)) (listed-more g i m)
+      ∙ ap (λ (x : List A). listed (i + m) g ++ x) (drop-drop m i d)
+      in
+      record {
+        is = whole;
+        within = l;
+        long = ap length whole ∙ omega (arith, length-append (listed (i + m) g) (drop (i + m) d), length-listed (i + m) g, length-drop (i + m) d);
+      }
 
 -- outputs that are equal one by one
 pub listed-ext : {A : Type 0} (n : ℕ) (f g : ℕ → A) → ((k : ℕ) → k < n → f k ≡ g k) → listed n f ≡ listed n g

@@ -75,3 +75,9 @@ negated-more z p = omega (ints, neg-is (z -ℤ p), sub-is-ℤ z p, add-is (neg�
 
 pub from-zero : (z : ℤ) → pos 0 -ℤ z ≡ negℤ z
 from-zero z = omega (ints, sub-is-ℤ (pos 0) z, neg-is z)
+
+-- a factor by a number of this size
+pub times-fits : (w : Width) (B l : ℕ) (z : ℤ) → 4096 * B < 2 ^ hbits w → l ≤ 4096 → (up z ≤ B + dn z) × (dn z ≤ B + up z) → SFits w (pos l *ℤ z)
+times-fits w B l z s f h =
+    let m = mul-within 4096 B (pos l) z (f, omega arith) (both B z h) in
+    fits-of (pos l *ℤ z) (omega (arith, m))

@@ -7,12 +7,16 @@ ghost use lib.ListN.{length, drop};
 ghost use Rattle.refusal.specs.Outcome.{countAnswer};
 ghost use Rattle.theory.specs.Lists.{listed};
 ghost use Rattle.theory.proofs.Integers.{up, dn};
+ghost use mir.Syntax.{w16};
+ghost use Rattle.q15.specs.Fixed.{flooredProduct, cut, at};
 ghost use Rattle.q15.specs.Block.{mostFactor, mostBlock, rowsNumber};
 ghost use Rattle.q15.specs.PolyphaseInterpolate.{phaseOutput, interpolatedCount, interpolateNumber, interpolateAnswer, interpolateSpan};
 use crate::block::Rows;
 use crate::block::block_rows;
 use crate::fir_sum::phase_sum;
 use crate::fixed::cut_q15;
+use crate::fixed::floored_product;
+use crate::fixed::wide_i32;
 use refusal::Count;
 use refusal::Refusal;
 
@@ -56,26 +60,61 @@ fn times(l: usize, sum: i64) -> i64
     (l as i64) * sum
 }
 
-// An output's place: sample i and phase p, at i × l + p.
-struct Place {
-    sample: usize,
-    phase: usize,
+// L times one product, which 32 bits hold.
+fn times_one(l: usize, product: i32) -> i32
+    requires { ⌜ (l ≤ mostFactor) × (up product ≤ 32768 + dn product) × (dn product ≤ 32767 + up product) ⌝ }
+    ensures { λ r. ⌜ r ≡ pos l *ℤ product ⌝ }
+{
+    (l as i32) * product
 }
 
-fn next_place(i: usize, p: usize, l: usize) -> Place
-    requires { ⌜ (p < l) × (i < mostBlock) ⌝ }
-    ensures { λ r. ⌜ (r .sample * l + r .phase ≡ i * l + p + 1) × (r .phase < l) ⌝ }
+// The first m outputs of sample i, in front of the span.
+fn phases(src: &[i16], i: usize, coeffs: &[i16], l: usize, k: usize, m: usize, dst: &mut [i16])
+    requires { ⌜ (m ≤ length (now dst)) × (m ≤ l) × (l ≤ mostFactor) × (k * l ≤ length (now coeffs)) × (k ≤ mostBlock) × (i + k ≤ length (now src)) ⌝ }
+    ensures { λ _. ⌜ now (dst .exit) ≡ listed m (phaseOutput (now (coeffs .entry)) l k (now (src .entry)) i) ++ drop m (now (dst .entry)) ⌝ }
 {
-    if p + 1 == l {
-        return Place {
-            sample: i + 1,
-            phase: 0,
-        };
+    let mut p = 0;
+    while p < m {
+        let sum = phase_sum(src, i, coeffs, p, l, k);
+        let scaled = times(l, sum);
+        let y = cut_q15(scaled);
+        let bits = y.0;
+        dst[p] = bits;
+        p += 1;
     }
-    Place {
-        sample: i,
-        phase: p + 1,
+}
+
+// The same of a sample x where a phase has one tap: with no sum, and 32 bits wide, the compiler makes several at once.
+fn one_tap(x: i16, coeffs: &[i16], l: usize, m: usize, dst: &mut [i16])
+    requires { ⌜ (m ≤ length (now dst)) × (m ≤ length (now coeffs)) × (l ≤ mostFactor) ⌝ }
+    ensures { λ _. ⌜ now (dst .exit) ≡ listed m (λ p. cut w16 (pos l *ℤ flooredProduct x (at (now (coeffs .entry)) p))) ++ drop m (now (dst .entry)) ⌝ }
+{
+    let mut p = 0;
+    while p < m {
+        let product = floored_product(x, coeffs[p]);
+        let scaled = times_one(l, product);
+        let y = cut_q15(wide_i32(scaled));
+        let bits = y.0;
+        dst[p] = bits;
+        p += 1;
     }
+}
+
+// `phases`, by the number of taps.
+fn outputs_of(src: &[i16], i: usize, coeffs: &[i16], l: usize, k: usize, m: usize, dst: &mut [i16])
+    requires { ⌜ (m ≤ length (now dst)) × (m ≤ l) × (l ≤ mostFactor) × (k * l ≤ length (now coeffs)) × (k ≤ mostBlock) × (i + k ≤ length (now src)) ⌝ }
+    ensures { λ _. ⌜ now (dst .exit) ≡ listed m (phaseOutput (now (coeffs .entry)) l k (now (src .entry)) i) ++ drop m (now (dst .entry)) ⌝ }
+{
+    match k {
+        1 => one_tap(src[i], coeffs, l, m, dst),
+        _ => phases(src, i, coeffs, l, k, m, dst),
+    }
+}
+
+fn least(a: usize, b: usize) -> usize
+    ensures { λ m. ⌜ m ≡ min a b ⌝ }
+{
+    if a < b { a } else { b }
 }
 
 // So many outputs from the front of the span.
@@ -83,19 +122,13 @@ fn interpolate(src: &[i16], coeffs: &[i16], l: usize, k: usize, count: usize, ds
     requires { ⌜ (count ≤ length (now dst)) × (0 < l) × (l ≤ mostFactor) × (k * l ≤ length (now coeffs)) × (0 < k) × (k ≤ mostBlock) × (length (now src) ≤ mostBlock) × ((i p : ℕ) → i * l + p < count → i + k ≤ length (now src)) ⌝ }
     ensures { λ _. ⌜ now (dst .exit) ≡ listed count (λ j. phaseOutput (now (coeffs .entry)) l k (now (src .entry)) (j / l) (j % l)) ++ drop count (now (dst .entry)) ⌝ }
 {
-    let mut j = 0;
     let mut i = 0;
-    let mut p = 0;
+    let mut j = 0;
     while j < count {
-        let sum = phase_sum(src, i, coeffs, p, l, k);
-        let scaled = times(l, sum);
-        let y = cut_q15(scaled);
-        let bits = y.0;
-        dst[j] = bits;
-        let next = next_place(i, p, l);
-        i = next.sample;
-        p = next.phase;
-        j += 1;
+        let m = least(l, count - j);
+        outputs_of(src, i, coeffs, l, k, m, &mut dst[j..]);
+        i += 1;
+        j += m;
     }
 }
 

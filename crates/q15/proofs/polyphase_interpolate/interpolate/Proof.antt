@@ -1,28 +1,31 @@
--- `polyphase_interpolate::interpolate` meets its contract: the invariant says that j outputs stand in front of the span and that sample i and phase p are
--- those of the next one.
+-- `polyphase_interpolate::interpolate` meets its contract: the invariant says that j outputs stand in front of the span, all of the first i samples or as many as
+-- there are to be.
 use mathlib.Core.Path.{_≡_, sym, ap, _∙_}
-use Prim.Native.Nat.{ℕ, _+_, _*_, _-_, _/_, _%_, _≤_, _<_}
+use mathlib.Core.List.{List, _++_}
+use Prim.Native.Nat.{ℕ, _+_, _*_, _-_, _/_, _%_, _≤_, _<_, min}
 use native.Mathlib.Nat.{suc-mul, zero-mul, div-add-mod'}
 use native.Mathlib.Omega.{arith}
 use borrow.Author.Needs.{needs}
-use lib.IntN.{ℤ, pos, _*ℤ_}
-use lib.ListN.{length}
-use mir.Syntax.{w16, w64}
-use mir.Val.{toZ, ofZ}
-use mir.Facts.{toZ-ofZ}
+use lib.IntN.{ℤ}
+use lib.ListN.{length, take, drop, length-take, length-drop}
 use Rattle.theory.proofs.Decimation.{quotient}
-use Rattle.q15.specs.Fixed.{cut}
 use Rattle.q15.specs.PolyphaseInterpolate.{phaseOutput}
-use Rattle.q15.proofs.Filling.{Filled, none-filled, next-filled, all-filled}
+use Rattle.q15.proofs.Filling.{Filled, none-filled, more-filled, all-filled, listed-ext}
 use Rattle.q15.proofs.polyphase_interpolate.interpolate.Statement.{statement}
 use Rattle.q15.proofs.polyphase_interpolate.interpolate.Tie as tie
 
 abbrev Inv-loop : tie.InvT-loop
-Inv-loop src coeffs l k count dst₀ j₀ i₀ p₀ dst j i p =
-    Filled (λ n. phaseOutput coeffs l k src (n / l) (n % l)) dst₀ count dst j × (j ≡ i * l + p) × (p < l)
+Inv-loop src coeffs l k count dst₀ i₀ j₀ dst i j = Filled (λ n. phaseOutput coeffs l k src (n / l) (n % l)) dst₀ count dst j × (j ≡ min (i * l) count)
 
 abbrev μ-loop : tie.MeasureT-loop
-μ-loop src coeffs l k count dst₀ j₀ i₀ p₀ dst j i p = count - j
+μ-loop src coeffs l k count dst₀ i₀ j₀ dst i j = count - j
+
+-- the places that the facts below come from: each path is counted once
+abbrev turned : tie.After-dst Inv-loop μ-loop → tie.In-loop Inv-loop μ-loop
+turned c = c .before .before .before .before
+
+abbrev outputs : tie.Start Inv-loop μ-loop → ℕ → ℤ
+outputs c n = phaseOutput (c .args .coeffs .now) (c .args .l) (c .args .k) (c .args .src .now) (n / c .args .l) (n % c .args .l)
 
 -- the sample and the phase of an output
 placed : (j i p l : ℕ) → j ≡ i * l + p → p < l → (j / l ≡ i) × (j % l ≡ p)
@@ -31,73 +34,80 @@ placed j i p l e h =
     let m : j / l * l ≡ i * l = ap (λ (n : ℕ). n * l) q in
     (q, omega (arith, m, div-add-mod' j l))
 
-loop-holds : tie.Need-loop-holds Inv-loop μ-loop
-loop-holds c = (none-filled _ _ _, omega (arith, zero-mul (c .args .l)), c .pre .1)
+-- where an output is left, those of the first i samples are whole
+whole : (c : tie.In-loop Inv-loop μ-loop) → c .before .loop .j ≡ c .before .loop .i * c .before .before .args .l
+whole c = omega (arith, c .loop-test .taken, c .before .loop .inv .1)
 
 samples : (c : tie.In-loop Inv-loop μ-loop) → c .before .loop .i + c .before .before .args .k ≤ length (c .before .before .args .src .now)
-samples c = c .before .before .pre .7 (c .before .loop .i) (c .before .loop .p) (omega (arith, c .loop-test .taken, c .before .loop .inv .1))
+samples c = c .before .before .pre .7 (c .before .loop .i) 0 (omega (arith, c .loop-test .taken, whole c))
 
-phase-sum-requires : tie.Need-phase-sum-requires Inv-loop μ-loop
-phase-sum-requires c κs = (c .before .loop .inv .2, c .before .before .pre .3, samples c, c .before .before .pre .5)
+inside : (c : tie.In-loop Inv-loop μ-loop) → c .before .loop .j ≤ length (c .before .loop .dst)
+inside c = omega (arith, c .loop-test .taken, c .before .loop .inv .0 .long, c .before .before .pre .0)
 
-times-requires : tie.Need-times-requires Inv-loop μ-loop
-times-requires c κs =
-    rw (toZ-ofZ {w = w64} {z = c .phase-sum .result} (record { sfits = c .phase-sum .ok }))
-    (c .before .before .before .pre .2, c .phase-sum .ensures .1, c .phase-sum .ensures .2)
+loop-holds : tie.Need-loop-holds Inv-loop μ-loop
+loop-holds c = (none-filled _ _ _, omega (arith, zero-mul (c .args .l)))
 
-cut-q15-requires : tie.Need-cut-q15-requires Inv-loop μ-loop
-cut-q15-requires c κs = tt
+sub-least : tie.Need-sub-least Inv-loop μ-loop
+sub-least c = omega (arith, c .loop-test .taken)
 
-mul-bits : tie.Need-mul-bits Inv-loop μ-loop
-mul-bits c = search needs
+least-requires : tie.Need-least-requires Inv-loop μ-loop
+least-requires c κs = tt
 
-module _ (c : tie.After-struct-told Inv-loop μ-loop) where
-  abbrev loop : tie.At-loop Inv-loop μ-loop
-  loop = c .before .before .before .before .before
+mul-outputs-of : tie.Need-mul-outputs-of Inv-loop μ-loop
+mul-outputs-of c = search needs
 
-  abbrev start : tie.Start Inv-loop μ-loop
-  start = loop .before
+sub-outputs-of : tie.Need-sub-outputs-of Inv-loop μ-loop
+sub-outputs-of c = inside (c .before)
 
-  bits : toZ w16 (ofZ w16 (c .before .cut-q15 .result .0)) ≡ c .before .cut-q15 .result .0
-  bits = search needs
+part-outputs-of-start : tie.Need-part-outputs-of-start Inv-loop μ-loop
+part-outputs-of-start c = inside (c .before)
 
-  abbrev outputs : ℕ → ℤ
-  outputs n = phaseOutput (start .args .coeffs .now) (start .args .l) (start .args .k) (start .args .src .now) (n / start .args .l) (n % start .args .l)
+part-outputs-of-end : tie.Need-part-outputs-of-end Inv-loop μ-loop
+part-outputs-of-end c = search needs
 
-  value : toZ w16 (ofZ w16 (c .before .cut-q15 .result .0)) ≡ outputs (loop .loop .j)
-  unfolding phaseOutput
-  value =
-      let a = start .args in
-      let v = loop .loop in
-      let sum = c .before .before .before .phase-sum in
-      let scaled = c .before .before .times in
-      let place = placed (v .j) (v .i) (v .p) (a .l) (v .inv .1) (v .inv .2) in
-      bits
-      ∙ c .before .cut-q15 .ensures
-      ∙ ap (cut w16) (toZ-ofZ {w = w64} {z = scaled .result} (record { sfits = scaled .ok }) ∙ scaled .ensures
-      ∙ ap (λ (z : ℤ). pos (a .l) *ℤ z) (toZ-ofZ {w = w64} {z = sum .result} (record { sfits = sum .ok }) ∙ sum .ensures .0))
-      ∙ ap (λ (n : ℕ). phaseOutput (a .coeffs .now) (a .l) (a .k) (a .src .now) n (v .p)) (sym (place .0))
-      ∙ ap (λ (n : ℕ). phaseOutput (a .coeffs .now) (a .l) (a .k) (a .src .now) (v .j / a .l) n) (sym (place .1))
+outputs-of-requires : tie.Need-outputs-of-requires Inv-loop μ-loop
+outputs-of-requires c κs =
+    let k = c .before .before in
+    let v = k .before .loop in
+    let r = k .before .before .pre in
+    let m = c .before .least .ensures in
+    let n = length (v .dst) - v .j in (
+      omega (arith, m, length-take n (drop (v .j) (v .dst)), length-drop (v .j) (v .dst), v .inv .0 .long, r .0),
+      omega (arith, m),
+      r .2,
+      r .3,
+      r .5,
+      samples k,
+    )
 
-slice-set-from-bits : tie.Need-slice-set-from-bits Inv-loop μ-loop
-slice-set-from-bits c = omega (arith, c .before .before .before .before .loop-test .taken, loop c .loop .inv .0 .long, start c .pre .0)
-
-next-place-requires : tie.Need-next-place-requires Inv-loop μ-loop
-next-place-requires c κs = (loop c .loop .inv .2, omega (arith, samples (c .before .before .before .before), start c .pre .4, start c .pre .6))
+add-i : tie.Need-add-i Inv-loop μ-loop
+add-i c =
+    let k = turned c in omega (arith, samples k, k .before .before .pre .6)
 
 add-j : tie.Need-add-j Inv-loop μ-loop
-add-j c = search needs
+add-j c =
+    let k = turned c in omega (arith, k .loop-test .taken, c .before .before .before .least .ensures)
 
 loop-less : tie.Need-loop-less Inv-loop μ-loop
-loop-less c = omega (arith, c .before .before .before .before .before .loop-test .taken)
+loop-less c =
+    let k = turned c in omega (arith, k .loop-test .taken, c .before .before .before .least .ensures, k .before .before .pre .1)
 
 loop-again : tie.Need-loop-again Inv-loop μ-loop
 loop-again c =
-    let e = c .before in
-    let v = loop e .loop in (
-      next-filled (outputs e) (start e .args .dst .now) (start e .args .count) (v .dst) (v .j) _ (e .before .before .before .before .loop-test .taken) (start e .pre .0) (value e) (v .inv .0),
-      omega (arith, v .inv .1, c .next-place .ensures),
-      c .next-place .ensures .1,
+    let k = turned c in
+    let v = k .before .loop in
+    let s = k .before .before in
+    let a = s .args in
+    let m = c .before .before .before .least .result in
+    let e = c .before .before .before .least .ensures in
+    let same : (p : ℕ) → p < m → phaseOutput (a .coeffs .now) (a .l) (a .k) (a .src .now) (v .i) p ≡ outputs s (v .j + p) = (λ p h.
+    let place = placed (v .j + p) (v .i) p (a .l) (omega (arith, whole k)) (omega (arith, e)) in
+    ap (λ (n : ℕ). phaseOutput (a .coeffs .now) (a .l) (a .k) (a .src .now) n p) (sym (place .0))
+    ∙ ap (λ (n : ℕ). phaseOutput (a .coeffs .now) (a .l) (a .k) (a .src .now) ((v .j + p) / a .l) n) (sym (place .1)))
+    in (
+      more-filled (outputs s) (a .dst .now) (a .count) (v .dst) (v .j) m _ (omega (arith, k .loop-test .taken, e)) (s .pre .0) (v .inv .0)
+          (c .before .outputs-of .ensures ∙ ap (λ (o : List ℤ). o ++ drop m (take (length (v .dst) - v .j) (drop (v .j) (v .dst)))) (listed-ext m _ _ same)),
+      omega (arith, e, whole k, suc-mul (v .i) (a .l)),
     )
 
 same-length : tie.Need-same-length Inv-loop μ-loop
@@ -113,12 +123,14 @@ interpolate-spec =
     Inv-loop
     μ-loop
     loop-holds
-    phase-sum-requires
-    times-requires
-    cut-q15-requires
-    mul-bits
-    slice-set-from-bits
-    next-place-requires
+    sub-least
+    least-requires
+    mul-outputs-of
+    sub-outputs-of
+    part-outputs-of-start
+    part-outputs-of-end
+    outputs-of-requires
+    add-i
     add-j
     loop-less
     loop-again

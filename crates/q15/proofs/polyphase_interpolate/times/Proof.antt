@@ -2,12 +2,12 @@
 use mathlib.Core.Path.{_≡_}
 use Prim.Native.Nat.{_^_}
 use native.Mathlib.Omega.{arith}
+use lib.Dec.{lit<}
 use lib.IntN.{pos, _*ℤ_}
 use mir.Syntax.{w64}
 use mir.Val.{SFits, toZ}
 use mir.Facts.{toZ-ofZ}
-use Rattle.theory.proofs.Integers.{fits-of, mul-within}
-use Rattle.q15.proofs.Sums.{both}
+use Rattle.q15.proofs.Sums.{times-fits}
 use Rattle.q15.proofs.polyphase_interpolate.times.Statement.{statement}
 use Rattle.q15.proofs.polyphase_interpolate.times.Tie as tie
 
@@ -16,10 +16,7 @@ module _ (c : tie.Start) where
   factor = record { sfits = omega (arith, c .pre .0) }
 
   product : SFits w64 (pos (c .args .l) *ℤ c .args .sum)
-  product =
-      let b = both (2 ^ 31) (c .args .sum) (c .pre .1, c .pre .2) in
-      let m = mul-within 4096 (2 ^ 31) (pos (c .args .l)) (c .args .sum) (c .pre .0, omega arith) b in
-      fits-of (pos (c .args .l) *ℤ c .args .sum) (omega (arith, m))
+  product = times-fits w64 (2 ^ 31) (c .args .l) (c .args .sum) (lit< tt) (c .pre .0) (c .pre .1, c .pre .2)
 
   told : toZ w64 (c .args .l) ≡ pos (c .args .l)
   told = toZ-ofZ factor

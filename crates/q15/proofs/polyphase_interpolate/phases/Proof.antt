@@ -1,0 +1,95 @@
+-- `polyphase_interpolate::phases` meets its contract: the invariant says that p outputs stand in front of the span.
+use mathlib.Core.Path.{_≡_, ap, _∙_}
+use Prim.Native.Nat.{_-_}
+use native.Mathlib.Omega.{arith}
+use borrow.Author.Needs.{needs}
+use lib.IntN.{ℤ, pos, _*ℤ_}
+use mir.Syntax.{w16, w64}
+use mir.Val.{toZ, ofZ}
+use mir.Facts.{toZ-ofZ}
+use Rattle.q15.specs.Fixed.{cut}
+use Rattle.q15.specs.PolyphaseInterpolate.{phaseOutput}
+use Rattle.q15.proofs.Filling.{Filled, none-filled, next-filled, all-filled}
+use Rattle.q15.proofs.polyphase_interpolate.phases.Statement.{statement}
+use Rattle.q15.proofs.polyphase_interpolate.phases.Tie as tie
+
+abbrev Inv-loop : tie.InvT-loop
+Inv-loop src i coeffs l k m dst₀ p₀ dst p = Filled (phaseOutput coeffs l k src i) dst₀ m dst p
+
+abbrev μ-loop : tie.MeasureT-loop
+μ-loop src i coeffs l k m dst₀ p₀ dst p = m - p
+
+loop-holds : tie.Need-loop-holds Inv-loop μ-loop
+loop-holds c = none-filled _ _ _
+
+phase-sum-requires : tie.Need-phase-sum-requires Inv-loop μ-loop
+phase-sum-requires c κs =
+    let r = c .before .before .pre in
+    (omega (arith, c .loop-test .taken, r .1), r .3, r .5, r .4)
+
+times-requires : tie.Need-times-requires Inv-loop μ-loop
+times-requires c κs =
+    rw (toZ-ofZ {w = w64} {z = c .phase-sum .result} (record { sfits = c .phase-sum .ok }))
+    (c .before .before .before .pre .2, c .phase-sum .ensures .1, c .phase-sum .ensures .2)
+
+cut-q15-requires : tie.Need-cut-q15-requires Inv-loop μ-loop
+cut-q15-requires c κs = tt
+
+mul-bits : tie.Need-mul-bits Inv-loop μ-loop
+mul-bits c = search needs
+
+module _ (c : tie.After-struct-told Inv-loop μ-loop) where
+  abbrev loop : tie.At-loop Inv-loop μ-loop
+  loop = c .before .before .before .before .before
+
+  abbrev start : tie.Start Inv-loop μ-loop
+  start = loop .before
+
+  bits : toZ w16 (ofZ w16 (c .before .cut-q15 .result .0)) ≡ c .before .cut-q15 .result .0
+  bits = search needs
+
+  value : let a = start .args in toZ w16 (ofZ w16 (c .before .cut-q15 .result .0)) ≡ phaseOutput (a .coeffs .now) (a .l) (a .k) (a .src .now) (a .i) (loop .loop .p)
+  unfolding phaseOutput
+  value =
+      let sum = c .before .before .before .phase-sum in
+      let scaled = c .before .before .times in
+      bits
+      ∙ c .before .cut-q15 .ensures
+      ∙ ap (cut w16) (toZ-ofZ {w = w64} {z = scaled .result} (record { sfits = scaled .ok }) ∙ scaled .ensures
+      ∙ ap (λ (z : ℤ). pos (start .args .l) *ℤ z) (toZ-ofZ {w = w64} {z = sum .result} (record { sfits = sum .ok }) ∙ sum .ensures .0))
+
+slice-set-from-bits : tie.Need-slice-set-from-bits Inv-loop μ-loop
+slice-set-from-bits c = omega (arith, c .before .before .before .before .loop-test .taken, loop c .loop .inv .long, start c .pre .0)
+
+add-p : tie.Need-add-p Inv-loop μ-loop
+add-p c = search needs
+
+loop-less : tie.Need-loop-less Inv-loop μ-loop
+loop-less c = omega (arith, c .before .before .before .before .loop-test .taken)
+
+loop-again : tie.Need-loop-again Inv-loop μ-loop
+loop-again c = next-filled _ _ _ _ _ _ (c .before .before .before .before .loop-test .taken) (start c .pre .0) (value c) (loop c .loop .inv)
+
+same-length : tie.Need-same-length Inv-loop μ-loop
+same-length c = c .before .loop .inv .long
+
+returns : tie.Need-returns Inv-loop μ-loop
+returns c = all-filled _ _ _ _ _ (c .loop-test .left) (c .before .loop .inv)
+
+pub phases-spec : {M : Type 1} → statement M
+phases-spec =
+    tie.close
+    (tie.spec
+    Inv-loop
+    μ-loop
+    loop-holds
+    phase-sum-requires
+    times-requires
+    cut-q15-requires
+    mul-bits
+    slice-set-from-bits
+    add-p
+    loop-less
+    loop-again
+    same-length
+    returns)
