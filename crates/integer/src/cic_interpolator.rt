@@ -101,6 +101,7 @@ fn fill(
         5 => fill_of(5, integrators, input, r, out_buf),
         6 => fill_of(6, integrators, input, r, out_buf),
         7 => fill_of(7, integrators, input, r, out_buf),
+        8 => fill_of(8, integrators, input, r, out_buf),
         _ => fill_of(stages, integrators, input, r, out_buf),
     }
 }

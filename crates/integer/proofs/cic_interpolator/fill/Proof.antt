@@ -28,6 +28,9 @@ fill-of-requires-7 c κs = search needs
 fill-of-requires-8 : tie.Need-fill-of-requires-8
 fill-of-requires-8 c κs = search needs
 
+fill-of-requires-9 : tie.Need-fill-of-requires-9
+fill-of-requires-9 c κs = search needs
+
 same-length : tie.Need-same-length
 same-length c = search needs
 
@@ -74,7 +77,13 @@ same-length-8 : tie.Need-same-length-8
 same-length-8 c = search needs
 
 returns-8 : tie.Need-returns-8
-returns-8 c = rw (toZ-ofZ (c .before .before .before .before .before .fits .input)) at (c .before .fill-of8 .ensures)
+returns-8 c = rw (c .before .before .before .before .match .keys8) (rw (toZ-ofZ (c .before .before .before .before .before .fits .input)) at (c .before .fill-of8 .ensures))
+
+same-length-9 : tie.Need-same-length-9
+same-length-9 c = search needs
+
+returns-9 : tie.Need-returns-9
+returns-9 c = rw (toZ-ofZ (c .before .before .before .before .before .fits .input)) at (c .before .fill-of9 .ensures)
 
 pub fill-spec : {M : Type 1} → statement M
 fill-spec =
@@ -88,6 +97,7 @@ fill-spec =
     fill-of-requires-6
     fill-of-requires-7
     fill-of-requires-8
+    fill-of-requires-9
     same-length
     returns
     same-length-2
@@ -103,4 +113,6 @@ fill-spec =
     same-length-7
     returns-7
     same-length-8
-    returns-8)
+    returns-8
+    same-length-9
+    returns-9)
