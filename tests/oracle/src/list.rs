@@ -47,5 +47,5 @@ pub fn list(request: &Request, out: &mut impl Write) -> io::Result<()> {
         }
         left -= cases.len().min(left);
     }
-    out.flush()
+    Ok(())
 }

@@ -55,7 +55,7 @@ use cascade::Cascade;
 use compare::{Difference, Done};
 use half_band::HalfBand;
 use request::{Command, Converter, Draw, Request, USAGE};
-use std::io::{self, BufWriter};
+use std::io::{self, BufWriter, Write};
 use std::process::ExitCode;
 
 /// A converter that has no cases but those of a list, and none with more samples.
@@ -107,28 +107,31 @@ const CONVERTERS: [Converter; 14] = [
         .long(line_cases::long),
 ];
 
-fn list(request: &Request) -> ExitCode {
-    match list::list(request, &mut BufWriter::new(io::stdout().lock())) {
-        Ok(()) => ExitCode::SUCCESS,
-        Err(error) => {
-            eprintln!("oracle: {error}");
-            ExitCode::FAILURE
+/// Writes what a comparison found, and answers whether that is no difference.
+fn compare(request: &Request, out: &mut impl Write) -> io::Result<bool> {
+    let seed = request.seed;
+    match compare::compare(request) {
+        Ok(Done { cases, samples }) => {
+            writeln!(
+                out,
+                "seed {seed}: {cases} cases, {samples} samples, 0 differences"
+            )?;
+            Ok(true)
+        }
+        Err(Difference { number, case }) => {
+            writeln!(out, "seed {seed}, case {number}: {}", case.report())?;
+            Ok(false)
         }
     }
 }
 
-fn compare(request: &Request) -> ExitCode {
-    let seed = request.seed;
-    match compare::compare(request) {
-        Ok(Done { cases, samples }) => {
-            println!("seed {seed}: {cases} cases, {samples} samples, 0 differences");
-            ExitCode::SUCCESS
-        }
-        Err(Difference { number, case }) => {
-            println!("seed {seed}, case {number}: {}", case.report());
-            ExitCode::FAILURE
-        }
-    }
+fn run(request: &Request, out: &mut impl Write) -> io::Result<bool> {
+    let is_good = match request.command {
+        Command::List => list::list(request, out).map(|()| true),
+        Command::Compare => compare(request, out),
+    }?;
+    out.flush()?;
+    Ok(is_good)
 }
 
 fn main() -> ExitCode {
@@ -136,8 +139,12 @@ fn main() -> ExitCode {
         eprintln!("{USAGE}");
         return ExitCode::from(2);
     };
-    match request.command {
-        Command::List => list(&request),
-        Command::Compare => compare(&request),
+    match run(&request, &mut BufWriter::new(io::stdout().lock())) {
+        Ok(true) => ExitCode::SUCCESS,
+        Ok(false) => ExitCode::FAILURE,
+        Err(error) => {
+            eprintln!("oracle: {error}");
+            ExitCode::FAILURE
+        }
     }
 }

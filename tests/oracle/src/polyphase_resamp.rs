@@ -364,18 +364,20 @@ pub fn cases(rng: &mut Rng) -> Cases {
     }
 }
 
-/// Any P and T: a list has only some.
+/// Any P, with every T: a list has only some pairs.
 pub fn more(rng: &mut Rng) -> Cases {
-    match rng.one_in(4) {
-        true => {
-            let pair = settings::phases_and_taps(rng);
-            stream(rng, pair)
-        }
-        false => {
-            let mut state = midway_any(rng);
-            vec![any_call(rng, &mut state)]
-        }
+    if rng.one_in(8) {
+        let pair = settings::phases_and_taps(rng);
+        return stream(rng, pair);
     }
+    let phases = rng.within(2, 64);
+    (1..=16)
+        .map(|taps| {
+            let mut state = midway(rng);
+            (state.phases, state.taps) = (phases, taps);
+            any_call(rng, &mut state)
+        })
+        .collect()
 }
 
 /// A long block, of which a place stays unwritten or not. Levels alone leave every output a number.
