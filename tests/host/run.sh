@@ -16,3 +16,4 @@ tests/host/differences.sh
 tests/host/symbols.sh
 tests/host/c.sh
 tests/host/cargo.sh
+tests/host/gauge.sh

@@ -1,0 +1,16 @@
+//! The fitter's tool: recorded cell samples to levels through a gauge line that a settings file describes. docs/gauge.md is the page for a user.
+#![warn(missing_docs)]
+
+pub mod command;
+pub mod convert;
+mod entries;
+pub mod fault;
+pub mod format;
+pub mod levels;
+pub mod line_file;
+mod numbers;
+mod options;
+pub mod progress;
+mod run;
+pub mod samples;
+pub mod target;
