@@ -1,5 +1,6 @@
 //! The commands by name.
 
+use crate::explain::explain;
 use crate::fault::{Fault, front};
 use crate::run::run;
 use crate::target::Target;
@@ -14,6 +15,7 @@ pub fn perform(arguments: &[String]) -> Result<(), Fault> {
     }
     match arguments.split_first() {
         Some((command, rest)) if command == "run" => run(rest),
+        Some((command, rest)) if command == "explain" => explain(rest),
         Some((command, _)) => Err(Fault::usage(format!("no command {}", front(command)))),
         None => Err(Fault::usage("no command")),
     }

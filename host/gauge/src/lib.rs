@@ -4,13 +4,16 @@
 pub mod command;
 pub mod convert;
 mod entries;
+mod explain;
 pub mod fault;
 pub mod format;
 pub mod levels;
 pub mod line_file;
 mod numbers;
 mod options;
+mod passband;
 pub mod progress;
 mod run;
 pub mod samples;
+pub mod section;
 pub mod target;

@@ -1,0 +1,111 @@
+//! The sections of a line as filters: how many values each hands on, how late, and at which gain.
+
+use crate::line_file::LineFile;
+use gauge_line::{CicDecimator, Refusal, hbf_tap_table};
+
+/// One section as a filter. Times are in samples of the recording.
+pub struct Section {
+    /// What it is.
+    pub name: &'static str,
+    /// Samples for each value that it hands on.
+    pub samples_per_value: f64,
+    /// How late it shows a slow change.
+    pub delay: f64,
+    /// By how much its memory reaches back behind that of the section before.
+    pub reach: f64,
+    /// What a steady input is multiplied by.
+    pub gain: f64,
+}
+
+/// The sections of a line that are on, in their order.
+pub fn sections(file: &LineFile) -> Result<Vec<Section>, Refusal> {
+    let mut all = vec![cic(file)?];
+    let mut add = |section: fn(&LineFile, f64) -> Section| {
+        let rate = all[all.len() - 1].samples_per_value;
+        all.push(section(file, rate));
+    };
+    if !file.taps.is_empty() {
+        add(fir);
+    }
+    if file.settings.depth > 0 {
+        add(half_band);
+    }
+    if file.settings.phases > 0 {
+        add(resampler);
+    }
+    Ok(all)
+}
+
+// N moving sums of r samples, each (r - 1) / 2 late.
+fn cic(file: &LineFile) -> Result<Section, Refusal> {
+    let (stages, r) = (file.settings.stages, file.settings.r);
+    let cic = CicDecimator::new(stages, r)?;
+    let reach = (stages * (r - 1)) as f64;
+    Ok(Section {
+        name: "CIC decimator",
+        samples_per_value: r as f64,
+        delay: reach / 2.0,
+        reach,
+        gain: cic.gain()? as f64 / 2f64.powi(cic.gain_bits()? as i32),
+    })
+}
+
+// Tap t weighs the value that is T - 1 - t old.
+fn fir(file: &LineFile, rate: f64) -> Section {
+    let oldest = file.taps.len() - 1;
+    let weights = file.taps.iter().enumerate();
+    let weights = weights.map(|(t, tap)| ((oldest - t) as f64, f64::from(*tap) / 32768.0));
+    let (gain, delay) = gain_and_delay(weights);
+    Section {
+        name: "FIR",
+        samples_per_value: rate * file.settings.factor as f64,
+        delay: rate * delay,
+        reach: rate * oldest as f64,
+        gain,
+    }
+}
+
+// A stage of M taps has its middle 2M values back and its oldest 4M - 1.
+fn half_band(file: &LineFile, rate: f64) -> Section {
+    let table = hbf_tap_table().map(f64::from);
+    let stages = [42..45, 38..42, 33..38, 23..33, 0..23];
+    let (mut rate, mut delay, mut reach, mut gain) = (rate, 0.0, 0.0, 1.0);
+    for taps in stages.into_iter().take(file.settings.depth) {
+        delay += rate * 2.0 * taps.len() as f64;
+        reach += rate * (4 * taps.len() - 1) as f64;
+        gain *= 0.5 + table[taps].iter().sum::<f64>();
+        rate *= 2.0;
+    }
+    Section {
+        name: "half-band cascade",
+        samples_per_value: rate,
+        delay,
+        reach,
+        gain,
+    }
+}
+
+// Phase p is due 1 - p / P behind the newest value, so tap t of it weighs a value t + 1 - p / P old.
+fn resampler(file: &LineFile, rate: f64) -> Section {
+    let phases = file.settings.phases;
+    let weights = file.prototype.iter().enumerate().map(|(at, tap)| {
+        let (t, p) = (at / phases, at % phases);
+        let age = t as f64 + 1.0 - p as f64 / phases as f64;
+        (age, f64::from(*tap) / phases as f64)
+    });
+    let (gain, delay) = gain_and_delay(weights);
+    Section {
+        name: "resampler",
+        samples_per_value: rate * f64::from(file.settings.step),
+        delay: rate * delay,
+        reach: rate * (file.settings.phase_taps - 1) as f64,
+        gain,
+    }
+}
+
+// The sum of weights, and the age at their centre.
+fn gain_and_delay(weights: impl Iterator<Item = (f64, f64)>) -> (f64, f64) {
+    let sums = |(gain, moment), (age, weight)| (gain + weight, moment + age * weight);
+    let (gain, moment) = weights.fold((0.0, 0.0), sums);
+    (gain, moment / gain)
+}
