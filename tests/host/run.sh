@@ -17,3 +17,4 @@ tests/host/symbols.sh
 tests/host/c.sh
 tests/host/cargo.sh
 tests/host/gauge.sh
+tests/host/demo.sh

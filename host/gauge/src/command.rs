@@ -2,6 +2,7 @@
 
 use crate::explain::explain;
 use crate::fault::{Fault, front};
+use crate::plot::plot;
 use crate::run::run;
 use crate::target::Target;
 
@@ -16,6 +17,7 @@ pub fn perform(arguments: &[String]) -> Result<(), Fault> {
     match arguments.split_first() {
         Some((command, rest)) if command == "run" => run(rest),
         Some((command, rest)) if command == "explain" => explain(rest),
+        Some((command, rest)) if command == "plot" => plot(rest),
         Some((command, _)) => Err(Fault::usage(format!("no command {}", front(command)))),
         None => Err(Fault::usage("no command")),
     }

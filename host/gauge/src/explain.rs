@@ -4,7 +4,7 @@ use crate::fault::Fault;
 use crate::line_file::LineFile;
 use crate::options::Options;
 use crate::passband::PASSBANDS;
-use crate::section::{Section, sections};
+use crate::section::{Section, first_level, sections, whole};
 use crate::target::Target;
 use gauge_line::{CicDecimator, Line, limits};
 use std::fmt::Write;
@@ -57,13 +57,7 @@ fn add_table(text: &mut String, sections: &[Section]) {
     for section in sections {
         add_row(text, section);
     }
-    let last = &sections[sections.len() - 1];
-    let whole = Section {
-        name: "whole line",
-        delay: sections.iter().map(|section| section.delay).sum(),
-        gain: sections.iter().map(|section| section.gain).product(),
-        ..*last
-    };
+    let whole = whole(sections);
     add_row(text, &whole);
     add!(text, "");
     add!(
@@ -91,23 +85,12 @@ fn add_row(text: &mut String, section: &Section) {
 }
 
 fn add_start(text: &mut String, file: &LineFile, sections: &[Section]) {
-    let reach: f64 = sections.iter().map(|section| section.reach).sum();
     add!(
         text,
         "The first level comes with sample {}. Up to sample {} levels still weigh zeros from before the start.",
         first_level(file),
-        reach
+        whole(sections).reach
     );
-}
-
-/// The samples up to and with the one that makes the first level.
-pub fn first_level(file: &LineFile) -> usize {
-    let halved = 1 << file.settings.depth;
-    let values = match file.taps.len() {
-        0 => halved,
-        taps => (halved - 1) * file.settings.factor + taps,
-    };
-    values * file.settings.r
 }
 
 fn add_passband(text: &mut String, depth: usize) {
@@ -146,60 +129,9 @@ fn add_passband(text: &mut String, depth: usize) {
 #[cfg(test)]
 mod tests {
     use super::*;
-    use crate::convert::levels_of;
 
     const FULL: &str = "stages = 3\nr = 4\ntaps = 8192 8192 8192 8192\nfactor = 2\ndepth = 2\nphases = 2\nphase_taps = 2\nprototype = 1 0.5 0 0.5\nstep = 1.5\n";
     const PLAIN: &str = "stages = 2\nr = 5\n";
-    const UNEVEN: &str = "stages = 1\nr = 2\ntaps = 1000 2000 30000\nfactor = 5\ndepth = 3\n";
-
-    // Each level with the place of the sample that it came with.
-    fn levels(file: &LineFile, samples: &[i32]) -> Vec<(usize, f64)> {
-        let mut line = file.open().unwrap();
-        let mut all = Vec::new();
-        for (at, sample) in samples.iter().enumerate() {
-            let levels = levels_of(&mut line, &[*sample]).unwrap();
-            all.extend(levels.into_iter().map(|level| (at, f64::from(level))));
-        }
-        all
-    }
-
-    // The floors of sums and products take at most a few 32768ths.
-    fn close(level: f64, wanted: f64) {
-        assert!((level - wanted).abs() < 6.0 / 32768.0, "{level} {wanted}");
-    }
-
-    #[test]
-    fn a_steady_sample_settles_at_the_gain() {
-        for text in [FULL, PLAIN, UNEVEN] {
-            let file = LineFile::parse("f", text).unwrap();
-            let sections = sections(&file).unwrap();
-            let gain: f64 = sections.iter().map(|section| section.gain).product();
-            let reach: f64 = sections.iter().map(|section| section.reach).sum();
-            let levels = levels(&file, &[16384; 8000]);
-            assert_eq!(levels[0].0 + 1, first_level(&file));
-            let settled = levels.iter().filter(|(at, _)| *at as f64 >= reach);
-            assert!(settled.clone().count() > 3);
-            settled.for_each(|(_, level)| close(*level, 0.5 * gain));
-        }
-    }
-
-    #[test]
-    fn a_slow_rise_shows_after_the_delay() {
-        for text in [FULL, PLAIN, UNEVEN] {
-            let file = LineFile::parse("f", text).unwrap();
-            let sections = sections(&file).unwrap();
-            let gain: f64 = sections.iter().map(|section| section.gain).product();
-            let delay: f64 = sections.iter().map(|section| section.delay).sum();
-            let every = sections[sections.len() - 1].samples_per_value;
-            let rise: Vec<i32> = (0..8000).map(|at| 4 * at).collect();
-            let levels = levels(&file, &rise);
-            for (k, (at, level)) in levels.iter().enumerate().skip(levels.len() / 2) {
-                let time = levels[0].0 as f64 + k as f64 * every;
-                assert!((time - *at as f64).abs() < every.max(64.0));
-                close(*level, 4.0 * (time - delay) / 32768.0 * gain);
-            }
-        }
-    }
 
     #[test]
     fn each_part_of_the_explanation_is_there() {

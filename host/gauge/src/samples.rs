@@ -57,6 +57,19 @@ impl Samples {
         }
     }
 
+    /// All samples that are left.
+    pub fn all(mut self) -> Result<Vec<i32>, Fault> {
+        const MOST: usize = 65536;
+        let (mut all, mut piece) = (Vec::new(), Vec::new());
+        loop {
+            self.read(&mut piece, MOST)?;
+            all.extend(&piece);
+            if piece.len() < MOST {
+                return Ok(all);
+            }
+        }
+    }
+
     fn read_text(&mut self, piece: &mut Vec<i32>, most: usize) -> Result<(), Fault> {
         let mut bytes = Vec::new();
         while piece.len() < most {

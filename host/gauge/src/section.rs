@@ -17,7 +17,7 @@ pub struct Section {
     pub gain: f64,
 }
 
-/// The sections of a line that are on, in their order.
+/// The sections of a line that are on, in their order. There is always one, the CIC decimator.
 pub fn sections(file: &LineFile) -> Result<Vec<Section>, Refusal> {
     let mut all = vec![cic(file)?];
     let mut add = |section: fn(&LineFile, f64) -> Section| {
@@ -34,6 +34,27 @@ pub fn sections(file: &LineFile) -> Result<Vec<Section>, Refusal> {
         add(resampler);
     }
     Ok(all)
+}
+
+/// All sections as one filter.
+pub fn whole(sections: &[Section]) -> Section {
+    Section {
+        name: "whole line",
+        samples_per_value: sections[sections.len() - 1].samples_per_value,
+        delay: sections.iter().map(|section| section.delay).sum(),
+        reach: sections.iter().map(|section| section.reach).sum(),
+        gain: sections.iter().map(|section| section.gain).product(),
+    }
+}
+
+/// The samples up to and with the one that makes the first level.
+pub fn first_level(file: &LineFile) -> usize {
+    let halved = 1 << file.settings.depth;
+    let values = match file.taps.len() {
+        0 => halved,
+        taps => (halved - 1) * file.settings.factor + taps,
+    };
+    values * file.settings.r
 }
 
 // N moving sums of r samples, each (r - 1) / 2 late.
@@ -108,4 +129,59 @@ fn gain_and_delay(weights: impl Iterator<Item = (f64, f64)>) -> (f64, f64) {
     let sums = |(gain, moment), (age, weight)| (gain + weight, moment + age * weight);
     let (gain, moment) = weights.fold((0.0, 0.0), sums);
     (gain, moment / gain)
+}
+
+#[cfg(test)]
+mod tests {
+    use super::*;
+    use crate::convert::levels_of;
+
+    const FULL: &str = "stages = 3\nr = 4\ntaps = 8192 8192 8192 8192\nfactor = 2\ndepth = 2\nphases = 2\nphase_taps = 2\nprototype = 1 0.5 0 0.5\nstep = 1.5\n";
+    const PLAIN: &str = "stages = 2\nr = 5\n";
+    const UNEVEN: &str = "stages = 1\nr = 2\ntaps = 1000 2000 30000\nfactor = 5\ndepth = 3\n";
+
+    // Each level with the place of the sample that it came with.
+    fn levels(file: &LineFile, samples: &[i32]) -> Vec<(usize, f64)> {
+        let mut line = file.open().unwrap();
+        let mut all = Vec::new();
+        for (at, sample) in samples.iter().enumerate() {
+            let levels = levels_of(&mut line, &[*sample]).unwrap();
+            all.extend(levels.into_iter().map(|level| (at, f64::from(level))));
+        }
+        all
+    }
+
+    // The floors of sums and products take at most a few 32768ths.
+    fn close(level: f64, wanted: f64) {
+        assert!((level - wanted).abs() < 6.0 / 32768.0, "{level} {wanted}");
+    }
+
+    #[test]
+    fn a_steady_sample_settles_at_the_gain() {
+        for text in [FULL, PLAIN, UNEVEN] {
+            let file = LineFile::parse("f", text).unwrap();
+            let whole = whole(&sections(&file).unwrap());
+            let levels = levels(&file, &[16384; 8000]);
+            assert_eq!(levels[0].0 + 1, first_level(&file));
+            let settled = levels.iter().filter(|(at, _)| *at as f64 >= whole.reach);
+            assert!(settled.clone().count() > 3);
+            settled.for_each(|(_, level)| close(*level, 0.5 * whole.gain));
+        }
+    }
+
+    #[test]
+    fn a_slow_rise_shows_after_the_delay() {
+        for text in [FULL, PLAIN, UNEVEN] {
+            let file = LineFile::parse("f", text).unwrap();
+            let whole = whole(&sections(&file).unwrap());
+            let every = whole.samples_per_value;
+            let rise: Vec<i32> = (0..8000).map(|at| 4 * at).collect();
+            let levels = levels(&file, &rise);
+            for (k, (at, level)) in levels.iter().enumerate().skip(levels.len() / 2) {
+                let time = levels[0].0 as f64 + k as f64 * every;
+                assert!((time - *at as f64).abs() < every.max(64.0));
+                close(*level, 4.0 * (time - whole.delay) / 32768.0 * whole.gain);
+            }
+        }
+    }
 }

@@ -1,0 +1,81 @@
+//! `gauge plot`: samples and levels as a drawing.
+
+use crate::convert::levels_of;
+use crate::fault::Fault;
+use crate::format::Format;
+use crate::line_file::LineFile;
+use crate::options::Options;
+use crate::samples::Samples;
+use crate::section::{first_level, sections, whole};
+use crate::svg::{Series, drawing};
+use crate::target::Target;
+
+const OPTIONS: [&str; 4] = ["--settings", "--in", "--out", "--format"];
+
+/// Draws a recording and its levels as the arguments say.
+pub fn plot(arguments: &[String]) -> Result<(), Fault> {
+    let options = Options::parse(arguments, &OPTIONS)?;
+    let format = Format::named(options.get("--format").unwrap_or("text"))?;
+    let name = options.needed("--settings")?;
+    let file = LineFile::read(name)?;
+    let mut line = file.open()?;
+    let samples = Samples::open(options.get("--in").unwrap_or("-"), format)?.all()?;
+    let mut target = Target::create(options.get("--out").unwrap_or("-"))?;
+    let levels = levels_of(&mut line, &samples)?;
+    let places = Places::of(&file)?;
+    let series = [
+        places.samples(&samples),
+        places.levels("levels", "#c33", &levels),
+    ];
+    target.write(drawing(name, "sample", &series).as_bytes())?;
+    target.finish()
+}
+
+/// Where the samples and levels of a line stand in a drawing.
+pub struct Places {
+    first: f64,
+    every: f64,
+    gain: f64,
+}
+
+impl Places {
+    /// For the line of a settings file. A level stands at the sample that it tells of, its delay taken off.
+    pub fn of(file: &LineFile) -> Result<Places, Fault> {
+        let sections = sections(file).map_err(|refusal| Fault::file("the line", refusal))?;
+        let whole = whole(&sections);
+        let delay = Some(whole.delay).filter(|delay| delay.is_finite());
+        Ok(Places {
+            first: first_level(file) as f64 - 1.0 - delay.unwrap_or(0.0),
+            every: whole.samples_per_value,
+            gain: whole.gain,
+        })
+    }
+
+    /// The samples as levels: in 32768ths, times the gain of the line.
+    pub fn samples(&self, samples: &[i32]) -> Series<'static> {
+        let level = |sample: &i32| f64::from(*sample) / 32768.0 * self.gain;
+        Series {
+            name: "samples, times the line's gain",
+            colour: "#9bd",
+            points: samples
+                .iter()
+                .enumerate()
+                .map(|(at, s)| (at as f64, level(s)))
+                .collect(),
+        }
+    }
+
+    /// Levels, without those that tell of the time before the start.
+    pub fn levels<'a>(&self, name: &'a str, colour: &'a str, levels: &[f32]) -> Series<'a> {
+        let place = |k: usize| self.first + k as f64 * self.every;
+        let points = levels
+            .iter()
+            .enumerate()
+            .map(|(k, level)| (place(k), f64::from(*level)));
+        Series {
+            name,
+            colour,
+            points: points.filter(|(at, _)| *at >= 0.0).collect(),
+        }
+    }
+}
