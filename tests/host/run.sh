@@ -1,5 +1,5 @@
 #!/usr/bin/env bash
-# The interfaces for C and Rust: declarations, programs, pages, the crate. GAUGE_ARCHIVE names another archive to link.
+# The interfaces for C and Rust: declarations, programs, pages, the crate; the fitter's tool and the demo. GAUGE_ARCHIVE names another archive to link.
 set -euo pipefail
 cd "$(dirname "$0")/../.."
 

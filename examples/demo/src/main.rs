@@ -39,7 +39,7 @@ fn demonstrate(settings: &str, directory: &str) -> Result<(), Fault> {
     let held = holding_levels(&file, &samples)?;
     summarize(&samples, &levels, &held);
 
-    fs::create_dir_all(directory).map_err(|why| Fault::io(directory, &why))?;
+    fs::create_dir_all(directory).map_err(|why| Fault::file(directory, why))?;
     let within = |name: &str| format!("{directory}/{name}");
     write_samples(&within("recording.txt"), &samples)?;
     write_levels(&within("levels.txt"), &levels)?;

@@ -62,8 +62,8 @@ fn add_table(text: &mut String, sections: &[Section]) {
     add!(text, "");
     add!(
         text,
-        "Delay: how late a slow change shows. Gain: a steady sample of 32768 gives a level of {:.4}.",
-        whole.gain
+        "Delay: how late a slow change shows. Gain: a steady sample of 16384 gives a level of {:.4} where no value is cut to 16 bits.",
+        0.5 * whole.gain
     );
 }
 
@@ -120,7 +120,7 @@ fn add_passband(text: &mut String, depth: usize) {
     if depth < limits::MOST_DEPTH {
         add!(
             text,
-            "Only depth {} holds 140 dB up to 0.4. Here waves faster than half that rate come back as slow ones, at worst as strong as the first figure says.",
+            "Only depth {} holds 140 dB up to 0.4. Here faster waves come back as slow ones below 0.4, at worst as strong as the first figure says.",
             limits::MOST_DEPTH
         );
     }

@@ -2,7 +2,6 @@
 
 use std::error::Error;
 use std::fmt;
-use std::io;
 
 /// Why the tool stopped. It is shown as one line whatever stands in a file or an argument.
 #[derive(Clone, Debug, PartialEq, Eq)]
@@ -14,7 +13,7 @@ impl Fault {
         Fault(format!("gauge: {what}; gauge --help tells more"))
     }
 
-    /// What is wrong with a file as a whole.
+    /// What is wrong with a file as a whole: why it was not read or written, or what it has.
     pub fn file(file: &str, what: impl fmt::Display) -> Fault {
         Fault(format!("{file}: {what}"))
     }
@@ -22,11 +21,6 @@ impl Fault {
     /// What is wrong in one line of a file, counted from 1.
     pub fn line(file: &str, line: usize, what: impl fmt::Display) -> Fault {
         Fault(format!("{file}:{line}: {what}"))
-    }
-
-    /// A file that could not be read or written.
-    pub fn io(file: &str, why: &io::Error) -> Fault {
-        Fault::file(file, why)
     }
 }
 

@@ -21,7 +21,7 @@ pub struct LineFile {
 impl LineFile {
     /// Reads a settings file and the files that it names.
     pub fn read(file: &str) -> Result<LineFile, Fault> {
-        let text = fs::read_to_string(file).map_err(|why| Fault::io(file, &why))?;
+        let text = fs::read_to_string(file).map_err(|why| Fault::file(file, why))?;
         LineFile::parse(file, &text)
     }
 

@@ -22,7 +22,7 @@ impl Samples {
             let source = Box::new(BufReader::new(io::stdin()));
             return Ok(Samples::from_source("standard input", source, format));
         }
-        let file = File::open(name).map_err(|why| Fault::io(name, &why))?;
+        let file = File::open(name).map_err(|why| Fault::file(name, why))?;
         let bytes = file.metadata().ok().filter(|data| data.is_file());
         Ok(Samples {
             bytes: bytes.map(|data| data.len()),
@@ -75,7 +75,7 @@ impl Samples {
         while piece.len() < most {
             bytes.clear();
             let read = self.source.read_until(b'\n', &mut bytes);
-            if read.map_err(|why| Fault::io(&self.name, &why))? == 0 {
+            if read.map_err(|why| Fault::file(&self.name, why))? == 0 {
                 break;
             }
             self.line += 1;
@@ -100,7 +100,7 @@ impl Samples {
         let mut bytes = Vec::new();
         let mut ahead = (&mut self.source).take(4 * most as u64);
         let read = ahead.read_to_end(&mut bytes);
-        read.map_err(|why| Fault::io(&self.name, &why))?;
+        read.map_err(|why| Fault::file(&self.name, why))?;
         self.bytes_read += bytes.len() as u64;
         if bytes.len() % 4 != 0 {
             let what = format!("ends within a sample, at byte {}", self.bytes_read);

@@ -20,7 +20,7 @@ impl Target {
         if name == "-" {
             return Ok(Target::to("standard output", Box::new(io::stdout()), None));
         }
-        Target::create_file(name).map_err(|why| Fault::io(name, &why))
+        Target::create_file(name).map_err(|why| Fault::file(name, why))
     }
 
     fn to(name: &str, out: Box<dyn Write>, unfinished: Option<(PathBuf, PathBuf)>) -> Target {
@@ -50,7 +50,7 @@ impl Target {
     /// Writes bytes behind those written so far.
     pub fn write(&mut self, bytes: &[u8]) -> Result<(), Fault> {
         let written = self.writer.write_all(bytes);
-        written.map_err(|why| Fault::io(&self.name, &why))
+        written.map_err(|why| Fault::file(&self.name, why))
     }
 
     /// All is written: a file gets its name.
@@ -62,7 +62,7 @@ impl Target {
         if done.is_ok() {
             self.unfinished = None;
         }
-        done.map_err(|why| Fault::io(&self.name, &why))
+        done.map_err(|why| Fault::file(&self.name, why))
     }
 }
 

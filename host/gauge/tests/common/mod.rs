@@ -1,0 +1,63 @@
+//! A scratch directory for one test, and the tool run in it.
+
+use std::fs;
+use std::path::PathBuf;
+use std::process::{Command, Output};
+
+/// A line with every part on.
+pub const SETTINGS: &str = "stages = 3\nr = 4\ntaps = smooth.taps\nfactor = 2\ndepth = 2\nphases = 2\nphase_taps = 2\nprototype = 1 0.5 0 0.5\nstep = 0.75\n";
+
+/// A directory that is empty but for a line's settings and taps.
+pub struct Scratch(PathBuf);
+
+impl Scratch {
+    pub fn new(test: &str) -> Scratch {
+        let place = PathBuf::from(env!("CARGO_TARGET_TMPDIR")).join(test);
+        if place.exists() {
+            fs::remove_dir_all(&place).unwrap();
+        }
+        fs::create_dir_all(&place).unwrap();
+        let scratch = Scratch(place);
+        scratch.write("smooth.taps", "8192 8192 # two of four\n8192 8192\n");
+        scratch.write("line.settings", SETTINGS);
+        scratch
+    }
+
+    pub fn write(&self, name: &str, bytes: impl AsRef<[u8]>) {
+        fs::write(self.0.join(name), bytes).unwrap();
+    }
+
+    pub fn read(&self, name: &str) -> Vec<u8> {
+        fs::read(self.0.join(name)).unwrap()
+    }
+
+    /// The names of all files, sorted.
+    pub fn names(&self) -> Vec<String> {
+        let entries = fs::read_dir(&self.0).unwrap();
+        let name = |entry: fs::DirEntry| entry.file_name().into_string().unwrap();
+        let mut names: Vec<String> = entries.map(|entry| name(entry.unwrap())).collect();
+        names.sort();
+        names
+    }
+
+    /// Runs the tool with arguments that blanks divide.
+    pub fn gauge(&self, arguments: &str) -> Output {
+        Command::new(env!("CARGO_BIN_EXE_gauge"))
+            .args(arguments.split_whitespace())
+            .current_dir(&self.0)
+            .output()
+            .unwrap()
+    }
+}
+
+/// Some hundred samples that use the whole range.
+pub fn samples() -> Vec<i32> {
+    (0..900i32)
+        .map(|at| at.wrapping_mul(1_103_515_245).wrapping_add(12_345) >> (at % 17))
+        .collect()
+}
+
+/// Samples one a line.
+pub fn as_text(samples: &[i32]) -> String {
+    samples.iter().map(|sample| format!("{sample}\n")).collect()
+}
