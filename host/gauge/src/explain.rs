@@ -78,7 +78,8 @@ fn add_row(text: &mut String, section: &Section) {
         text,
         "{:18}{:>16}{:>18.8}{delay:>16}{:>10.4}",
         section.name,
-        section.samples_per_value,
+        // Without the digits that an f32 step leaves behind.
+        (section.samples_per_value * 1e4).round() / 1e4,
         1.0 / section.samples_per_value,
         section.gain
     );
@@ -139,6 +140,8 @@ mod tests {
         let text = explanation("f", &file).unwrap();
         assert!(text.starts_with("f: a state of 6544 bytes, 6 gain bits of at most 31\n"));
         assert!(text.contains("worst alias into 0 to 0.4    -15.0 dB"));
+        let file = LineFile::parse("f", &FULL.replace("1.5", "0.1")).unwrap();
+        assert!(explanation("f", &file).unwrap().contains(" 3.2 "));
         let file = LineFile::parse("f", PLAIN).unwrap();
         assert!(!explanation("f", &file).unwrap().contains("alias"));
     }

@@ -1,8 +1,6 @@
 //! How a recording is cut and written down changes no level.
 
-mod common;
-
-use common::{Scratch, as_text, samples};
+use crate::scratch::{Scratch, as_text, samples};
 
 const CUTTINGS: [&str; 5] = [
     "--piece 1 --span 1",
@@ -44,23 +42,6 @@ fn text_and_raw_are_the_same_levels() {
         .flat_map(|line| line.parse::<f32>().unwrap().to_le_bytes())
         .collect();
     assert_eq!(read, raw);
-}
-
-#[test]
-fn a_file_has_what_standard_output_has() {
-    let scratch = Scratch::new("out");
-    scratch.write("samples.txt", as_text(&samples()));
-    let printed = scratch
-        .gauge("run --settings line.settings --in samples.txt")
-        .stdout;
-    let run = scratch.gauge("run --settings line.settings --in samples.txt --out levels.txt");
-    assert!(run.status.success() && run.stdout.is_empty() && run.stderr.is_empty());
-    assert_eq!(scratch.read("levels.txt"), printed);
-    // A recording may be replaced by its levels: the place is taken at the end.
-    scratch.gauge("run --settings line.settings --in samples.txt --out samples.txt");
-    assert_eq!(scratch.read("samples.txt"), printed);
-    let names = ["levels.txt", "line.settings", "samples.txt", "smooth.taps"];
-    assert_eq!(scratch.names(), names);
 }
 
 #[test]

@@ -23,12 +23,16 @@ impl Scratch {
         scratch
     }
 
+    pub fn place(&self, name: &str) -> PathBuf {
+        self.0.join(name)
+    }
+
     pub fn write(&self, name: &str, bytes: impl AsRef<[u8]>) {
-        fs::write(self.0.join(name), bytes).unwrap();
+        fs::write(self.place(name), bytes).unwrap();
     }
 
     pub fn read(&self, name: &str) -> Vec<u8> {
-        fs::read(self.0.join(name)).unwrap()
+        fs::read(self.place(name)).unwrap()
     }
 
     /// The names of all files, sorted.

@@ -1,8 +1,6 @@
 //! What is wrong is told in one line with status 2, and no file is left behind.
 
-mod common;
-
-use common::{Scratch, as_text, samples};
+use crate::scratch::{Scratch, as_text, samples};
 
 const RUN: &str = "run --settings bad.settings --in samples.txt --out levels.txt";
 
