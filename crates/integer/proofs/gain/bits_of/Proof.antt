@@ -1,9 +1,8 @@
 -- `bits_of` meets its contract: the length of g - 1 in bits reaches g and is not twice as far as need be, and only the gain bits are that.
-use mathlib.Core.Path.{_≡_}
 use Prim.Native.Nat.{_-_}
 use native.Mathlib.Omega.{arith}
 use borrow.Author.Needs.{needs}
-use lib.Count.{leadingZeros, leading-le, leading-length}
+use lib.Count.{leading-le, leading-length}
 use Rattle.integer.specs.Gain.{bitsOf}
 use Rattle.integer.proofs.Bits.{bits-only}
 use Rattle.integer.proofs.gain.bits_of.Statement.{statement}
@@ -23,8 +22,7 @@ returns-2 : tie.Need-returns-2
 returns-2 c =
     let g = c .before .args .g in
     let l = leading-length 64 (g - 1) (omega arith) in
-    let e : 64 - leadingZeros 64 (g - 1) ≡ l .0 = omega (arith, l .1) in
-    rw e (bits-only g (l .0) (omega arith) (omega (arith, l .2)) (omega (arith, l .3)))
+    omega (arith, l .1, bits-only g (l .0) (omega arith) (omega (arith, l .2)) (omega (arith, l .3)))
 
 pub bits-of-spec : {M : Type 1} → statement M
 bits-of-spec = tie.close (tie.spec returns sub-result sub-result-2 returns-2)
