@@ -9,7 +9,7 @@ use Rattle.float.specs.HalfBand.{zero32}
 use Rattle.float.specs.declared.hbf_stream.HbfStreamOut.{HbfStreamOut}
 use Rattle.float.specs.declared.hbf_stream.HbfStreamOut.the-variants as stream
 
--- an output that may be missing: how many there are, and the output, or a zero where there is none
+-- an output that may be missing: how many there are, and the output, or a zero where there is none (01's table: "The counts and values of a refusal are 0")
 abbrev pub optional : {A : Type 0} → A → Option A → ℕ × A
 optional z none = (0, z)
 optional z (some y) = (1, y)
@@ -28,7 +28,7 @@ streamValue stream.Nothing = none
 streamValue (stream.Value y) = some y
 streamValue (stream.Refused q) = none
 
--- a step of the line: how many samples it took, how many outputs it wrote, and the output
+-- 01, section 6, "it took a sample, wrote one float sample, did both, or stopped": how many samples it took, how many outputs it wrote, and the output, or a zero
 abbrev pub moves : Event Float → ℕ × (ℕ × Float)
 moves took = (1, (0, zero32))
 moves (wrote y) = (0, (1, y))

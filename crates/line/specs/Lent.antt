@@ -1,4 +1,4 @@
--- The line as a caller has it who keeps its arrays: the numbers by value, the arrays lent.
+-- The line of 01, section 6, as a caller has it who keeps its arrays: the numbers by value, the arrays lent.
 use mathlib.Core.List.{List}
 use Prim.Native.Nat.{ℕ}
 use lib.IntN.{ℤ}
