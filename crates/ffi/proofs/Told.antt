@@ -1,18 +1,18 @@
 -- What a half-band call told is the number and the values of its output beside the state, case by case.
 use mathlib.Core.Path.{_≡_, refl}
 use Rattle.refusal.specs.Outcome.{Outcome}
-use Rattle.float.specs.HbfDec.{toldDecOut, decNone}
-use Rattle.float.specs.HbfInt.{toldIntOut, intNone}
-use Rattle.float.specs.HbfStream.{toldStreamOut}
-use Rattle.float.specs.declared.hbf_dec.HbfDec.{HbfDec}
-use Rattle.float.specs.declared.hbf_dec.HbfDecOut.{HbfDecOut}
-use Rattle.float.specs.declared.hbf_dec.HbfDecOut.the-variants as pair
-use Rattle.float.specs.declared.hbf_int.HbfInt.{HbfInt}
-use Rattle.float.specs.declared.hbf_int.HbfIntOut.{HbfIntOut}
-use Rattle.float.specs.declared.hbf_int.HbfIntOut.the-variants as both
-use Rattle.float.specs.declared.hbf_stream.HbfStream.{HbfStream}
-use Rattle.float.specs.declared.hbf_stream.HbfStreamOut.{HbfStreamOut}
-use Rattle.float.specs.declared.hbf_stream.HbfStreamOut.the-variants as stream
+use Rattle.half_band.specs.HbfDec.{toldDecOut, decNone}
+use Rattle.half_band.specs.HbfInt.{toldIntOut, intNone}
+use Rattle.half_band.specs.HbfStream.{toldStreamOut}
+use Rattle.half_band.specs.declared.hbf_dec.HbfDec.{HbfDec}
+use Rattle.half_band.specs.declared.hbf_dec.HbfDecOut.{HbfDecOut}
+use Rattle.half_band.specs.declared.hbf_dec.HbfDecOut.the-variants as pair
+use Rattle.half_band.specs.declared.hbf_int.HbfInt.{HbfInt}
+use Rattle.half_band.specs.declared.hbf_int.HbfIntOut.{HbfIntOut}
+use Rattle.half_band.specs.declared.hbf_int.HbfIntOut.the-variants as both
+use Rattle.half_band.specs.declared.hbf_stream.HbfStream.{HbfStream}
+use Rattle.half_band.specs.declared.hbf_stream.HbfStreamOut.{HbfStreamOut}
+use Rattle.half_band.specs.declared.hbf_stream.HbfStreamOut.the-variants as stream
 use Rattle.ffi.specs.Crossing.{streamNumber, streamValue}
 
 pub pair-told : (o : HbfDecOut) (s : HbfDec) → record { number = toldDecOut o decNone .number; value = toldDecOut o decNone .value; state = s } ≡ toldDecOut o s

@@ -5,9 +5,9 @@ use lib.Ieee.{Float}
 use Rattle.theory.specs.Feeds.{Event, took, wrote, both, stopped}
 use Rattle.refusal.specs.Table.{numberOf}
 use Rattle.refusal.specs.Outcome.{Outcome}
-use Rattle.float.specs.HalfBand.{zero32}
-use Rattle.float.specs.declared.hbf_stream.HbfStreamOut.{HbfStreamOut}
-use Rattle.float.specs.declared.hbf_stream.HbfStreamOut.the-variants as stream
+use Rattle.float.specs.F32.{zero32}
+use Rattle.half_band.specs.declared.hbf_stream.HbfStreamOut.{HbfStreamOut}
+use Rattle.half_band.specs.declared.hbf_stream.HbfStreamOut.the-variants as stream
 
 -- an output that may be missing: how many there are, and the output, or a zero where there is none (01's table: "The counts and values of a refusal are 0")
 abbrev pub optional : {A : Type 0} → A → Option A → ℕ × A

@@ -2,10 +2,10 @@
 use mathlib.Core.List.{List}
 use Prim.Native.Nat.{ℕ}
 use lib.Ieee.{Float}
-use Rattle.float.specs.declared.hbf_dec.HbfDec.{HbfDec}
-use Rattle.float.specs.declared.hbf_dec_cascade.HbfDecCascade.{HbfDecCascade}
-use Rattle.float.specs.declared.hbf_int.HbfInt.{HbfInt}
-use Rattle.float.specs.declared.hbf_int_cascade.HbfIntCascade.{HbfIntCascade}
+use Rattle.half_band.specs.declared.hbf_dec.HbfDec.{HbfDec}
+use Rattle.half_band.specs.declared.hbf_dec_cascade.HbfDecCascade.{HbfDecCascade}
+use Rattle.half_band.specs.declared.hbf_int.HbfInt.{HbfInt}
+use Rattle.half_band.specs.declared.hbf_int_cascade.HbfIntCascade.{HbfIntCascade}
 
 abbrev pub decOf : ℕ → List Float → List Float → HbfDec
 decOf m coeffs delay = record { m = m; coeffs = coeffs; delay = delay }

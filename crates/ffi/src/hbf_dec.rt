@@ -1,14 +1,14 @@
 // `HbfDec`: m, coeffs, delay.
 ghost use mathlib.Core.Path.{_≡_};
 ghost use lib.ListN.{length};
-ghost use Rattle.float.specs.HbfDec.{decOpening, decReset, decStep, decBlock, decSpan};
+ghost use Rattle.half_band.specs.HbfDec.{decOpening, decReset, decStep, decBlock, decSpan};
 ghost use Rattle.ffi.specs.States.{decOf};
 use crate::answers::count_number;
 use crate::answers::count_written;
 use crate::answers::opening_number;
 use crate::answers::pair_number;
 use crate::answers::pair_value;
-use float::HbfDec;
+use half_band::HbfDec;
 
 #[no_mangle]
 pub extern "C" fn gauge_hbf_dec_new(

@@ -1,12 +1,12 @@
 // `HbfDecCascade`: depth, delays.
 ghost use mathlib.Core.Path.{_≡_};
 ghost use lib.ListN.{length};
-ghost use Rattle.float.specs.HbfDecCascade.{decCascadeOpening, decCascadeReset, decCascadeBlock, decCascadeSpan};
+ghost use Rattle.half_band.specs.HbfDecCascade.{decCascadeOpening, decCascadeReset, decCascadeBlock, decCascadeSpan};
 ghost use Rattle.ffi.specs.States.{decCascadeOf};
 use crate::answers::count_number;
 use crate::answers::count_written;
 use crate::answers::opening_number;
-use float::HbfDecCascade;
+use half_band::HbfDecCascade;
 
 #[no_mangle]
 pub extern "C" fn gauge_hbf_dec_cascade_new(

@@ -1,7 +1,7 @@
 // `HbfInt`: m, coeffs, delay.
 ghost use mathlib.Core.Path.{_≡_};
 ghost use lib.ListN.{length};
-ghost use Rattle.float.specs.HbfInt.{intOpening, intReset, intStep, intBlock, intSpan};
+ghost use Rattle.half_band.specs.HbfInt.{intOpening, intReset, intStep, intBlock, intSpan};
 ghost use Rattle.ffi.specs.States.{intOf};
 use crate::answers::both_even;
 use crate::answers::both_number;
@@ -9,7 +9,7 @@ use crate::answers::both_odd;
 use crate::answers::count_number;
 use crate::answers::count_written;
 use crate::answers::opening_number;
-use float::HbfInt;
+use half_band::HbfInt;
 
 #[no_mangle]
 pub extern "C" fn gauge_hbf_int_new(

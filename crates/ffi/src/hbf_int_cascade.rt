@@ -1,12 +1,12 @@
 // `HbfIntCascade`: depth, delays.
 ghost use mathlib.Core.Path.{_≡_};
 ghost use lib.ListN.{length};
-ghost use Rattle.float.specs.HbfIntCascade.{intCascadeOpening, intCascadeReset, intCascadeBlock, intCascadeSpan};
+ghost use Rattle.half_band.specs.HbfIntCascade.{intCascadeOpening, intCascadeReset, intCascadeBlock, intCascadeSpan};
 ghost use Rattle.ffi.specs.States.{intCascadeOf};
 use crate::answers::count_number;
 use crate::answers::count_written;
 use crate::answers::opening_number;
-use float::HbfIntCascade;
+use half_band::HbfIntCascade;
 
 #[no_mangle]
 pub extern "C" fn gauge_hbf_int_cascade_new(

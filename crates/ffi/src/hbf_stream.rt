@@ -1,13 +1,13 @@
 // `HbfStream`: depth, delays, held, counts.
 ghost use mathlib.Core.Path.{_≡_};
-ghost use Rattle.float.specs.HalfBand.{zero32};
-ghost use Rattle.float.specs.HbfStream.{streamOf, streamOpening, streamReset, streamStep};
+ghost use Rattle.float.specs.F32.{zero32};
+ghost use Rattle.half_band.specs.HbfStream.{streamOf, streamOpening, streamReset, streamStep};
 ghost use Rattle.ffi.specs.Crossing.{crossed};
 use crate::answers::opening_number;
 use crate::answers::stream_made;
 use crate::answers::stream_number;
 use crate::answers::stream_value;
-use float::HbfStream;
+use half_band::HbfStream;
 
 #[no_mangle]
 pub extern "C" fn gauge_hbf_stream_new(

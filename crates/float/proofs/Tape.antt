@@ -1,19 +1,23 @@
--- A tape: a delay line stands on it from the newest sample on and a sample goes in before it, a window stands on it up to the newest and a sample goes in
--- behind it; what is read of the tape is the delay or the window that is moved.
+-- A delay line stands on a tape from the newest sample on, and a sample goes in before it: what is read of the tape is the delay that is moved.
 use mathlib.Core.Path.{_≡_, refl, sym, ap, _∙_}
 use mathlib.Core.List.{List, [], _∷_, _++_, append-assoc}
 use Prim.Native.Nat.{ℕ, zero, suc, _+_, _-_, _≤_, _<_}
 use native.Mathlib.Omega.{arith}
-use borrow.Author.Tests.{le-leb}
+use borrow.Author.Tests.{le-leb, le-ltb}
 use lib.ListN.{length, getD, List·getD-append, set, take, drop, take-append-drop, length-drop}
 use lib.Seq.{getD-take, length-take-le, set-split, take-at, drop-at, take-take, take-add, take-append-add, drop-append-add, drop-append-le}
 use lib.Ieee.{Float, nan}
 use Rattle.float.specs.PolyphaseResamp.{shiftedIn}
-use Rattle.float.specs.Windows.{slid}
+use Rattle.float.specs.Ending.{endingIn}
 
 -- the delay whose first T places stand on the tape, and whose others are those of d
 abbrev pub wound : ℕ → List Float → ℕ → List Float → List Float
 wound T tape newest d = take T (drop newest tape) ++ drop T d
+
+-- samples that fit stand at the end
+pub ends-in : (w span : List Float) → length w ≤ length span → endingIn w span ≡ take (length span - length w) span ++ w
+unfolding endingIn
+ends-in w span h = rw (le-ltb (length span) (length w) h)
 
 -- of the samples behind x only T − 1 stay
 one-more : (T : ℕ) (x : Float) (l a : List Float) → take T l ≡ take T a → take T (x ∷ l) ≡ take T (x ∷ a)
@@ -75,20 +79,3 @@ module _ (T : ℕ) (d : List Float) where
   wound-off tape last newest n same room h e =
       let long : length (take T (drop newest tape)) ≡ T = length-take-le T (drop newest tape) (simp length-drop (omega arith)) in
       ap (λ (l : List Float). l ++ drop T d) (put-over (take T d) (take n (drop newest tape)) last (rw same (long ∙ sym (length-take-le T d h))) e ∙ ap (λ (k : ℕ). take k (drop newest tape)) same)
-
--- ---- a window that moves along a tape, its newest at its end
-pub slid-on :
-    (n at : ℕ) (tape : List Float) (x : Float) → 1 ≤ n → at + n < length tape → take n (drop (at + 1) (set tape (at + n) x)) ≡ slid (take n (drop at tape)) (x ∷ [])
-unfolding slid
-slid-on n at tape x some room =
-    let head : List Float = take at tape in
-    let w : List Float = take n (drop at tape) in
-    let z : List Float = x ∷ drop (suc (at + n)) tape in
-    let before : length head ≡ at = length-take-le at tape (omega arith) in
-    let long : length w ≡ n = length-take-le n (drop at tape) (simp length-drop (omega arith)) in
-    let less : length (drop 1 w) + 1 ≡ n = simp length-drop (omega arith) in
-    ap (λ (l : List Float). take n (drop (at + 1) l)) (set-split tape (at + n) x room ∙ ap (λ (l : List Float). l ++ z) (take-add at n tape) ∙ append-assoc head w z)
-    ∙ ap (λ (k : ℕ). take n (drop (k + 1) (head ++ (w ++ z)))) (sym before)
-    ∙ ap (take n) (drop-append-add head (w ++ z) 1 ∙ drop-append-le 1 w z (omega arith))
-    ∙ ap (λ (k : ℕ). take k (drop 1 w ++ z)) (sym less)
-    ∙ take-append-add (drop 1 w) z 1

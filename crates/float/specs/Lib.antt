@@ -4,14 +4,4 @@ pub mod PolyphaseResamp
 pub mod PolyphaseWhole
 pub mod ResampleLinear
 pub mod Level
-pub mod HbfTaps
-pub mod HalfBand
-pub mod Windows
-pub mod Limits
-pub mod Answers
-pub mod HbfDec
-pub mod HbfStream
-pub mod HbfDecCascade
-pub mod HbfInt
-pub mod HbfIntCascade
-pub mod ResponseLength
+pub mod Ending

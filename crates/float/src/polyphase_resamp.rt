@@ -11,7 +11,7 @@ ghost use Rattle.float.specs.PolyphaseResamp as R;
 ghost use Rattle.float.specs.PolyphaseWhole as W;
 ghost use Rattle.refusal.specs.Table.{numberOf};
 use crate::cast::whole_part;
-use crate::half_band::put_at_end;
+use crate::span::put_at_end;
 use refusal::Count;
 use refusal::Opening;
 use refusal::Refusal;

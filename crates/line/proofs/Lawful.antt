@@ -21,11 +21,11 @@ use Rattle.q15.specs.FirDecimator.{fir}
 use Rattle.q15.specs.FirDecimator as Q
 use Rattle.q15.specs.declared.fir_decimator.FirDecimator.{FirDecimator}
 use Rattle.q15.proofs.FirSteps.{valid-next}
-use Rattle.float.specs.HbfStream.{hbfStream, streamRefused}
+use Rattle.half_band.specs.HbfStream.{hbfStream, streamRefused}
 use Rattle.float.specs.PolyphaseResamp.{inLine, validInLine}
-use Rattle.float.specs.declared.hbf_stream.HbfStream.{HbfStream}
+use Rattle.half_band.specs.declared.hbf_stream.HbfStream.{HbfStream}
 use Rattle.float.specs.declared.polyphase_resamp.PolyphaseResampF32.{PolyphaseResampF32}
-use Rattle.float.proofs.HeldOnes.{next-not-refused}
+use Rattle.half_band.proofs.HeldOnes.{next-not-refused}
 use Rattle.float.proofs.PolyphaseRange as Res
 use Rattle.float.specs.Level.{level}
 use Rattle.line.specs.Line.{Parts, partsOf, ofParts, from3, from4, from5, chain, line, cicFine, halfBandFine, valid}

@@ -25,13 +25,13 @@ use Rattle.q15.specs.FirDecimator.{fir, firWhole, settingsNumber}
 use Rattle.q15.specs.FirDecimator as Q
 use Rattle.q15.proofs.FirStream.{fresh-streamed}
 use Rattle.q15.proofs.FirOpening as FirOpening
-use Rattle.float.specs.HalfBand.{decimatedBy}
-use Rattle.float.specs.HbfTaps.{stageTaps, decimation}
-use Rattle.float.specs.HbfStream.{hbfStream, streamFresh, streamOpening}
+use Rattle.half_band.specs.HalfBand.{decimatedBy}
+use Rattle.half_band.specs.HbfTaps.{stageTaps, decimation}
+use Rattle.half_band.specs.HbfStream.{hbfStream, streamFresh, streamOpening}
 use Rattle.float.specs.PolyphaseResamp.{inLine, inLimits, stepInLine, validInLine}
 use Rattle.float.specs.PolyphaseResamp as R
 use Rattle.float.specs.declared.polyphase_resamp.PolyphaseResampF32.{PolyphaseResampF32}
-use Rattle.float.proofs.HeldOnes.{fresh-not-refused, stream-meets}
+use Rattle.half_band.proofs.HeldOnes.{fresh-not-refused, stream-meets}
 use Rattle.float.proofs.PolyphaseRange.{line-fresh, line-off}
 use Rattle.float.proofs.PolyphaseWhole.{becomes-all, becomes-one, off-hands-on}
 use Rattle.float.specs.Level.{level}

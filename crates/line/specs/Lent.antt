@@ -7,7 +7,7 @@ use Rattle.theory.specs.Feeds as F
 use Rattle.refusal.specs.Outcome.{Outcome, Moved, countsAnswer}
 use Rattle.integer.specs.CicDecimator.{decimatorOf}
 use Rattle.q15.specs.FirDecimator.{firState}
-use Rattle.float.specs.HbfStream.{streamOf}
+use Rattle.half_band.specs.HbfStream.{streamOf}
 use Rattle.float.specs.PolyphaseResamp as R
 use Rattle.line.specs.Line.{stepNumber, eventOf}
 use Rattle.line.specs.Together.{bitsAt}

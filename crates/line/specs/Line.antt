@@ -24,11 +24,11 @@ use Rattle.q15.specs.Fixed.{cut}
 use Rattle.q15.specs.FirDecimator.{fir, settingsNumber}
 use Rattle.q15.specs.FirDecimator as Q
 use Rattle.q15.specs.declared.fir_decimator.FirDecimator.{FirDecimator}
-use Rattle.float.specs.Limits.{mostStages}
-use Rattle.float.specs.HbfStream.{hbfStream, streamFresh, streamRefused}
+use Rattle.half_band.specs.Limits.{mostStages}
+use Rattle.half_band.specs.HbfStream.{hbfStream, streamFresh, streamRefused}
 use Rattle.float.specs.PolyphaseResamp.{inLine, inLimits, stepInLine, validInLine}
 use Rattle.float.specs.PolyphaseResamp as R
-use Rattle.float.specs.declared.hbf_stream.HbfStream.{HbfStream}
+use Rattle.half_band.specs.declared.hbf_stream.HbfStream.{HbfStream}
 use Rattle.float.specs.declared.polyphase_resamp.PolyphaseResampF32.{PolyphaseResampF32}
 use Rattle.float.specs.Level.{level}
 use Rattle.line.specs.Outputs.{Opening}

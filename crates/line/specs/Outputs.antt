@@ -9,8 +9,8 @@ use mir.Syntax.{w16}
 use Rattle.integer.specs.MovingSums.{scaledSums}
 use Rattle.q15.specs.Fixed.{cut}
 use Rattle.q15.specs.FirDecimator.{firWhole}
-use Rattle.float.specs.HalfBand.{decimatedBy}
-use Rattle.float.specs.HbfTaps.{stageTaps, decimation}
+use Rattle.half_band.specs.HalfBand.{decimatedBy}
+use Rattle.half_band.specs.HbfTaps.{stageTaps, decimation}
 use Rattle.float.specs.PolyphaseWhole.{Becomes}
 use Rattle.float.specs.Level.{level}
 use Rattle.line.specs.declared.settings.Settings.{Settings}

@@ -17,9 +17,9 @@ use Rattle.integer.specs.declared.cic_decimator.CicDecimator.{CicDecimator}
 use Rattle.q15.specs.FirDecimator.{firState, firValid}
 use Rattle.q15.specs.declared.fir_decimator.FirDecimator.{FirDecimator}
 use Rattle.float.specs.F32.{one32}
-use Rattle.float.specs.HbfStream.{streamOf, streamRefused}
+use Rattle.half_band.specs.HbfStream.{streamOf, streamRefused}
 use Rattle.float.specs.PolyphaseResamp as R
-use Rattle.float.specs.declared.hbf_stream.HbfStream.{HbfStream}
+use Rattle.half_band.specs.declared.hbf_stream.HbfStream.{HbfStream}
 use Rattle.float.specs.declared.polyphase_resamp.PolyphaseResampF32.{PolyphaseResampF32}
 use Rattle.line.specs.Line.{fedLine}
 use Rattle.line.specs.declared.gauge_line.Line.{Line}

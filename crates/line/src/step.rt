@@ -4,15 +4,15 @@ ghost use mathlib.Core.Bool.{true};
 ghost use lib.ListN.{drop};
 ghost use Rattle.theory.specs.Feeds.{step, headOf, taking};
 ghost use Rattle.integer.specs.Gain.{gainBits};
-ghost use Rattle.float.specs.HbfStream.{valueOf};
+ghost use Rattle.half_band.specs.HbfStream.{valueOf};
 ghost use Rattle.float.specs.PolyphaseResamp.{inLimits};
 ghost use Rattle.line.specs.Line as L;
 ghost use Rattle.line.specs.Together as T;
 use crate::sample::Fixed;
 use crate::sample::Numbers;
 use crate::sample::sample_in;
-use float::hbf_stream::HbfOut;
 use float::polyphase_resamp::interpolate;
+use half_band::hbf_stream::HbfOut;
 
 // What a step of a valid line did.
 pub enum Did {

@@ -1,8 +1,8 @@
 // The reading of section 4.
 use crate::print::hundredths;
 use crate::print::words;
-use float::HbfDec;
-use float::HbfDecOut;
+use half_band::HbfDec;
+use half_band::HbfDecOut;
 
 fn shown(out: HbfDecOut) {
     match out {

@@ -1,9 +1,9 @@
 // The operations of HbfDec. `w` is the words behind an operation's code: its inputs, then the answers. Slices that it lends are read before.
 use crate::answers::same_written;
-use float::HbfDec;
-use float::HbfDecOpening;
-use float::HbfDecOut;
-use float::HbfDecStep;
+use half_band::HbfDec;
+use half_band::HbfDecOpening;
+use half_band::HbfDecOut;
+use half_band::HbfDecStep;
 use records::answers::same_opening;
 use records::answers::same_refusal;
 use records::slices::behind;

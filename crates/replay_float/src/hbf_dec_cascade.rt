@@ -1,7 +1,7 @@
 // The operations of HbfDecCascade. `w` is the words behind an operation's code: its inputs, then the answers. Slices that it lends are read before.
 use crate::answers::same_written;
-use float::HbfDecCascade;
-use float::HbfDecCascadeOpening;
+use half_band::HbfDecCascade;
+use half_band::HbfDecCascadeOpening;
 use records::answers::same_opening;
 use records::slices::behind;
 use records::slices::lend_floats;

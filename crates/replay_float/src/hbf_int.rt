@@ -1,9 +1,9 @@
 // The operations of HbfInt. `w` is the words behind an operation's code: its inputs, then the answers. Slices that it lends are read before.
 use crate::answers::same_written;
-use float::HbfInt;
-use float::HbfIntOpening;
-use float::HbfIntOut;
-use float::HbfIntStep;
+use half_band::HbfInt;
+use half_band::HbfIntOpening;
+use half_band::HbfIntOut;
+use half_band::HbfIntStep;
 use records::answers::same_opening;
 use records::answers::same_refusal;
 use records::slices::behind;

@@ -1,7 +1,7 @@
 // The operations of HbfIntCascade. `w` is the words behind an operation's code: its inputs, then the answers. Slices that it lends are read before.
 use crate::answers::same_written;
-use float::HbfIntCascade;
-use float::HbfIntCascadeOpening;
+use half_band::HbfIntCascade;
+use half_band::HbfIntCascadeOpening;
 use records::answers::same_opening;
 use records::slices::behind;
 use records::slices::lend_floats;

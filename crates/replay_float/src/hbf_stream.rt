@@ -1,8 +1,8 @@
 // The operations of HbfStream. Each takes the words behind its code: its inputs, then the answers.
-use float::HbfStream;
-use float::HbfStreamOpening;
-use float::HbfStreamOut;
-use float::HbfStreamStep;
+use half_band::HbfStream;
+use half_band::HbfStreamOpening;
+use half_band::HbfStreamOut;
+use half_band::HbfStreamStep;
 use records::answers::same_opening;
 use records::answers::same_refusal;
 use records::slices::behind;

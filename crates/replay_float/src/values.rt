@@ -1,12 +1,12 @@
 // What has no state: linear resampling, Q15 to f32, the response lengths, the half-band table. Each takes the words behind its code: its inputs, then the
 // answers.
 use crate::answers::same_written;
-use float::ResponseLength;
-use float::hbf_dec_response_length;
-use float::hbf_int_response_length;
-use float::hbf_tap_table;
 use float::q15_to_f32;
 use float::resample_linear_f32;
+use half_band::ResponseLength;
+use half_band::hbf_dec_response_length;
+use half_band::hbf_int_response_length;
+use half_band::hbf_tap_table;
 use q15::Q15;
 use records::answers::same_refusal;
 use records::slices::behind;

@@ -1,6 +1,6 @@
 -- `gauge_hbf_stream_process_sample` meets its contract: it hands over what the layer's `process_sample` answers, field by field.
 use mathlib.Core.Path.{_≡_, ap, _∙_}
-use Rattle.float.specs.HalfBand.{zero32}
+use Rattle.float.specs.F32.{zero32}
 use Rattle.ffi.specs.Crossing.{crossed}
 use borrow.Author.Needs.{needs}
 use Rattle.ffi.proofs.Told.{stream-told}

@@ -15,7 +15,7 @@ use Rattle.float.specs.PolyphaseOutput.{output}
 use Rattle.float.specs.PolyphaseResamp.{consumed, outputOf, passed, resampler, together}
 use Rattle.float.proofs.PolyphaseCalls.{finished}
 use Rattle.float.proofs.PolyphaseOutput.{Limits, limits-say, outputs-alike}
-use Rattle.float.proofs.Tape.{wound, wound-start, wound-in, wound-at, wound-off}
+use Rattle.float.proofs.Tape.{ends-in, wound, wound-start, wound-in, wound-at, wound-off}
 use Rattle.float.proofs.polyphase_resamp.run.Statement.{statement}
 use Rattle.float.proofs.polyphase_resamp.run.Tie as tie
 
@@ -45,7 +45,7 @@ slice-aggregate-put-at-end-2 : tie.Need-slice-aggregate-put-at-end-2 Inv-loop μ
 slice-aggregate-put-at-end-2 c = sym (taps-long (c .before .before .before .before .before))
 
 put-at-end-requires : tie.Need-put-at-end-requires Inv-loop μ-loop
-put-at-end-requires c κs = let s = c .before .before .before .before .before in omega (arith, taps-long s, limits s .few-taps)
+put-at-end-requires c κs = search needs
 
 sub-newest : tie.Need-sub-newest Inv-loop μ-loop
 sub-newest c = let s = c .before .before .before .before .before .before .before in omega (arith, limits s .few-taps)
@@ -55,8 +55,9 @@ loop-holds c =
     let s = c .before .before .before .before .before .before .before in
     let a = s .args in
     let few = limits s .few-taps in
+    let fits : length (take (a .taps) (now (a .delay))) ≤ 80 = omega (arith, taps-long s, few) in
     let start : wound (a .taps) (c .before .put-at-end .last .0) (80 - a .taps) (now (a .delay)) ≡ now (a .delay) =
-    rw (c .before .put-at-end .ensures, taps-long s) (wound-start (a .taps) (now (a .delay)) (replicate 80 zero32) (omega arith)) in
+    rw (c .before .put-at-end .ensures, ends-in (take (a .taps) (now (a .delay))) (replicate 80 zero32) fits, taps-long s) (wound-start (a .taps) (now (a .delay)) (replicate 80 zero32) (omega arith)) in
     (rw start (between-start resampler (together (a .phases) (a .taps) (a .mu) (a .step) (now (a .delay)) (now (a .prototype))) (now (a .src)) (now (a .dst))), omega arith, c .before .put-at-end .kept .0)
 
 mul-interpolate-within : tie.Need-mul-interpolate-within Inv-loop μ-loop
@@ -148,10 +149,7 @@ part-put-at-end-end : tie.Need-part-put-at-end-end Inv-loop μ-loop
 part-put-at-end-end c = search needs
 
 put-at-end-requires-2 : tie.Need-put-at-end-requires-2 Inv-loop μ-loop
-put-at-end-requires-2 c κs =
-    let l = c .before .before .before .before .loop in
-    let s = c .before .before .before .before .before .before .before .before .before .before .before .before in
-    omega (arith, taps-long s, length-take (l .newest + s .args .taps - l .newest) (drop (l .newest) (l .tape)))
+put-at-end-requires-2 c κs = search needs
 
 same-length : tie.Need-same-length Inv-loop μ-loop
 same-length c = c .before .before .before .before .before .before .loop .inv .0 .same
@@ -170,7 +168,8 @@ returns c =
     let l = c .before .before .before .before .before .before .loop in
     let s = c .before .before .before .before .before .before .before .before .before .before .before .before .before .before in
     let a = s .args in
-    let off = wound-off (a .taps) (now (a .delay)) (l .tape) (c .before .put-at-end2 .last .0) (l .newest) (l .newest + a .taps - l .newest) (omega arith) (omega (arith, l .inv)) (omega (arith, limits s .few-taps, s .pre .1)) (c .before .put-at-end2 .ensures) in
+    let fits : length (take (l .newest + a .taps - l .newest) (drop (l .newest) (l .tape))) ≤ length (take (a .taps) (now (a .delay))) = omega (arith, taps-long s, length-take (l .newest + a .taps - l .newest) (drop (l .newest) (l .tape))) in
+    let off = wound-off (a .taps) (now (a .delay)) (l .tape) (c .before .put-at-end2 .last .0) (l .newest) (l .newest + a .taps - l .newest) (omega arith) (omega (arith, l .inv)) (omega (arith, limits s .few-taps, s .pre .1)) (c .before .put-at-end2 .ensures ∙ ends-in _ _ fits) in
     rw off (finished _ _ _ _ _ _ _ _ _ _ _ (l .inv .0) (ended (c .before .before .before .before .before)))
 
 pub run-spec : {M : Type 1} → statement M

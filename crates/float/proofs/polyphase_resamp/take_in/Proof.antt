@@ -6,7 +6,7 @@ use borrow.Author.Needs.{needs}
 use denote.Ref.{now}
 use lib.ListN.{length, take, length-set}
 use lib.Seq.{length-take-le}
-use Rattle.float.proofs.Tape.{before-newest, wound-back}
+use Rattle.float.proofs.Tape.{ends-in, before-newest, wound-back}
 use Rattle.float.proofs.polyphase_resamp.take_in.Statement.{statement}
 use Rattle.float.proofs.polyphase_resamp.take_in.Tie as tie
 
@@ -21,7 +21,7 @@ slice-aggregate-put-at-end : tie.Need-slice-aggregate-put-at-end
 slice-aggregate-put-at-end c = sym (taps-long c)
 
 put-at-end-requires : tie.Need-put-at-end-requires
-put-at-end-requires c κs = omega (arith, taps-long c, c .before .before .before .before .pre)
+put-at-end-requires c κs = search needs
 
 sub-before : tie.Need-sub-before
 sub-before c = search needs
@@ -40,10 +40,11 @@ returns c =
     let s = c .before .before .before .before .before in
     let p = s .pre in
     let long : length (c .put-at-end .last .0) ≡ length (now (s .args .tape)) = c .put-at-end .kept .0 in
+    let fits : length (take (s .args .taps) (now (s .args .tape))) ≤ length (now (s .args .tape)) = omega (arith, taps-long (c .before), p) in
     let room : s .args .taps < length (now (s .args .tape)) = omega (arith, p) in (
       simp length-set (long ∙ p .0),
       omega (arith, p),
-      rw (c .before .before .before .before .if1 .taken) (rw (p .0) at (wound-back (s .args .taps) (s .args .x) (now (s .args .tape)) (c .put-at-end .last .0) room long (c .put-at-end .ensures))),
+      rw (c .before .before .before .before .if1 .taken) (rw (p .0) at (wound-back (s .args .taps) (s .args .x) (now (s .args .tape)) (c .put-at-end .last .0) room long (c .put-at-end .ensures ∙ ends-in _ _ fits))),
     )
 
 sub-before-3 : tie.Need-sub-before-3

@@ -5,7 +5,7 @@ use borrow.Author.Needs.{needs}
 use denote.Ref.{now}
 use Rattle.refusal.specs.Outcome.{Opened}
 use Rattle.line.specs.Line.{fresh}
-use Rattle.float.specs.declared.hbf_stream.HbfStream.{HbfStream}
+use Rattle.half_band.specs.declared.hbf_stream.HbfStream.{HbfStream}
 use Rattle.q15.specs.declared.fir_decimator.FirDecimator.{FirDecimator}
 use Rattle.integer.specs.declared.cic_decimator.CicDecimator.{CicDecimator}
 use Rattle.line.specs.Outputs.{Opening}

@@ -8,7 +8,7 @@ use Rattle.integer.specs.Opening.{opening}
 use Rattle.q15.specs.FirDecimator.{settingsNumber}
 use Rattle.q15.specs.FirDecimator as Q
 use Rattle.line.specs.Line.{zeros}
-use Rattle.float.specs.declared.hbf_stream.HbfStream.{HbfStream}
+use Rattle.half_band.specs.declared.hbf_stream.HbfStream.{HbfStream}
 use Rattle.q15.specs.declared.fir_decimator.FirDecimator.{FirDecimator}
 use Rattle.integer.specs.declared.cic_decimator.CicDecimator.{CicDecimator}
 use Rattle.line.proofs.gauge_line.zeros.Statement.{statement}

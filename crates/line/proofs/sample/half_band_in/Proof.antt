@@ -1,7 +1,7 @@
 -- `half_band_in` meets its contract: the stages make nothing, or a level that the resampler takes.
 use mathlib.Core.Path.{_≡_, sym, ap, _∙_}
 use borrow.Author.Needs.{needs}
-use Rattle.float.specs.HbfStream.{hbfStream, valueOf}
+use Rattle.half_band.specs.HbfStream.{hbfStream, valueOf}
 use Rattle.line.specs.Line.{from5}
 use Rattle.line.proofs.Taking.{takes-none, takes-some}
 use Rattle.line.proofs.sample.half_band_in.Statement.{statement}

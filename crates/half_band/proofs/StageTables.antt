@@ -1,0 +1,105 @@
+-- The stages of a table: each has 1 to 23 taps, which lie in the table; and the code's constants are section 4's.
+use mathlib.Core.Path.{_≡_, refl, sym, ap, _∙_, subst}
+use mathlib.Core.List.{List, [], _∷_}
+use Prim.Native.Nat.{ℕ, zero, suc, _+_, _-_, _*_, _^_, _≤_, _<_}
+use native.Mathlib.Omega.{arith}
+use lib.Dec.{lit≤}
+use lib.ListN.{length, getD, take, drop, length-drop}
+use lib.Seq.{length-take-le}
+use lib.Ieee.{Float}
+use Rattle.half_band.specs.HbfTaps.{Table, stageTaps, PlaceOf, decimation, interpolation}
+use Rattle.half_band.proofs.Decimals.{patterns, taps-printed}
+
+-- five stages, each of 1 to 23 taps
+pub record FiveStages (taps : ℕ → List Float) : Type 0 where
+  pub least : (k : ℕ) → k < 5 → 1 ≤ length (taps k)
+  pub most : (k : ℕ) → k < 5 → length (taps k) ≤ 23
+
+-- the taps of stage k lie in the table
+pub record Placed (first count : ℕ) : Type 0 where
+  pub least : 1 ≤ count
+  pub most : count ≤ 23
+  pub inside : first + count ≤ 45
+
+-- what holds of five numbers holds below 5
+by-five : (P : ℕ → Type 0) → P 0 → P 1 → P 2 → P 3 → P 4 → (k : ℕ) → k < 5 → P k
+by-five P a b c d e zero h = a
+by-five P a b c d e (suc zero) h = b
+by-five P a b c d e (suc (suc zero)) h = c
+by-five P a b c d e (suc (suc (suc zero))) h = d
+by-five P a b c d e (suc (suc (suc (suc zero)))) h = e
+by-five P a b c d e (suc (suc (suc (suc (suc k))))) h = absurd (omega arith)
+
+-- a table over the code's taps
+pub record Fits (t : Table) : Type 0 where
+  pub patterns-are : patterns ≡ t .taps
+  pub placed : (k : ℕ) → k < 5 → Placed (getD (t .starts) k 0) (getD (t .lengths) k 0)
+
+pub dec-fits : Fits decimation
+unfolding decimation
+dec-fits =
+    record {
+      patterns-are = taps-printed;
+      placed = by-five (λ k. Placed (getD (decimation .starts) k 0) (getD (decimation .lengths) k 0)) (record { least = lit≤ tt; most = lit≤ tt; inside = lit≤ tt })
+          (record { least = lit≤ tt; most = lit≤ tt; inside = lit≤ tt }) (record { least = lit≤ tt; most = lit≤ tt; inside = lit≤ tt })
+          (record { least = lit≤ tt; most = lit≤ tt; inside = lit≤ tt }) (record { least = lit≤ tt; most = lit≤ tt; inside = lit≤ tt });
+    }
+
+pub int-fits : Fits interpolation
+unfolding interpolation
+int-fits =
+    record {
+      patterns-are = taps-printed;
+      placed = by-five (λ k. Placed (getD (interpolation .starts) k 0) (getD (interpolation .lengths) k 0)) (record { least = lit≤ tt; most = lit≤ tt; inside = lit≤ tt })
+          (record { least = lit≤ tt; most = lit≤ tt; inside = lit≤ tt }) (record { least = lit≤ tt; most = lit≤ tt; inside = lit≤ tt })
+          (record { least = lit≤ tt; most = lit≤ tt; inside = lit≤ tt }) (record { least = lit≤ tt; most = lit≤ tt; inside = lit≤ tt });
+    }
+
+less : (a b : ℕ) → a + b - a ≡ b
+less a b = omega arith
+
+module _ (t : Table) (fits : Fits t) where
+  -- stage k at the place that the code finds
+  module _ (k first count : ℕ) (h : k < 5) (p : PlaceOf t k first count) where
+    pub place : Placed first count
+    place =
+        subst (λ (n : ℕ). Placed n count) (sym (p .begins)) (subst (λ (n : ℕ). Placed (getD (t .starts) k 0) n) (sym (p .counted)) (fits .placed k h))
+
+    -- the part of the code's table
+    pub part-taps : take (first + count - first) (drop first patterns) ≡ stageTaps t k
+    unfolding stageTaps
+    part-taps =
+        ap (λ (n : ℕ). take n (drop first patterns)) (less first count ∙ p .counted)
+        ∙ ap (λ (n : ℕ). take (getD (t .lengths) k 0) (drop n patterns)) (p .begins)
+        ∙ ap (λ (l : List Float). take (getD (t .lengths) k 0) (drop (getD (t .starts) k 0) l)) (fits .patterns-are)
+
+    pub stage-length : length (stageTaps t k) ≡ count
+    stage-length =
+        ap length (sym part-taps) ∙ length-take-le (first + count - first) (drop first patterns) (simp length-drop (omega (arith, place .inside))) ∙ less first count
+
+    -- the part of the delays, s samples for each tap
+    pub part-count : (s distance : ℕ) → distance * k + s * count - distance * k ≡ s * length (stageTaps t k)
+    part-count s distance = less (distance * k) (s * count) ∙ ap (λ (n : ℕ). s * n) (sym stage-length)
+
+  stages : FiveStages (stageTaps t)
+  stages =
+      record {
+        least = λ k h. let e = stage-length k (getD (t .starts) k 0) (getD (t .lengths) k 0) h (record { begins = refl; counted = refl }) in omega (arith, fits .placed k h .least);
+        most = λ k h. let e = stage-length k (getD (t .starts) k 0) (getD (t .lengths) k 0) h (record { begins = refl; counted = refl }) in omega (arith, fits .placed k h .most);
+      }
+
+pub dec-stages : FiveStages (stageTaps decimation)
+dec-stages = stages decimation dec-fits
+
+pub int-stages : FiveStages (stageTaps interpolation)
+int-stages = stages interpolation int-fits
+
+-- the rate changes by 2^d
+pub rate : (d : ℕ) → d ≤ 5 → getD (1 ∷ 2 ∷ 4 ∷ 8 ∷ 16 ∷ 32 ∷ []) d 0 ≡ 2 ^ d
+rate zero h = refl
+rate (suc zero) h = refl
+rate (suc (suc zero)) h = refl
+rate (suc (suc (suc zero))) h = refl
+rate (suc (suc (suc (suc zero)))) h = refl
+rate (suc (suc (suc (suc (suc zero))))) h = refl
+rate (suc (suc (suc (suc (suc (suc d)))))) h = absurd (omega arith)

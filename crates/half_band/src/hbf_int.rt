@@ -1,0 +1,144 @@
+// 01, section 7: the half-band interpolator, an even and an odd output of each sample.
+ghost use mathlib.Core.Path.{_≡_};
+ghost use lib.ListN.{length};
+ghost use Rattle.refusal.specs.Outcome.{openingNumber};
+ghost use Rattle.half_band.specs.Answers.{toldOpening, toldCount};
+ghost use Rattle.half_band.specs.HbfInt.{intOpening, intReset, intStep, intBlock, intSpan, toldIntStep, IntMeets};
+use crate::half_band::interpolate;
+use crate::half_band::padded;
+use crate::half_band::take_sample;
+use crate::limits::MOST_HALF_BAND_TAPS;
+use crate::limits::lengths_refused;
+use crate::limits::outside;
+use crate::limits::pairs_in;
+use crate::limits::smaller;
+use refusal::Count;
+use refusal::Opening;
+use refusal::Refusal;
+
+// m taps in front of coeffs; the last 2m samples in front of delay, the newest at their end.
+pub struct HbfInt {
+    pub m: usize,
+    pub coeffs: [f32; 23],
+    pub delay: [f32; 48],
+}
+
+pub struct HbfIntOpening {
+    pub answer: Opening,
+    pub state: HbfInt,
+}
+
+pub enum HbfIntOut {
+    Values { even: f32, odd: f32 },
+    Refused(Refusal),
+}
+
+pub struct HbfIntStep {
+    pub out: HbfIntOut,
+    pub state: HbfInt,
+}
+
+pub struct HbfIntBlock {
+    pub answer: Count,
+    pub state: HbfInt,
+}
+
+impl HbfInt {
+    // An opening with the lent taps. Refusal 10: not 1 to 23 of them.
+    pub fn new(taps: &[f32]) -> HbfIntOpening
+        ensures answer { λ r. ⌜ toldOpening (r .answer) (r .state) ≡ intOpening (now (taps .entry)) ⌝ }
+        ensures meets { λ r. ⌜ (openingNumber (r .answer) ≡ 0 → IntMeets (now (taps .entry)) (r .state)) ⌝ }
+    {
+        let m = taps.len();
+        let delay = [0.0f32; 48];
+        if outside(m, 1, MOST_HALF_BAND_TAPS) {
+            let none = [0.0f32; 23];
+            return HbfIntOpening {
+                answer: Opening::Refused(Refusal::HalfBandTaps),
+                state: HbfInt {
+                    m: 0,
+                    coeffs: none,
+                    delay,
+                },
+            };
+        }
+        let coeffs = padded(taps);
+        HbfIntOpening {
+            answer: Opening::Opened,
+            state: HbfInt { m, coeffs, delay },
+        }
+    }
+
+    // One sample. Refusal 15.
+    pub fn process_sample(mut self, x: f32) -> HbfIntStep
+        ensures answer { λ r. ⌜ toldIntStep r ≡ intStep self x ⌝ }
+    {
+        let m = self.m;
+        if outside(m, 1, MOST_HALF_BAND_TAPS) {
+            return HbfIntStep {
+                out: HbfIntOut::Refused(Refusal::State),
+                state: self,
+            };
+        }
+        let coeffs = self.coeffs;
+        let mut delay = self.delay;
+        let y = take_sample(&mut delay[..2 * m], &coeffs[..m], x);
+        self.delay = delay;
+        HbfIntStep {
+            out: HbfIntOut::Values {
+                even: y.even,
+                odd: y.odd,
+            },
+            state: self,
+        }
+    }
+
+    // The samples of src, as many as dst has two places for. Refusals 15, 7.
+    pub fn process(mut self, src: &[f32], dst: &mut [f32]) -> HbfIntBlock
+        ensures answer { λ r. ⌜ toldCount (r .answer) (r .state) ≡ intBlock self (now (src .entry)) (length (now (dst .entry))) ⌝ }
+        ensures span { λ r. ⌜ now (dst .exit) ≡ intSpan self (now (src .entry)) (now (dst .entry)) ⌝ }
+    {
+        let m = self.m;
+        if outside(m, 1, MOST_HALF_BAND_TAPS) {
+            return HbfIntBlock {
+                answer: Count::Refused(Refusal::State),
+                state: self,
+            };
+        }
+        if lengths_refused(src.len(), dst.len()) {
+            return HbfIntBlock {
+                answer: Count::Refused(Refusal::Samples),
+                state: self,
+            };
+        }
+        let n = smaller(src.len(), pairs_in(dst.len()));
+        let coeffs = self.coeffs;
+        let mut delay = self.delay;
+        interpolate(
+            &mut delay[..2 * m],
+            &coeffs[..m],
+            &src[..n],
+            &mut dst[..2 * n],
+        );
+        self.delay = delay;
+        HbfIntBlock {
+            answer: Count::Written(2 * n),
+            state: self,
+        }
+    }
+
+    // A fresh opening with the same taps. Refusal 15.
+    pub fn reset(self) -> HbfIntOpening
+        ensures answer { λ r. ⌜ toldOpening (r .answer) (r .state) ≡ intReset self ⌝ }
+    {
+        let m = self.m;
+        if outside(m, 1, MOST_HALF_BAND_TAPS) {
+            return HbfIntOpening {
+                answer: Opening::Refused(Refusal::State),
+                state: self,
+            };
+        }
+        let coeffs = self.coeffs;
+        HbfInt::new(&coeffs[..m])
+    }
+}
