@@ -1,34 +1,17 @@
--- The linear resampler: what the tests of a block say, an output from its parts, and a span that a loop fills with one output for each place.
+-- The linear resampler: an output from its parts, and a span that a loop fills with one output for each place.
 use mathlib.Core.Path.{_≡_, refl, sym, ap, _∙_}
 use mathlib.Core.List.{List, [], _∷_, _++_}
-use mathlib.Core.Bool.{true, not, _&&_}
 use Prim.Native.Nat.{ℕ, _+_, _-_, _≤_, _<_, min}
 use native.Mathlib.Numerals.{add-one}
 use native.Mathlib.Omega.{arith}
-use borrow.Author.Tests.{le-leb, lt-leb, leb-true, eqb-false, not-true}
-use lib.Dec.{leb, eqb}
+use borrow.Author.Tests.{le-leb, lt-leb}
 use lib.ListN.{length, getD, set, take, length-set}
 use lib.Seq.{take-suc-set, take-all}
 use lib.IntN.{pos}
 use lib.Ieee.{Float, nan, binary32, ofInt, sub}
 use Rattle.theory.specs.Lists.{listed}
 use Rattle.float.specs.F32.{blend}
-use Rattle.float.specs.ResampleLinear.{position, indexOf, linearAt, blockFits}
-use Rattle.float.proofs.Flags.{both-true}
-
--- ---- what 7 leaves
-pub record Sizes (samples places : ℕ) : Type 0 where
-  pub some-samples : 1 ≤ samples
-  pub few-samples : samples ≤ 65536
-  pub few-places : places ≤ 65536
-
-pub fits-says : (samples places : ℕ) → blockFits samples places ≡ true → Sizes samples places
-unfolding blockFits
-fits-says samples places h =
-    let a = both-true (not (eqb samples 0)) (leb samples 65536 && leb places 65536) h in
-    let b = both-true (leb samples 65536) (leb places 65536) (a .1) in
-    let n : samples ≡ 0 → ⊥ = eqb-false samples 0 (not-true (eqb samples 0) (a .0)) in
-    record { some-samples = omega arith; few-samples = leb-true _ _ (b .0); few-places = leb-true _ _ (b .1) }
+use Rattle.float.specs.ResampleLinear.{position, indexOf, linearAt}
 
 -- ---- an output
 pub beyond : (s : List Float) (ratio : Float) (i k : ℕ) → k ≡ indexOf (position ratio i) → length s ≤ k → getD s (length s - 1) nan ≡ linearAt s ratio i

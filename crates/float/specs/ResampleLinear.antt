@@ -1,13 +1,14 @@
 -- 01, section 7: `resample_linear_f32` of the samples s with a ratio.
-use mathlib.Core.Bool.{Bool, not, _&&_, cond}
+use mathlib.Core.Bool.{cond}
 use mathlib.Core.List.{List}
 use Prim.Native.Nat.{ℕ, _+_, _-_, min}
-use lib.Dec.{leb, eqb}
+use lib.Dec.{leb}
 use lib.ListN.{length, getD}
 use lib.IntN.{pos}
 use lib.Ieee.{Float, nan, binary32, ofInt, toUnsigned, mul, sub}
 use Rattle.theory.specs.Lists.{listed}
 use Rattle.refusal.specs.Outcome.{Answer}
+use Rattle.refusal.specs.Rows.{samplesRefused}
 use Rattle.float.specs.F32.{aboveZero, blend}
 
 -- "i × ratio rounded to f32"
@@ -26,19 +27,11 @@ linearAt s ratio i =
     cond (leb (length s) k) (getD s (length s - 1) nan)
     (blend (getD s k nan) (getD s (min (k + 1) (length s - 1)) nan) (sub binary32 p (ofInt binary32 (pos k))))
 
--- refusal 7, "samples empty, or samples or span over 65,536"
-abbrev pub mostSamples : ℕ
-mostSamples = 65536
-
-unfoldable pub blockFits : ℕ → ℕ → Bool
-blockFits samples places = not (eqb samples 0) && (leb samples mostSamples && leb places mostSamples)
-
 -- 7, then 9; else the whole span o is written
 unfoldable pub linearAnswer : List Float → List Float → Float → Answer ℕ
 linearAnswer s o ratio =
-    cond (blockFits (length s) (length o))
+    cond (samplesRefused (length s) (length o)) (record { number = 7; value = 0 })
     (cond (aboveZero ratio) (record { number = 0; value = length o }) (record { number = 9; value = 0 }))
-    (record { number = 7; value = 0 })
 
 unfoldable pub linearSpan : List Float → List Float → Float → List Float
-linearSpan s o ratio = cond (blockFits (length s) (length o) && aboveZero ratio) (listed (length o) (linearAt s ratio)) o
+linearSpan s o ratio = cond (samplesRefused (length s) (length o)) o (cond (aboveZero ratio) (listed (length o) (linearAt s ratio)) o)

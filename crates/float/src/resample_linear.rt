@@ -3,13 +3,13 @@ ghost use mathlib.Core.Path.{_≡_};
 ghost use Prim.Native.Nat.{_+_, _-_, _<_, _≤_, min};
 ghost use lib.ListN.{length};
 ghost use Rattle.refusal.specs.Outcome.{countAnswer};
+ghost use Rattle.refusal.specs.Rows.{mostBlock};
 ghost use Rattle.float.specs.ResampleLinear as L;
 use crate::cast::f32_to_usize_saturating;
 use crate::polyphase_resamp::above_zero;
 use refusal::Count;
 use refusal::Refusal;
-
-pub const MOST_SAMPLES: usize = 65536;
+use refusal::rows::samples_refused;
 
 // The index after i, or the last of n where there is none.
 fn next_index(i: usize, n: usize) -> usize
@@ -24,7 +24,7 @@ fn next_index(i: usize, n: usize) -> usize
 
 // Output i.
 fn linear_at(src: &[f32], i: usize, ratio: f32) -> f32
-    requires { ⌜ (i ≤ L.mostSamples) × (1 ≤ length (now src)) × (length (now src) ≤ L.mostSamples) ⌝ }
+    requires { ⌜ (i ≤ mostBlock) × (1 ≤ length (now src)) × (length (now src) ≤ mostBlock) ⌝ }
     ensures { λ r. ⌜ r ≡ L.linearAt (now (src .entry)) ratio i ⌝ }
 {
     let position = (i as f32) * ratio;
@@ -38,22 +38,12 @@ fn linear_at(src: &[f32], i: usize, ratio: f32) -> f32
     src[index] * (1.0 - fraction) + src[next] * fraction
 }
 
-// Whether a block may have so many samples and places.
-fn block_fits(samples: usize, places: usize) -> bool
-    ensures { λ r. ⌜ r ≡ L.blockFits samples places ⌝ }
-{
-    if samples == 0 {
-        return false;
-    }
-    samples <= MOST_SAMPLES && places <= MOST_SAMPLES
-}
-
 // Fills dst with the outputs at 0, ratio, 2 × ratio, .. of src. Refused by 7 and 9.
 pub fn resample_linear_f32(src: &[f32], dst: &mut [f32], ratio: f32) -> Count
     ensures answer { λ r. ⌜ countAnswer r ≡ L.linearAnswer (now (src .entry)) (now (dst .entry)) ratio ⌝ }
     ensures span { λ r. ⌜ now (dst .exit) ≡ L.linearSpan (now (src .entry)) (now (dst .entry)) ratio ⌝ }
 {
-    if !block_fits(src.len(), dst.len()) {
+    if samples_refused(src.len(), dst.len()) {
         return Count::Refused(Refusal::Samples);
     }
     if !above_zero(ratio) {

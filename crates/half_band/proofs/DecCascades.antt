@@ -13,14 +13,15 @@ use lib.Ieee.{Float, nan}
 use Rattle.theory.specs.Sections.{state, outs}
 use Rattle.refusal.specs.declared.Count.the-variants.{Written}
 use Rattle.half_band.specs.Answers.{toldCount}
-use Rattle.half_band.specs.Limits.{lengthsRefused}
+use Rattle.refusal.specs.Rows.{samplesRefused}
 use Rattle.float.specs.F32.{zero32}
 use Rattle.half_band.specs.HbfTaps.{stageTaps, decimation}
 use Rattle.half_band.specs.HbfStream.{hbfStream, streamOf}
 use Rattle.half_band.specs.HbfDecCascade.{unheld, decCascadeAfter, decCascadeFresh, decCascadeRefused, decCascadeCount, decCascadeBlock, decCascadeSpan, DecCascadeMeets}
 use Rattle.half_band.specs.declared.hbf_stream.HbfStream.{HbfStream}
 use Rattle.half_band.specs.declared.hbf_dec_cascade.HbfDecCascade.{HbfDecCascade}
-use Rattle.half_band.proofs.Bounds.{Between, not-outside, third}
+use Rattle.refusal.proofs.Limits.{Between, not-outside}
+use Rattle.half_band.proofs.Choices.{third}
 use Rattle.half_band.proofs.Blocks.{Emitted, count-more}
 use Rattle.half_band.proofs.StageTables.{dec-stages}
 use Rattle.half_band.proofs.Streaming.{stream-whole}
@@ -48,7 +49,7 @@ module _ (d : ℕ) (delays : List Float) (deep : d ≤ 5) (long : length delays 
   all-made = made-of (frames * 2 ^ d) (omega arith) ∙ mul-div-left frames (pow-pos d)
 
 -- a block of so many frames that is not refused
-module _ (s : HbfDecCascade) (v span : List Float) (n : ℕ) (fine : decCascadeRefused s ≡ false) (in-limits : lengthsRefused (length v) (length span) ≡ false)
+module _ (s : HbfDecCascade) (v span : List Float) (n : ℕ) (fine : decCascadeRefused s ≡ false) (in-limits : samplesRefused (length v) (length span) ≡ false)
     (count : n ≡ decCascadeCount (s .depth) (length v) (length span)) where
   pub block-answer : (d : List Float) → d ≡ state hbfStream (unheld s) (take (n * 2 ^ s .depth) v) .delays
       → toldCount {S = HbfDecCascade} (Written n) (record { depth = s .depth; delays = d }) ≡ decCascadeBlock s v (length span)

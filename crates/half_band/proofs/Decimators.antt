@@ -10,13 +10,14 @@ use lib.Seq.{take-at}
 use lib.Ieee.{Float}
 use Rattle.theory.specs.Sections.{state, outs}
 use Rattle.refusal.specs.declared.Count.the-variants.{Written}
-use Rattle.half_band.specs.Limits.{lengthsRefused}
+use Rattle.refusal.specs.Rows.{samplesRefused}
 use Rattle.half_band.specs.Answers.{toldCount}
 use Rattle.float.specs.F32.{zero32}
 use Rattle.half_band.specs.Windows.{pairs, decimator}
 use Rattle.half_band.specs.HbfDec.{decTaps, decWindow, withDecWindow, decNext, decOut, hbfDec, decFresh, decRefused, decBlock, decSpan, DecMeets}
 use Rattle.half_band.specs.declared.hbf_dec.HbfDec.{HbfDec}
-use Rattle.half_band.proofs.Bounds.{Between, not-outside, third}
+use Rattle.refusal.proofs.Limits.{Between, not-outside}
+use Rattle.half_band.proofs.Choices.{third}
 use Rattle.half_band.proofs.Moving.{length-slid}
 use Rattle.half_band.proofs.Filling.{take-replicate}
 use Rattle.half_band.proofs.Stored as stored
@@ -49,7 +50,7 @@ module _ (d : HbfDec) (u : Usable d) where
   state-window p = stored.state-stored 4 96 (d .m) (d .coeffs) (d .delay) u (lit≤ tt) build hbfDec decimator (λ t a. refl) (λ t a. refl) kept p
 
   -- a block of n pairs that is not refused
-  module _ (v span : List Float) (n : ℕ) (fine : decRefused d ≡ false) (in-limits : lengthsRefused (length v) (length span) ≡ false) (count : n ≡ min (length span) (length v / 2)) where
+  module _ (v span : List Float) (n : ℕ) (fine : decRefused d ≡ false) (in-limits : samplesRefused (length v) (length span) ≡ false) (count : n ≡ min (length span) (length v / 2)) where
     pub block-answer : (w : List Float) → w ≡ state (decimator (decTaps d)) (decWindow d) (take n (pairs v)) → toldCount (Written n) (withDecWindow d w) ≡ decBlock d v (length span)
     block-answer w e =
         ap (λ (t : List Float). toldCount (Written n) (withDecWindow d t)) e

@@ -15,14 +15,15 @@ use Rattle.theory.specs.Sections.{Section, state, outs}
 use Rattle.theory.proofs.Sections.{outs-append, state-keeps}
 use Rattle.refusal.specs.declared.Count.the-variants.{Written}
 use Rattle.half_band.specs.Answers.{toldCount}
-use Rattle.half_band.specs.Limits.{lengthsRefused}
+use Rattle.refusal.specs.Rows.{samplesRefused}
 use Rattle.half_band.specs.HalfBand.{flat, interpolated, interpolatedBy}
 use Rattle.float.specs.F32.{zero32}
 use Rattle.half_band.specs.HbfTaps.{stageTaps, interpolation}
 use Rattle.half_band.specs.Windows.{slid, intValue, interpolator, spliced}
 use Rattle.half_band.specs.HbfIntCascade.{Upsampled, intStage, upsampled, intCascadeRun, intCascadeAfter, intCascadeFresh, intCascadeRefused, intCascadeCount, intCascadeBlock, intCascadeSpan, joined, intCascadeBlocks, IntCascadeMeets}
 use Rattle.half_band.specs.declared.hbf_int_cascade.HbfIntCascade.{HbfIntCascade}
-use Rattle.half_band.proofs.Bounds.{Between, not-outside, third}
+use Rattle.refusal.proofs.Limits.{Between, not-outside}
+use Rattle.half_band.proofs.Choices.{third}
 use Rattle.half_band.proofs.Blocks.{outs-length}
 use Rattle.half_band.proofs.Filling.{drop-replicate, take-replicate}
 use Rattle.half_band.proofs.Moving.{length-slid}
@@ -264,7 +265,7 @@ fresh-meets d b =
     }
 
 -- a block of n samples that is not refused
-module _ (s : HbfIntCascade) (v span : List Float) (n c : ℕ) (fine : intCascadeRefused s ≡ false) (in-limits : lengthsRefused (length v) (length span) ≡ false)
+module _ (s : HbfIntCascade) (v span : List Float) (n c : ℕ) (fine : intCascadeRefused s ≡ false) (in-limits : samplesRefused (length v) (length span) ≡ false)
     (deep : s .depth ≤ 5) (count : n ≡ intCascadeCount (s .depth) (length v) (length span)) (places : c ≡ n * 2 ^ s .depth) where
   pub block-answer : (d : List Float) → d ≡ upsampled (stageTaps interpolation) (s .depth) 0 (s .delays) (take n v) .delays
       → toldCount {S = HbfIntCascade} (Written c) (record { depth = s .depth; delays = d }) ≡ intCascadeBlock s v (length span)

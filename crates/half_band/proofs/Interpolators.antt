@@ -10,14 +10,15 @@ use lib.Seq.{take-at}
 use lib.Ieee.{Float}
 use Rattle.theory.specs.Sections.{state, outs}
 use Rattle.refusal.specs.declared.Count.the-variants.{Written}
-use Rattle.half_band.specs.Limits.{lengthsRefused}
+use Rattle.refusal.specs.Rows.{samplesRefused}
 use Rattle.half_band.specs.Answers.{toldCount}
 use Rattle.half_band.specs.HalfBand.{flat}
 use Rattle.float.specs.F32.{zero32}
 use Rattle.half_band.specs.Windows.{interpolator}
 use Rattle.half_band.specs.HbfInt.{intTaps, intWindow, withIntWindow, intNext, intOut, hbfInt, intFresh, intRefused, intBlock, intSpan, IntMeets}
 use Rattle.half_band.specs.declared.hbf_int.HbfInt.{HbfInt}
-use Rattle.half_band.proofs.Bounds.{Between, not-outside, third}
+use Rattle.refusal.proofs.Limits.{Between, not-outside}
+use Rattle.half_band.proofs.Choices.{third}
 use Rattle.half_band.proofs.Moving.{length-slid}
 use Rattle.half_band.proofs.Filling.{take-replicate}
 use Rattle.half_band.proofs.Stored as stored
@@ -50,7 +51,7 @@ module _ (d : HbfInt) (u : Usable d) where
   state-window v = stored.state-stored 2 48 (d .m) (d .coeffs) (d .delay) u (lit≤ tt) build hbfInt interpolator (λ t a. refl) (λ t a. refl) kept v
 
   -- a block of n samples that is not refused
-  module _ (v span : List Float) (n : ℕ) (fine : intRefused d ≡ false) (in-limits : lengthsRefused (length v) (length span) ≡ false) (count : n ≡ min (length v) (length span / 2)) where
+  module _ (v span : List Float) (n : ℕ) (fine : intRefused d ≡ false) (in-limits : samplesRefused (length v) (length span) ≡ false) (count : n ≡ min (length v) (length span / 2)) where
     pub block-answer : (w : List Float) → w ≡ state (interpolator (intTaps d)) (intWindow d) (take n v) → toldCount (Written (2 * n)) (withIntWindow d w) ≡ intBlock d v (length span)
     block-answer w e =
         ap (λ (t : List Float). toldCount (Written (2 * n)) (withIntWindow d t)) e

@@ -1,6 +1,6 @@
 pub mod Decimals
 pub mod StageTables
-pub mod Bounds
+pub mod Choices
 pub mod Filling
 pub mod Moving
 pub mod Folding

@@ -11,7 +11,7 @@ use lib.Ieee.{Float}
 use Rattle.theory.specs.Sections.{Section, state, outs}
 use Rattle.float.specs.F32.{zero32}
 use Rattle.half_band.proofs.Along.{outs-along, state-along}
-use Rattle.half_band.proofs.Bounds.{Between}
+use Rattle.refusal.proofs.Limits.{Between}
 
 -- a state that is not refused, its arrays as long as their types say
 pub record Usable (N m : ℕ) (coeffs delay : List Float) : Type 0 where

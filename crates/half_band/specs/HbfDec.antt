@@ -9,7 +9,8 @@ use lib.Ieee.{Float}
 use Rattle.theory.specs.Sections.{Section, state, outs}
 use Rattle.refusal.specs.Table.{numberOf}
 use Rattle.refusal.specs.Outcome.{Opened, Outcome}
-use Rattle.half_band.specs.Limits.{mostHalfBandTaps, outside, lengthsRefused}
+use Rattle.half_band.specs.Limits.{mostHalfBandTaps}
+use Rattle.refusal.specs.Rows.{outside, samplesRefused}
 use Rattle.half_band.specs.HalfBand.{decimated}
 use Rattle.float.specs.F32.{zero32}
 use Rattle.half_band.specs.Windows.{slid, decValue, pairs}
@@ -73,14 +74,14 @@ toldDecStep r = toldDecOut (r .out) (r .state)
 abbrev pub decBlock : HbfDec → List Float → ℕ → Outcome ℕ HbfDec
 decBlock d v span =
     cond (decRefused d) (record { number = 15; value = 0; state = d })
-    (cond (lengthsRefused (length v) span) (record { number = 7; value = 0; state = d })
+    (cond (samplesRefused (length v) span) (record { number = 7; value = 0; state = d })
     (record { number = 0; value = min span (length v / 2); state = state hbfDec d (take (min span (length v / 2)) (pairs v)) }))
 
 -- and the span after it: the outputs in front, the rest as it was
 abbrev pub decSpan : HbfDec → List Float → List Float → List Float
 decSpan d v span =
     cond (decRefused d) span
-    (cond (lengthsRefused (length v) (length span)) span
+    (cond (samplesRefused (length v) (length span)) span
     (outs hbfDec d (take (min (length span) (length v / 2)) (pairs v)) ++ drop (min (length span) (length v / 2)) span))
 
 -- what an opening with the taps c that was not refused gives

@@ -7,7 +7,8 @@ use lib.ListN.{length, take, drop, replicate}
 use lib.Ieee.{Float}
 use Rattle.theory.specs.Sections.{state, outs}
 use Rattle.refusal.specs.Outcome.{Opened, Outcome}
-use Rattle.half_band.specs.Limits.{mostStages, outside, lengthsRefused}
+use Rattle.half_band.specs.Limits.{mostStages}
+use Rattle.refusal.specs.Rows.{outside, samplesRefused}
 use Rattle.half_band.specs.HalfBand.{decimatedBy}
 use Rattle.float.specs.F32.{zero32}
 use Rattle.half_band.specs.HbfTaps.{stageTaps, decimation}
@@ -47,13 +48,13 @@ decCascadeTaken depth v span = take (decCascadeCount depth (length v) span * 2 ^
 abbrev pub decCascadeBlock : HbfDecCascade → List Float → ℕ → Outcome ℕ HbfDecCascade
 decCascadeBlock s v span =
     cond (decCascadeRefused s) (record { number = 15; value = 0; state = s })
-    (cond (lengthsRefused (length v) span) (record { number = 7; value = 0; state = s })
+    (cond (samplesRefused (length v) span) (record { number = 7; value = 0; state = s })
     (record { number = 0; value = decCascadeCount (s .depth) (length v) span; state = decCascadeAfter s (decCascadeTaken (s .depth) v span) }))
 
 abbrev pub decCascadeSpan : HbfDecCascade → List Float → List Float → List Float
 decCascadeSpan s v span =
     cond (decCascadeRefused s) span
-    (cond (lengthsRefused (length v) (length span)) span
+    (cond (samplesRefused (length v) (length span)) span
     (outs hbfStream (unheld s) (decCascadeTaken (s .depth) v (length span)) ++ drop (decCascadeCount (s .depth) (length v) (length span)) span))
 
 -- what an opening of `depth` stages that was not refused gives

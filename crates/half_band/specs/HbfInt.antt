@@ -9,7 +9,8 @@ use lib.Ieee.{Float}
 use Rattle.theory.specs.Sections.{Section, state, outs}
 use Rattle.refusal.specs.Table.{numberOf}
 use Rattle.refusal.specs.Outcome.{Opened, Outcome}
-use Rattle.half_band.specs.Limits.{mostHalfBandTaps, outside, lengthsRefused}
+use Rattle.half_band.specs.Limits.{mostHalfBandTaps}
+use Rattle.refusal.specs.Rows.{outside, samplesRefused}
 use Rattle.half_band.specs.HalfBand.{flat, interpolated}
 use Rattle.float.specs.F32.{zero32}
 use Rattle.half_band.specs.Windows.{slid, intValue}
@@ -76,14 +77,14 @@ intTaken v span = take (min (length v) (span / 2)) v
 abbrev pub intBlock : HbfInt → List Float → ℕ → Outcome ℕ HbfInt
 intBlock d v span =
     cond (intRefused d) (record { number = 15; value = 0; state = d })
-    (cond (lengthsRefused (length v) span) (record { number = 7; value = 0; state = d })
+    (cond (samplesRefused (length v) span) (record { number = 7; value = 0; state = d })
     (record { number = 0; value = 2 * min (length v) (span / 2); state = state hbfInt d (intTaken v span) }))
 
 -- and the span after it: the outputs in front, the rest as it was
 abbrev pub intSpan : HbfInt → List Float → List Float → List Float
 intSpan d v span =
     cond (intRefused d) span
-    (cond (lengthsRefused (length v) (length span)) span
+    (cond (samplesRefused (length v) (length span)) span
     (flat (outs hbfInt d (intTaken v (length span))) ++ drop (2 * min (length v) (length span / 2)) span))
 
 -- what an opening with the taps c that was not refused gives

@@ -8,7 +8,8 @@ use lib.ListN.{length, take, drop, replicate}
 use lib.Ieee.{Float}
 use Rattle.theory.specs.Sections.{state, outs}
 use Rattle.refusal.specs.Outcome.{Opened, Outcome}
-use Rattle.half_band.specs.Limits.{mostStages, outside, lengthsRefused}
+use Rattle.half_band.specs.Limits.{mostStages}
+use Rattle.refusal.specs.Rows.{outside, samplesRefused}
 use Rattle.half_band.specs.HalfBand.{flat, interpolatedBy}
 use Rattle.float.specs.F32.{zero32}
 use Rattle.half_band.specs.HbfTaps.{stageTaps, interpolation}
@@ -60,14 +61,14 @@ intCascadeCount depth n span = min n (span / 2 ^ depth)
 abbrev pub intCascadeBlock : HbfIntCascade → List Float → ℕ → Outcome ℕ HbfIntCascade
 intCascadeBlock s v span =
     cond (intCascadeRefused s) (record { number = 15; value = 0; state = s })
-    (cond (lengthsRefused (length v) span) (record { number = 7; value = 0; state = s })
+    (cond (samplesRefused (length v) span) (record { number = 7; value = 0; state = s })
     (record { number = 0; value = intCascadeCount (s .depth) (length v) span * 2 ^ s .depth; state = intCascadeAfter s (take (intCascadeCount (s .depth) (length v) span) v) }))
 
 -- and the span after it: the outputs in front, the rest as it was
 abbrev pub intCascadeSpan : HbfIntCascade → List Float → List Float → List Float
 intCascadeSpan s v span =
     cond (intCascadeRefused s) span
-    (cond (lengthsRefused (length v) (length span)) span
+    (cond (samplesRefused (length v) (length span)) span
     (intCascadeRun s (take (intCascadeCount (s .depth) (length v) (length span)) v) .outs ++ drop (intCascadeCount (s .depth) (length v) (length span) * 2 ^ s .depth) span))
 
 -- lists one after the other

@@ -8,13 +8,13 @@ use crate::half_band::decimate;
 use crate::half_band::padded;
 use crate::half_band::take_pair;
 use crate::limits::MOST_HALF_BAND_TAPS;
-use crate::limits::lengths_refused;
-use crate::limits::outside;
 use crate::limits::pairs_in;
 use crate::limits::smaller;
 use refusal::Count;
 use refusal::Opening;
 use refusal::Refusal;
+use refusal::rows::outside;
+use refusal::rows::samples_refused;
 
 // m taps in front of coeffs; the last 4m samples in front of delay, the newest at their end.
 pub struct HbfDec {
@@ -102,7 +102,7 @@ impl HbfDec {
                 state: self,
             };
         }
-        if lengths_refused(src.len(), dst.len()) {
+        if samples_refused(src.len(), dst.len()) {
             return HbfDecBlock {
                 answer: Count::Refused(Refusal::Samples),
                 state: self,

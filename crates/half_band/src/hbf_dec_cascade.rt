@@ -13,13 +13,13 @@ ghost use Rattle.half_band.specs.HbfDecCascade.{decCascadeFresh, decCasc
 use crate::hbf_stream::HbfOut;
 use crate::hbf_stream::hbf_stream_at;
 use crate::limits::MOST_STAGES;
-use crate::limits::lengths_refused;
-use crate::limits::outside;
 use crate::limits::rate_change;
 use crate::limits::smaller;
 use refusal::Count;
 use refusal::Opening;
 use refusal::Refusal;
+use refusal::rows::outside;
+use refusal::rows::samples_refused;
 
 // Stage k has its last 4M samples in front of the 96 delays from 96k on.
 pub struct HbfDecCascade {
@@ -105,7 +105,7 @@ impl HbfDecCascade {
                 state: self,
             };
         }
-        if lengths_refused(src.len(), dst.len()) {
+        if samples_refused(src.len(), dst.len()) {
             return HbfDecCascadeBlock {
                 answer: Count::Refused(Refusal::Samples),
                 state: self,

@@ -15,14 +15,14 @@ use crate::half_band::expand;
 use crate::hbf_taps::HBF_TAPS;
 use crate::hbf_taps::interpolation_stage;
 use crate::limits::MOST_STAGES;
-use crate::limits::lengths_refused;
-use crate::limits::outside;
 use crate::limits::rate_change;
 use crate::limits::smaller;
 use float::span::put_at_end;
 use refusal::Count;
 use refusal::Opening;
 use refusal::Refusal;
+use refusal::rows::outside;
+use refusal::rows::samples_refused;
 
 // Stage k has its last 2M samples in front of the 48 delays from 48k on.
 pub struct HbfIntCascade {
@@ -107,7 +107,7 @@ impl HbfIntCascade {
                 state: self,
             };
         }
-        if lengths_refused(src.len(), dst.len()) {
+        if samples_refused(src.len(), dst.len()) {
             return HbfIntCascadeBlock {
                 answer: Count::Refused(Refusal::Samples),
                 state: self,

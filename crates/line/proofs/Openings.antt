@@ -35,17 +35,14 @@ use Rattle.half_band.proofs.HeldOnes.{fresh-not-refused, stream-meets}
 use Rattle.float.proofs.PolyphaseRange.{line-fresh, line-off}
 use Rattle.float.proofs.PolyphaseWhole.{becomes-all, becomes-one, off-hands-on}
 use Rattle.float.specs.Level.{level}
+use Rattle.refusal.proofs.Limits.{first-none}
 use Rattle.line.specs.Outputs.{Opening, levels, Resampled, Outputs}
-use Rattle.line.specs.Line.{line, cicFine, halfBandFine, valid, firstOf, cicNumber, depthNumber, resamplerNumber, numberAt, openingNumberOf, resamplerFresh, fresh}
+use Rattle.line.specs.Line.{line, cicFine, halfBandFine, valid, cicNumber, depthNumber, resamplerNumber, numberAt, openingNumberOf, resamplerFresh, fresh}
 use Rattle.line.specs.declared.gauge_line.Line.{Line}
 use Rattle.line.proofs.Flags.{and-both, not-is}
 use Rattle.line.proofs.Lawful.{line-all}
 
--- where no refusal applies, none of two does, and a test that would refuse holds
-first-zero : (a b : ℕ) → firstOf a b ≡ 0 → (a ≡ 0) × (b ≡ 0)
-first-zero zero b e = (refl, e)
-first-zero (suc a) b e = absurd (omega arith)
-
+-- where no refusal applies, a test that would refuse holds
 passed : (b : Bool) (x q : ℕ) → cond b x (suc q) ≡ 0 → (b ≡ true) × (x ≡ 0)
 passed true x q e = (refl, e)
 passed false x q e = absurd (omega arith)
@@ -68,9 +65,9 @@ pub accepted : (o : Opening) → openingNumberOf o ≡ 0 → Accepted o
 unfolding numberAt cicNumber depthNumber resamplerNumber
 accepted o e =
     let s = o .settings in
-    let p = first-zero (cicNumber (s .stages) (s .r)) _ e in
-    let q = first-zero (settingsNumber (length (o .taps)) (s .factor)) _ (p .1) in
-    let t = first-zero (depthNumber (s .depth)) _ (q .1) in
+    let p = first-none (cicNumber (s .stages) (s .r)) _ e in
+    let q = first-none (settingsNumber (length (o .taps)) (s .factor)) _ (p .1) in
+    let t = first-none (depthNumber (s .depth)) _ (q .1) in
     let a = passed (stagesOk (s .stages)) _ 0 (p .0) in
     let b = passed (factorOk (s .r)) _ 1 (a .1) in
     let c = passed (leb (gainBits (s .stages) (s .r)) mostBits) 0 2 (b .1) in

@@ -15,6 +15,7 @@ use Rattle.theory.specs.Machines.{Machine, before, viewed}
 use Rattle.theory.specs.Feeds as F
 use Rattle.refusal.specs.Table.{numberOf}
 use Rattle.refusal.specs.Outcome.{Outcome, Opened, openingNumber, Moved, countsAnswer}
+use Rattle.refusal.specs.Rows.{firstOf}
 use Rattle.integer.specs.Limits.{stagesOk, factorOk}
 use Rattle.integer.specs.Gain.{gainBits, mostBits}
 use Rattle.integer.specs.CicDecimator.{scaledDecimator}
@@ -122,11 +123,6 @@ feedSpan l xs span =
     span
 
 -- ---- openings
-
--- the first refusal that applies, 0 for none
-abbrev pub firstOf : ℕ → ℕ → ℕ
-firstOf zero n = n
-firstOf (suc q) n = suc q
 
 -- rows 1, 2 and 3
 unfoldable pub cicNumber : ℕ → ℕ → ℕ

@@ -1,6 +1,7 @@
 // 01's table from 1 down, as the line's opening has it: the first refusal that applies.
 ghost use mathlib.Core.Path.{_≡_};
 ghost use Rattle.refusal.specs.Outcome.{openingNumber};
+ghost use Rattle.refusal.specs.Rows.{firstOf};
 ghost use Rattle.line.specs.Line as L;
 use crate::settings::Settings;
 use float::polyphase_resamp::in_limits;
@@ -62,7 +63,7 @@ fn resampler_answer(phases: usize, taps: usize, cells: usize, step: f32) -> Open
 }
 
 fn first(a: Opening, b: Opening) -> Opening
-    ensures { λ r. ⌜ openingNumber r ≡ L.firstOf (openingNumber a) (openingNumber b) ⌝ }
+    ensures { λ r. ⌜ openingNumber r ≡ firstOf (openingNumber a) (openingNumber b) ⌝ }
 {
     match a {
         Opening::Refused(q) => Opening::Refused(q),

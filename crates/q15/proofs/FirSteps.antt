@@ -11,11 +11,12 @@ use lib.Dec.{leb, ltb, eqb}
 use lib.IntN.{ℤ}
 use Rattle.theory.specs.Sections.{onto, outs, state}
 use Rattle.theory.proofs.Sections.{state-keeps}
-use Rattle.q15.specs.Block.{mostFactor, outsideOf}
+use Rattle.refusal.specs.Rows.{outside}
+use Rattle.q15.specs.Block.{mostFactor}
 use Rattle.q15.specs.PolyphaseDecimate.{filtered}
 use Rattle.q15.specs.FirDecimator.{mostTaps, firState, stored, moved, firNext, firOut, fir, settingsNumber, badWait, firValid, valid, firStep, steps}
 use Rattle.q15.specs.declared.fir_decimator.FirDecimator.{FirDecimator}
-use Rattle.q15.proofs.Rows.{inside}
+use Rattle.refusal.proofs.Limits.{within}
 
 -- what the section makes of a sample: off, over 64 taps, still waiting, and with the sample that the wait was for
 module _ (c : List ℤ) (T D : ℕ) (d : List ℤ) (w : ℕ) (x : ℤ) where
@@ -44,12 +45,12 @@ module _ (c : List ℤ) (T D : ℕ) (d : List ℤ) (w : ℕ) (x : ℤ) where
 -- settings that are not refused, of a part that is on
 pub settings-in : (T D : ℕ) → (T ≡ 0 → ⊥) → settingsNumber T D ≡ 0 → (T ≤ mostTaps) × (1 ≤ D)
 unfolding settingsNumber
-settings-in T D n e = go (outsideOf D 1 mostFactor) refl (ltb mostTaps T) refl (rw (ne-eqb T 0 n) at e)
+settings-in T D n e = go (outside D 1 mostFactor) refl (ltb mostTaps T) refl (rw (ne-eqb T 0 n) at e)
   where
-    go : (a : Bool) → outsideOf D 1 mostFactor ≡ a → (b : Bool) → ltb mostTaps T ≡ b → _≡_ {A = ℕ} (cond a 5 (cond b 6 0)) 0 → (T ≤ mostTaps) × (1 ≤ D)
+    go : (a : Bool) → outside D 1 mostFactor ≡ a → (b : Bool) → ltb mostTaps T ≡ b → _≡_ {A = ℕ} (cond a 5 (cond b 6 0)) 0 → (T ≤ mostTaps) × (1 ≤ D)
     go true p b q e = absurd (omega (arith, e))
     go false p true q e = absurd (omega (arith, e))
-    go false p false q e = (ltb-false mostTaps T q, inside D 1 mostFactor p .0)
+    go false p false q e = (ltb-false mostTaps T q, within D 1 mostFactor p .least)
 
 -- a wait that is not bad, both ways
 good-wait : (T D w : ℕ) → badWait T D w ≡ false → (0 < w) × (w ≤ max T D)

@@ -1,38 +1,26 @@
 -- 01, "Where each call is turned back", for a block of samples: "The first that applies, downward, is returned", as its number, and 0 where none applies.
-use mathlib.Core.Bool.{Bool, true, cond}
+use mathlib.Core.Bool.{cond}
 use mathlib.Core.List.{List, _++_}
 use Prim.Native.Nat.{ℕ, zero, suc}
-use lib.Dec.{ltb}
 use lib.IntN.{ℤ}
 use lib.ListN.{length, take, drop}
 use Rattle.refusal.specs.Table.{numberOf}
 use Rattle.refusal.specs.Outcome.{Answer}
+use Rattle.refusal.specs.Rows.{outside, mostBlock, samplesRefused}
 use Rattle.q15.specs.declared.block.Rows.{Rows}
 use Rattle.q15.specs.declared.block.Rows.the-variants.{Passed, Refused}
 
--- the largest factor, and the most taps, samples and places of a block
+-- the largest factor
 abbrev pub mostFactor : ℕ
 mostFactor = 4096
 
-abbrev pub mostBlock : ℕ
-mostBlock = 65536
-
--- "not low..high"
-unfoldable pub outsideOf : ℕ → ℕ → ℕ → Bool
-outsideOf n low high = cond (ltb n low) true (ltb high n)
-
--- the first of two rows that applies
-abbrev pub firstOf : ℕ → ℕ → ℕ
-firstOf zero lower = lower
-firstOf (suc q) lower = suc q
-
 -- row 7 for n samples and a span of m places: "samples empty, or samples or span over 65,536"
 unfoldable pub samplesNumber : ℕ → ℕ → ℕ
-samplesNumber n m = cond (outsideOf n 1 mostBlock) 7 (cond (ltb mostBlock m) 7 0)
+samplesNumber n m = cond (samplesRefused n m) 7 0
 
 -- rows 5 to 7 for a factor, T taps, n samples and m places: "factor not 1..4,096", "taps empty or over 65,536"
 unfoldable pub blockNumber : ℕ → ℕ → ℕ → ℕ → ℕ
-blockNumber factor T n m = cond (outsideOf factor 1 mostFactor) 5 (cond (outsideOf T 1 mostBlock) 6 (samplesNumber n m))
+blockNumber factor T n m = cond (outside factor 1 mostFactor) 5 (cond (outside T 1 mostBlock) 6 (samplesNumber n m))
 
 -- each case of Rows: its number
 abbrev pub rowsNumber : Rows → ℕ

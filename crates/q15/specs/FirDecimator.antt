@@ -11,7 +11,8 @@ use lib.ListN.{length, set, take, drop, replicate}
 use Rattle.refusal.specs.Table.{numberOf}
 use Rattle.refusal.specs.Outcome.{Outcome, Opened, openingNumber}
 use Rattle.theory.specs.Sections.{Section, outs, state}
-use Rattle.q15.specs.Block.{mostFactor, outsideOf}
+use Rattle.refusal.specs.Rows.{outside}
+use Rattle.q15.specs.Block.{mostFactor}
 use Rattle.q15.specs.PolyphaseDecimate.{filtered, decimated}
 use Rattle.q15.specs.declared.fir_decimator.FirDecimator.{FirDecimator}
 use Rattle.q15.specs.declared.fir_decimator.FirMade.{FirMade}
@@ -64,7 +65,7 @@ fir = record { next = firNext; out = firOut }
 
 -- rows 5 and 6 in the line: "no taps means off, and D is not looked at", "factor not 1..4,096", "line: only over 64"
 unfoldable pub settingsNumber : ℕ → ℕ → ℕ
-settingsNumber T D = cond (eqb T 0) 0 (cond (outsideOf D 1 mostFactor) 5 (cond (ltb mostTaps T) 6 0))
+settingsNumber T D = cond (eqb T 0) 0 (cond (outside D 1 mostFactor) 5 (cond (ltb mostTaps T) 6 0))
 
 -- row 15: "FIR wait 0 or above both T and D"
 unfoldable pub badWait : ℕ → ℕ → ℕ → Bool

@@ -4,13 +4,10 @@ use mathlib.Core.List.{List}
 use Prim.Native.Nat.{ℕ, _-_, _^_}
 use lib.IntN.{ℤ, pos, negsuc, _*ℤ_}
 use lib.ListN.{getD}
-use lib.Signed.{ltZ, shrZ}
+use lib.Signed.{ltZ}
 use mir.Syntax.{Width}
 use mir.Val.{hbits}
-
--- "floor(a/b) rounds down"
-abbrev pub floorDiv : ℤ → ℕ → ℤ
-floorDiv a b = shrZ a b
+use Rattle.theory.specs.Floor.{floorDiv}
 
 -- "floor(s × c / 32768)": "Each product is floored by itself"
 unfoldable pub flooredProduct : ℤ → ℤ → ℤ

@@ -10,7 +10,8 @@ use Rattle.refusal.specs.Outcome.{Answer}
 use Rattle.theory.specs.Lists.{listed}
 use Rattle.q15.specs.Fixed.{cut}
 use Rattle.q15.specs.FirSum.{firSum}
-use Rattle.q15.specs.Block.{firstOf, blockNumber, blockAnswer, blockSpan}
+use Rattle.refusal.specs.Rows.{firstOf}
+use Rattle.q15.specs.Block.{blockNumber, blockAnswer, blockSpan}
 
 -- "output iL+p is the cut of L × sum over t<K of floor(s[i+t] × c[tL+p] / 32768)"
 unfoldable pub phaseOutput : List ℤ → ℕ → ℕ → List ℤ → ℕ → ℕ → ℤ

@@ -8,8 +8,10 @@ use lib.ListN.{length}
 use lib.Signed.{ltZ}
 use Rattle.refusal.specs.Outcome.{Answer}
 use Rattle.theory.specs.Lists.{listed}
-use Rattle.q15.specs.Fixed.{floorDiv, at}
-use Rattle.q15.specs.Block.{firstOf, samplesNumber, blockAnswer, blockSpan}
+use Rattle.theory.specs.Floor.{floorDiv}
+use Rattle.q15.specs.Fixed.{at}
+use Rattle.refusal.specs.Rows.{firstOf}
+use Rattle.q15.specs.Block.{samplesNumber, blockAnswer, blockSpan}
 
 -- "floor((s1−s0) × frac / 65536)", for the difference d = s1−s0
 unfoldable pub partOf : ℤ → ℕ → ℤ

@@ -7,12 +7,12 @@ ghost use Rattle.refusal.specs.Outcome.{openingNumber};
 ghost use Rattle.q15.specs.PolyphaseDecimate.{filtered};
 ghost use Rattle.q15.specs.FirDecimator.{mostTaps, firState, firZeros, stored, moved, firNext, firOut, settingsNumber, badWait, firValid, firStep, padded, fresh, firOpened, firReset, madeValue, outputNumber, outputValue, told, toldOpening, Streams};
 use crate::block::MOST_FACTOR;
-use crate::block::outside;
 use crate::fir_sum::fir_sum;
 use crate::fixed::Q15;
 use crate::fixed::cut_q15;
 use refusal::Opening;
 use refusal::Refusal;
+use refusal::rows::outside;
 
 // The most taps of the line's FIR.
 pub const MOST_TAPS: usize = 64;

@@ -4,7 +4,7 @@ ghost use Prim.Native.Nat.{_+_, _*_, _^_, _≤_, _<_};
 ghost use lib.ListN.{length};
 ghost use Rattle.theory.proofs.Integers.{up, dn};
 ghost use Rattle.q15.specs.FirSum.{firSum};
-ghost use Rattle.q15.specs.Block.{mostBlock};
+ghost use Rattle.refusal.specs.Rows.{mostBlock};
 use crate::fixed::floored_product;
 use crate::fixed::wide_i32;
 

@@ -7,7 +7,6 @@ pub mod polyphase_decimate;
 pub mod polyphase_interpolate;
 pub mod resample_linear;
 
-pub use crate::block::MOST_BLOCK;
 pub use crate::block::MOST_FACTOR;
 pub use crate::fir_decimator::FirAt;
 pub use crate::fir_decimator::FirDecimator;

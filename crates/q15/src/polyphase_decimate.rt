@@ -5,7 +5,7 @@ ghost use Prim.Native.Nat.{ℕ, _+_, _*_, _≤_, _<_, min};
 ghost use lib.ListN.{length, drop};
 ghost use Rattle.refusal.specs.Outcome.{countAnswer};
 ghost use Rattle.theory.specs.Lists.{listed};
-ghost use Rattle.q15.specs.Block.{mostBlock};
+ghost use Rattle.refusal.specs.Rows.{mostBlock};
 ghost use Rattle.q15.specs.PolyphaseDecimate.{filtered, decimatedCount, decimateAnswer, decimateSpan};
 use crate::block::Rows;
 use crate::block::block_rows;

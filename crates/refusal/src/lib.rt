@@ -2,6 +2,8 @@
 ghost use mathlib.Core.Path.{_≡_};
 ghost use Rattle.refusal.specs.Table.{numberOf};
 
+pub mod rows;
+
 // Why a call is turned back: one case for each number of 01's table.
 pub enum Refusal {
     Stages,

@@ -8,9 +8,11 @@ use borrow.Author.Tests.{not-true, not-false}
 use denote.Ref.{now}
 use lib.ListN.{length}
 use Rattle.refusal.specs.Outcome.{Answer}
+use Rattle.refusal.specs.Rows.{samplesRefused}
+use Rattle.refusal.proofs.Limits.{lengths-fine}
 use Rattle.float.specs.F32.{aboveZero}
-use Rattle.float.specs.ResampleLinear.{linearAt, blockFits, linearAnswer, linearSpan}
-use Rattle.float.proofs.ResampleLinear.{fits-says, Filled, filled-none, filled-more, filled-all}
+use Rattle.float.specs.ResampleLinear.{linearAt, linearAnswer, linearSpan}
+use Rattle.float.proofs.ResampleLinear.{Filled, filled-none, filled-more, filled-all}
 use Rattle.float.proofs.resample_linear.resample_linear_f32.Statement.{statement}
 use Rattle.float.proofs.resample_linear.resample_linear_f32.Tie as tie
 
@@ -20,21 +22,21 @@ Inv-loop src dst₀ ratio i₀ dst i = Filled (linearAt src ratio) dst₀ dst i
 abbrev μ-loop : tie.MeasureT-loop
 μ-loop src dst₀ ratio i₀ dst i = length dst₀ - i
 
-block-fits-requires : tie.Need-block-fits-requires Inv-loop μ-loop
-block-fits-requires c κs = search needs
+samples-refused-requires : tie.Need-samples-refused-requires Inv-loop μ-loop
+samples-refused-requires c κs = search needs
 
 returns : tie.Need-returns Inv-loop μ-loop
 unfolding linearAnswer linearSpan
 returns c =
     let a = c .before .before .before .before .args in
-    let b : blockFits (length (now (a .src))) (length (now (a .dst))) ≡ false = sym (c .before .block-fits .ensures) ∙ not-true (c .before .block-fits .result) (c .if1 .taken) in
+    let b : samplesRefused (length (now (a .src))) (length (now (a .dst))) ≡ true = sym (c .before .samples-refused .ensures) ∙ c .if1 .taken in
     (rw b, rw b)
 
 -- samples and span are as 7 asks, and the ratio as 9 asks
 fits : (c : tie.Else1 Inv-loop μ-loop) →
     let a = c .before .before .before .before .args in
-    blockFits (length (now (a .src))) (length (now (a .dst))) ≡ true
-fits c = sym (c .before .block-fits .ensures) ∙ not-false (c .before .block-fits .result) (c .if1 .left)
+    samplesRefused (length (now (a .src))) (length (now (a .dst))) ≡ false
+fits c = sym (c .before .samples-refused .ensures) ∙ c .if1 .left
 
 above-zero-requires : tie.Need-above-zero-requires Inv-loop μ-loop
 above-zero-requires c κs = search needs
@@ -54,11 +56,11 @@ loop-holds c = filled-none _ _
 
 linear-at-requires : tie.Need-linear-at-requires Inv-loop μ-loop
 linear-at-requires c κs =
-    let n = fits-says _ _ (fits (c .before .before .before .before)) in
+    let n = lengths-fine _ _ (fits (c .before .before .before .before)) in
     let f = c .before .loop .inv in
-    let r = n .few-places in
+    let r = n .span-most in
     let q = f .room in
-    (omega arith, n .some-samples, n .few-samples)
+    (omega arith, n .least, n .most)
 
 mul-dst : tie.Need-mul-dst Inv-loop μ-loop
 mul-dst c = search needs
@@ -93,7 +95,7 @@ resample-linear-f32-spec =
     (tie.spec
     Inv-loop
     μ-loop
-    block-fits-requires
+    samples-refused-requires
     returns
     above-zero-requires
     returns-2

@@ -1,6 +1,6 @@
 -- `half_band::response_length::at_depth` meets its contract: its test is that of the definition.
 use borrow.Author.Tests.{lt-ltb, le-ltb}
-use Rattle.half_band.proofs.Bounds.{chosen, other}
+use Rattle.half_band.proofs.Choices.{chosen, other}
 use borrow.Author.Needs.{needs}
 use Rattle.half_band.proofs.response_length.at_depth.Statement.{statement}
 use Rattle.half_band.proofs.response_length.at_depth.Tie as tie

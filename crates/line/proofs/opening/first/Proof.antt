@@ -4,14 +4,10 @@ use Prim.Native.Nat.{ℕ, zero, suc, _<_}
 use native.Mathlib.Omega.{arith}
 use borrow.Author.Needs.{needs}
 use Rattle.refusal.proofs.Table.{number-positive}
-use Rattle.line.specs.Line.{firstOf}
+use Rattle.refusal.proofs.Limits.{first-kept}
 use Rattle.refusal.specs.Table.{numberOf}
 use Rattle.line.proofs.opening.first.Statement.{statement}
 use Rattle.line.proofs.opening.first.Tie as tie
-
-kept : (m n : ℕ) → 0 < m → firstOf m n ≡ m
-kept zero n h = absurd (omega arith)
-kept (suc m) n h = refl
 
 enum-known-a : tie.Need-enum-known-a
 enum-known-a c = search needs
@@ -20,7 +16,7 @@ enum-told : tie.Need-enum-told
 enum-told c = search needs
 
 returns : tie.Need-returns
-returns c = rw (c .before .a .given .1) (sym (kept _ _ (number-positive (c .before .a .given .0 .0))))
+returns c = rw (c .before .a .given .1) (sym (first-kept _ _ (number-positive (c .before .a .given .0 .0))))
 
 returns-2 : tie.Need-returns-2
 returns-2 c = search needs

@@ -32,7 +32,7 @@ module _ (c : tie.After-enum-told) where
   limits = block-in _ _ _ _ none
 
 decimated-count-requires : tie.Need-decimated-count-requires
-decimated-count-requires c κs = (limits c .factor .0, limits c .taps .0)
+decimated-count-requires c κs = (limits c .factor .least, limits c .taps .least)
 
 decimate-requires : tie.Need-decimate-requires
 decimate-requires c κs =
@@ -40,8 +40,8 @@ decimate-requires c κs =
     let a = start e .args in
     let r = c .before .decimated-count .ensures in (
       omega (arith, r),
-      limits e .taps .1,
-      limits e .rest .samples .1,
+      limits e .taps .most,
+      limits e .rest .most,
       (λ i l. decimated-in (length (a .coeffs .now)) (a .decimation-factor) (length (a .src .now)) i (omega (arith, l, r))),
     )
 

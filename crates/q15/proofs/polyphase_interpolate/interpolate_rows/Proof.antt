@@ -27,7 +27,7 @@ module _ (c : tie.After-enum-told) where
   none = sym (c .before .before .block-rows .ensures) ∙ ap rowsNumber (c .enum-told .given .1)
 
 rem-if1 : tie.Need-rem-if1
-rem-if1 c = omega (arith, block-in _ _ _ _ (none c) .factor)
+rem-if1 c = omega (arith, block-in _ _ _ _ (none c) .factor .least)
 
 returns : tie.Need-returns
 unfolding interpolateNumber

@@ -44,10 +44,10 @@ module _ (c : tie.After-enum-told) where
   multiple = interpolate-in _ _ _ _ none .1
 
 div-k : tie.Need-div-k
-div-k c = omega (arith, limits c .factor)
+div-k c = omega (arith, limits c .factor .least)
 
 interpolated-count-requires : tie.Need-interpolated-count-requires
-interpolated-count-requires c κs = (limits c .rest .samples .1, limits c .factor .1)
+interpolated-count-requires c κs = (limits c .rest .most, limits c .factor .most)
 
 -- a multiple above zero has a quotient above zero
 some-taps : (t l : ℕ) → 1 ≤ t → t % l ≡ 0 → 0 < t / l
@@ -66,12 +66,12 @@ interpolate-requires c κs =
     let e = c .before .before in
     let r = c .before .interpolated-count .ensures in (
       omega (arith, r),
-      limits e .factor .0,
-      limits e .factor .1,
+      limits e .factor .least,
+      limits e .factor .most,
       div-mul-le-self (T e) (L e),
-      some-taps (T e) (L e) (limits e .taps .0) (multiple e),
-      omega (arith, div-le-self (T e) (L e), limits e .taps),
-      limits e .rest .samples .1,
+      some-taps (T e) (L e) (limits e .taps .least) (multiple e),
+      omega (arith, div-le-self (T e) (L e), limits e .taps .most),
+      limits e .rest .most,
       (λ i p h. interpolated-in (T e / L e) (L e) (length (start e .args .src .now)) i p (omega (arith, h, r))),
     )
 

@@ -16,7 +16,8 @@ use Rattle.q15.specs.Block.{rowsNumber}
 use Rattle.q15.specs.ResampleLinear.{linearAt, linearNumber, resampled}
 use Rattle.q15.proofs.Between.{ratio-fits}
 use Rattle.q15.proofs.Filling.{block-filled}
-use Rattle.q15.proofs.Rows.{SamplesIn, linear-in, block-refused}
+use Rattle.refusal.proofs.Limits.{Lengths}
+use Rattle.q15.proofs.Rows.{linear-in, block-refused}
 use Rattle.q15.proofs.resample_linear.resample_linear_q15.Statement.{statement}
 use Rattle.q15.proofs.resample_linear.resample_linear_q15.Tie as tie
 
@@ -39,7 +40,7 @@ module _ (c : tie.After-enum-told) where
       ∙ sym (c .before .before .linear-rows .ensures)
       ∙ ap rowsNumber (c .enum-told .given .1)
 
-  limits : SamplesIn (length (start .args .src .now)) (length (start .args .dst .now))
+  limits : Lengths (length (start .args .src .now)) (length (start .args .dst .now))
   limits = linear-in _ _ _ none .0
 
   ratio : (T (nonNeg (start .args .ratio-q16)) × Fits w64 (natAbs (start .args .ratio-q16))) × (natAbs (start .args .ratio-q16) < 2 ^ 31)
@@ -51,7 +52,7 @@ cast-resample c = rw (toZ-ofZ (start c .fits .ratio-q16)) (ratio c .0)
 resample-requires : tie.Need-resample-requires
 resample-requires c κs =
     let e = c .before in
-    rw (toZ-ofZ (start e .fits .ratio-q16)) (limits e .samples .0, limits e .samples .1, ratio e .1, limits e .places)
+    rw (toZ-ofZ (start e .fits .ratio-q16)) (limits e .least, limits e .most, ratio e .1, limits e .span-most)
 
 returns : tie.Need-returns
 returns c =

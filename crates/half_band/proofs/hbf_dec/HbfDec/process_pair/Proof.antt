@@ -5,7 +5,7 @@ use lib.Ieee.{Float}
 use Rattle.refusal.specs.Outcome.{Outcome}
 use Rattle.half_band.specs.HbfDec.{decNext, decOut, withDecWindow}
 use Rattle.half_band.specs.declared.hbf_dec.HbfDec.{HbfDec}
-use Rattle.half_band.proofs.Bounds.{within}
+use Rattle.refusal.proofs.Limits.{within}
 use Rattle.half_band.proofs.Decimators.{Usable, taps-long, window-long}
 use native.Mathlib.Omega.{arith}
 use borrow.Author.Needs.{needs}

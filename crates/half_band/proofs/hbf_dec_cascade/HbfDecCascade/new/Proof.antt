@@ -4,7 +4,8 @@ use borrow.Author.Tests.{eqb-false}
 use Rattle.refusal.specs.Outcome.{Opened}
 use Rattle.half_band.specs.HbfDecCascade.{decCascadeFresh, DecCascadeMeets}
 use Rattle.half_band.specs.declared.hbf_dec_cascade.HbfDecCascade.{HbfDecCascade}
-use Rattle.half_band.proofs.Bounds.{within, chosen, other}
+use Rattle.refusal.proofs.Limits.{within}
+use Rattle.half_band.proofs.Choices.{chosen, other}
 use Rattle.half_band.proofs.DecCascades.{fresh-meets}
 use borrow.Author.Needs.{needs}
 use Rattle.half_band.proofs.hbf_dec_cascade.HbfDecCascade.new.Statement.{statement}

@@ -5,9 +5,10 @@ use Prim.Native.Nat.{ℕ, _/_, _<_, min}
 use lib.Pow.{pow-pos}
 use lib.ListN.{length}
 use denote.Ref.{now}
-use Rattle.half_band.specs.Limits.{lengthsRefused}
+use Rattle.refusal.specs.Rows.{samplesRefused}
 use Rattle.half_band.specs.HbfDecCascade.{decCascadeRefused, decCascadeCount}
-use Rattle.half_band.proofs.Bounds.{within, lengths-fine, chosen, second}
+use Rattle.refusal.proofs.Limits.{within, lengths-fine}
+use Rattle.half_band.proofs.Choices.{chosen, second}
 use Rattle.half_band.proofs.DecCascades.{frames-fit, block-answer, block-span}
 use native.Mathlib.Omega.{arith}
 use borrow.Author.Needs.{needs}
@@ -20,8 +21,8 @@ begun c = c .before .before .before .before
 fine : (c : tie.Else1) → decCascadeRefused (begun c .args .self) ≡ false
 fine c = sym (c .before .outside .ensures) ∙ c .if1 .left
 
-in-limits : (c : tie.Else2) → let a = begun (c .before .before) .args in lengthsRefused (length (now (a .src))) (length (now (a .dst))) ≡ false
-in-limits c = sym (c .before .lengths-refused .ensures) ∙ c .if2 .left
+in-limits : (c : tie.Else2) → let a = begun (c .before .before) .args in samplesRefused (length (now (a .src))) (length (now (a .dst))) ≡ false
+in-limits c = sym (c .before .samples-refused .ensures) ∙ c .if2 .left
 
 count : (c : tie.After-smaller) → let a = begun (c .before .before .before .before) .args in c .smaller .result ≡ decCascadeCount (a .self .depth) (length (now (a .src))) (length (now (a .dst)))
 count c =
@@ -34,12 +35,12 @@ outside-requires c κs = search needs
 returns : tie.Need-returns
 returns c = let e = sym (c .before .outside .ensures) ∙ c .if1 .taken in (chosen _ _ _ e, chosen _ _ _ e)
 
-lengths-refused-requires : tie.Need-lengths-refused-requires
-lengths-refused-requires c κs = search needs
+samples-refused-requires : tie.Need-samples-refused-requires
+samples-refused-requires c κs = search needs
 
 returns-2 : tie.Need-returns-2
 returns-2 c = let e = fine (c .before .before) in
-    let f = sym (c .before .lengths-refused .ensures) ∙ c .if2 .taken in
+    let f = sym (c .before .samples-refused .ensures) ∙ c .if2 .taken in
     (second _ _ _ _ _ e f, second _ _ _ _ _ e f)
 
 rate-change-requires : tie.Need-rate-change-requires
@@ -76,7 +77,7 @@ process-spec =
     (tie.spec
     outside-requires
     returns
-    lengths-refused-requires
+    samples-refused-requires
     returns-2
     rate-change-requires
     div-smaller

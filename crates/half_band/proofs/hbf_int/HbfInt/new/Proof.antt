@@ -9,7 +9,8 @@ use Rattle.refusal.specs.Outcome.{Opened}
 use Rattle.float.specs.F32.{zero32}
 use Rattle.half_band.specs.HbfInt.{intNone, intFresh, IntMeets}
 use Rattle.half_band.specs.declared.hbf_int.HbfInt.{HbfInt}
-use Rattle.half_band.proofs.Bounds.{Between, within, chosen, other}
+use Rattle.refusal.proofs.Limits.{Between, within}
+use Rattle.half_band.proofs.Choices.{chosen, other}
 use Rattle.half_band.proofs.Interpolators.{fresh-meets}
 use borrow.Author.Needs.{needs}
 use Rattle.half_band.proofs.hbf_int.HbfInt.new.Statement.{statement}

@@ -7,9 +7,10 @@ use lib.ListN.{length, take, drop}
 use lib.Seq.{length-take-le}
 use lib.Ieee.{Float}
 use denote.Ref.{now}
-use Rattle.half_band.specs.Limits.{lengthsRefused}
+use Rattle.refusal.specs.Rows.{samplesRefused}
 use Rattle.half_band.specs.HbfInt.{intRefused}
-use Rattle.half_band.proofs.Bounds.{within, chosen, second}
+use Rattle.refusal.proofs.Limits.{within}
+use Rattle.half_band.proofs.Choices.{chosen, second}
 use Rattle.half_band.proofs.Interpolators.{Usable, taps-long, window-long, block-answer, block-span}
 use native.Mathlib.Omega.{arith}
 use borrow.Author.Needs.{needs}
@@ -25,8 +26,8 @@ fine c = sym (c .before .outside .ensures) ∙ c .if1 .left
 usable : (c : tie.Else1) → Usable (begun c .args .self)
 usable c = let b = within _ _ _ (fine c) in record { least = b .least; most = b .most; coeffs-long = search needs; delay-long = search needs }
 
-in-limits : (c : tie.Else2) → let a = begun (c .before .before) .args in lengthsRefused (length (now (a .src))) (length (now (a .dst))) ≡ false
-in-limits c = sym (c .before .lengths-refused .ensures) ∙ c .if2 .left
+in-limits : (c : tie.Else2) → let a = begun (c .before .before) .args in samplesRefused (length (now (a .src))) (length (now (a .dst))) ≡ false
+in-limits c = sym (c .before .samples-refused .ensures) ∙ c .if2 .left
 
 -- the test of the state that led here
 abbrev tested : tie.After-smaller → tie.Else1
@@ -48,12 +49,12 @@ outside-requires c κs = search needs
 returns : tie.Need-returns
 returns c = let e = sym (c .before .outside .ensures) ∙ c .if1 .taken in (chosen _ _ _ e, chosen _ _ _ e)
 
-lengths-refused-requires : tie.Need-lengths-refused-requires
-lengths-refused-requires c κs = search needs
+samples-refused-requires : tie.Need-samples-refused-requires
+samples-refused-requires c κs = search needs
 
 returns-2 : tie.Need-returns-2
 returns-2 c = let e = fine (c .before .before) in
-    let f = sym (c .before .lengths-refused .ensures) ∙ c .if2 .taken in
+    let f = sym (c .before .samples-refused .ensures) ∙ c .if2 .taken in
     (second _ _ _ _ _ e f, second _ _ _ _ _ e f)
 
 pairs-in-requires : tie.Need-pairs-in-requires
@@ -119,7 +120,7 @@ process-spec =
     (tie.spec
     outside-requires
     returns
-    lengths-refused-requires
+    samples-refused-requires
     returns-2
     pairs-in-requires
     smaller-requires

@@ -5,7 +5,8 @@ use lib.Ieee.{Float}
 use Rattle.refusal.specs.Outcome.{Outcome}
 use Rattle.half_band.specs.HbfInt.{intNext, intOut, withIntWindow}
 use Rattle.half_band.specs.declared.hbf_int.HbfInt.{HbfInt}
-use Rattle.half_band.proofs.Bounds.{within, chosen, other}
+use Rattle.refusal.proofs.Limits.{within}
+use Rattle.half_band.proofs.Choices.{chosen, other}
 use Rattle.half_band.proofs.Interpolators.{Usable, taps-long, window-long}
 use native.Mathlib.Omega.{arith}
 use borrow.Author.Needs.{needs}

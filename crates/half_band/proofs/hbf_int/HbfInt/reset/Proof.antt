@@ -2,7 +2,8 @@
 use mathlib.Core.Path.{_≡_, sym, _∙_}
 use mathlib.Core.Bool.{false}
 use Rattle.half_band.specs.HbfInt.{intRefused}
-use Rattle.half_band.proofs.Bounds.{within, chosen, other}
+use Rattle.refusal.proofs.Limits.{within}
+use Rattle.half_band.proofs.Choices.{chosen, other}
 use Rattle.half_band.proofs.Interpolators.{Usable, taps-long}
 use native.Mathlib.Omega.{arith}
 use borrow.Author.Needs.{needs}

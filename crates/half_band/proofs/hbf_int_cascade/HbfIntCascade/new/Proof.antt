@@ -4,7 +4,8 @@ use borrow.Author.Tests.{eqb-false}
 use Rattle.refusal.specs.Outcome.{Opened}
 use Rattle.half_band.specs.HbfIntCascade.{intCascadeFresh, IntCascadeMeets}
 use Rattle.half_band.specs.declared.hbf_int_cascade.HbfIntCascade.{HbfIntCascade}
-use Rattle.half_band.proofs.Bounds.{within, chosen, other}
+use Rattle.refusal.proofs.Limits.{within}
+use Rattle.half_band.proofs.Choices.{chosen, other}
 use Rattle.half_band.proofs.IntCascades.{fresh-meets}
 use borrow.Author.Needs.{needs}
 use Rattle.half_band.proofs.hbf_int_cascade.HbfIntCascade.new.Statement.{statement}

@@ -6,9 +6,10 @@ use lib.Pow.{pow-pos}
 use lib.ListN.{length, take}
 use lib.Seq.{length-take-le}
 use denote.Ref.{now}
-use Rattle.half_band.specs.Limits.{lengthsRefused}
+use Rattle.refusal.specs.Rows.{samplesRefused}
 use Rattle.half_band.specs.HbfIntCascade.{intCascadeRefused, intCascadeCount}
-use Rattle.half_band.proofs.Bounds.{within, chosen, second}
+use Rattle.refusal.proofs.Limits.{within}
+use Rattle.half_band.proofs.Choices.{chosen, second}
 use Rattle.half_band.proofs.DecCascades.{frames-fit}
 use Rattle.half_band.proofs.IntCascades.{block-answer, block-span}
 use native.Mathlib.Omega.{arith}
@@ -25,8 +26,8 @@ fine c = sym (c .before .outside .ensures) ∙ c .if1 .left
 deep : (c : tie.Else1) → begun c .args .self .depth ≤ 5
 deep c = within _ 1 5 (fine c) .most
 
-in-limits : (c : tie.Else2) → let a = begun (c .before .before) .args in lengthsRefused (length (now (a .src))) (length (now (a .dst))) ≡ false
-in-limits c = sym (c .before .lengths-refused .ensures) ∙ c .if2 .left
+in-limits : (c : tie.Else2) → let a = begun (c .before .before) .args in samplesRefused (length (now (a .src))) (length (now (a .dst))) ≡ false
+in-limits c = sym (c .before .samples-refused .ensures) ∙ c .if2 .left
 
 -- the samples taken, and the places of their outputs
 count : (c : tie.After-smaller) → let a = begun (c .before .before .before .before) .args in c .smaller .result ≡ intCascadeCount (a .self .depth) (length (now (a .src))) (length (now (a .dst)))
@@ -54,12 +55,12 @@ outside-requires c κs = search needs
 returns : tie.Need-returns
 returns c = let e = sym (c .before .outside .ensures) ∙ c .if1 .taken in (chosen _ _ _ e, chosen _ _ _ e)
 
-lengths-refused-requires : tie.Need-lengths-refused-requires
-lengths-refused-requires c κs = search needs
+samples-refused-requires : tie.Need-samples-refused-requires
+samples-refused-requires c κs = search needs
 
 returns-2 : tie.Need-returns-2
 returns-2 c = let e = fine (c .before .before) in
-    let f = sym (c .before .lengths-refused .ensures) ∙ c .if2 .taken in
+    let f = sym (c .before .samples-refused .ensures) ∙ c .if2 .taken in
     (second _ _ _ _ _ e f, second _ _ _ _ _ e f)
 
 rate-change-requires : tie.Need-rate-change-requires
@@ -110,7 +111,7 @@ process-spec =
     (tie.spec
     outside-requires
     returns
-    lengths-refused-requires
+    samples-refused-requires
     returns-2
     rate-change-requires
     div-smaller

@@ -1,6 +1,6 @@
 -- `half_band::hbf_int_cascade::HbfIntCascade::reset` meets its contract: it opens anew with the same depth.
 use mathlib.Core.Path.{sym, _∙_}
-use Rattle.half_band.proofs.Bounds.{chosen, other}
+use Rattle.half_band.proofs.Choices.{chosen, other}
 use borrow.Author.Needs.{needs}
 use Rattle.half_band.proofs.hbf_int_cascade.HbfIntCascade.reset.Statement.{statement}
 use Rattle.half_band.proofs.hbf_int_cascade.HbfIntCascade.reset.Tie as tie

@@ -4,7 +4,7 @@ use borrow.Author.Tests.{eqb-false, lt-ltb, le-ltb}
 use Rattle.refusal.specs.Outcome.{Opened}
 use Rattle.half_band.specs.HbfStream.{streamFresh, StreamMeets}
 use Rattle.half_band.specs.declared.hbf_stream.HbfStream.{HbfStream}
-use Rattle.half_band.proofs.Bounds.{chosen, other}
+use Rattle.half_band.proofs.Choices.{chosen, other}
 use Rattle.half_band.proofs.HeldOnes.{stream-meets}
 use borrow.Author.Needs.{needs}
 use Rattle.half_band.proofs.hbf_stream.HbfStream.new.Statement.{statement}

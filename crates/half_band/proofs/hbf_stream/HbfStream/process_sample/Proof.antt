@@ -8,7 +8,7 @@ use Rattle.half_band.specs.declared.hbf_stream.HbfStream.{HbfStream}
 use Rattle.half_band.specs.declared.hbf_stream.HbfOut.{HbfOut}
 use Rattle.half_band.specs.declared.hbf_stream.HbfOut.the-variants as made
 use Rattle.half_band.specs.declared.hbf_stream.HbfStreamOut.{HbfStreamOut}
-use Rattle.half_band.proofs.Bounds.{chosen, other}
+use Rattle.half_band.proofs.Choices.{chosen, other}
 use borrow.Author.Needs.{needs}
 use Rattle.half_band.proofs.hbf_stream.HbfStream.process_sample.Statement.{statement}
 use Rattle.half_band.proofs.hbf_stream.HbfStream.process_sample.Tie as tie
