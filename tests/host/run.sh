@@ -3,12 +3,7 @@
 set -euo pipefail
 cd "$(dirname "$0")/../.."
 
-archive=${GAUGE_ARCHIVE:-}
-if [[ -z $archive ]]; then
-    rt staticlib ffi >/dev/null
-    archive=target/staticlib/libffi.a
-fi
-GAUGE_ARCHIVE=$(realpath "$archive")
+GAUGE_ARCHIVE=$(host/archive.sh)
 export GAUGE_ARCHIVE
 
 tests/host/declarations.sh
