@@ -3,9 +3,9 @@
 use crate::fault::Fault;
 use crate::line_file::LineFile;
 use crate::options::Options;
-use crate::passband::PASSBANDS;
 use crate::section::{Section, first_level, sections, whole};
 use crate::target::Target;
+use gauge_line::passband::PASSBANDS;
 use gauge_line::{CicDecimator, Line, limits};
 use std::fmt::Write;
 
