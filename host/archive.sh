@@ -6,6 +6,6 @@ cd "$(dirname "$0")/.."
 if [[ -z ${GAUGE_ARCHIVE:-} ]]; then
     GAUGE_ARCHIVE=target/staticlib/libffi.a
     # The caller may be a recipe itself; its flags are not meant for this rule.
-    MAKEFLAGS='' make --no-print-directory "$GAUGE_ARCHIVE" >&2
+    MAKEFLAGS='' make --silent "$GAUGE_ARCHIVE" >&2
 fi
 realpath "$GAUGE_ARCHIVE"

@@ -5,7 +5,7 @@ cd "$(dirname "$0")/.."
 
 mkdir -p target
 echo "proving the archive: minutes from a fresh clone, less where crates are unchanged" >&2
-if ! rt staticlib ffi 2>&1 | tee target/staticlib.log | { grep '^rt: ' || true; } >&2; then
+if ! rt staticlib ffi 2>&1 | tee target/staticlib.log | { grep --line-buffered '^rt: ' || true; } >&2; then
     tail -n 20 target/staticlib.log >&2
     exit 1
 fi
