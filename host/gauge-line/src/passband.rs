@@ -13,6 +13,9 @@
 
 use crate::limits::MOST_DEPTH;
 
+/// Taps of the half-band stages, one side of each filter, in the order in which a decimating cascade runs them. In [`hbf_tap_table`](crate::hbf_tap_table) they stand the other way round.
+pub const STAGE_TAPS: [usize; MOST_DEPTH] = [3, 4, 5, 10, 23];
+
 /// Figures of one depth; frequencies in parts of the cascade's output rate.
 #[derive(Clone, Copy, Debug, PartialEq)]
 pub struct Passband {

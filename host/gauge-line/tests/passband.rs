@@ -1,7 +1,7 @@
 //! The table of depth and passband, computed from the taps; the pages and the header say the same. Frequencies are in parts of the output rate.
 
 use gauge_line::hbf_tap_table;
-use gauge_line::passband::{PASSBANDS, Passband};
+use gauge_line::passband::{PASSBANDS, Passband, STAGE_TAPS};
 use std::f64::consts::TAU;
 
 const GRID: f64 = 0.0005;
@@ -18,7 +18,12 @@ const HEADER: &str = include_str!("../../../include/gauge_line.h");
 // The stages in the order in which the cascade runs them.
 fn stages() -> [Vec<f64>; 5] {
     let table = hbf_tap_table().map(f64::from);
-    [42..45, 38..42, 33..38, 23..33, 0..23].map(|places| table[places].to_vec())
+    let mut end = table.len();
+    STAGE_TAPS.map(|taps| {
+        let past = end;
+        end -= taps;
+        table[end..past].to_vec()
+    })
 }
 
 // One stage at a frequency in parts of its own input rate: 0.5 in the middle, tap t at the odd distance 2M - 1 - 2t on both sides.
