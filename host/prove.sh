@@ -3,6 +3,7 @@
 set -euo pipefail
 cd "$(dirname "$0")/.."
 
+command -v rt >/dev/null || { echo "no rt on the PATH: the archive is proved by the Rattle kit" >&2 && exit 1; }
 mkdir -p target
 echo "proving the archive: minutes from a fresh clone, less where crates are unchanged" >&2
 if ! rt staticlib ffi 2>&1 | tee target/staticlib.log | { grep --line-buffered '^rt: ' || true; } >&2; then
