@@ -7,11 +7,7 @@ from=bench/src
 rust=tests/oracle/rust
 to=target/bench
 
-archive=${GAUGE_ARCHIVE:-}
-if [[ -z $archive ]]; then
-    rt staticlib ffi >/dev/null
-    archive=target/staticlib/libffi.a
-fi
+archive=$(host/archive.sh)
 
 (cd "$rust" && sha256sum --check --quiet SHA256SUMS)
 

@@ -7,12 +7,9 @@ log=$(mktemp)
 trap 'rm -f "$log"' EXIT
 rt ci 2>&1 | tee "$log"
 
-# Made once for both: rt proves a crate again for its archive.
-if ! rt staticlib ffi >target/staticlib.log 2>&1; then
-    tail -n 20 target/staticlib.log
-    exit 1
-fi
-GAUGE_ARCHIVE=$PWD/target/staticlib/libffi.a
+# Always the archive of what was just proved.
+unset GAUGE_ARCHIVE
+GAUGE_ARCHIVE=$(host/archive.sh)
 export GAUGE_ARCHIVE
 tests/oracle/run.sh "$@"
 tests/host/run.sh

@@ -3,11 +3,7 @@
 set -euo pipefail
 cd "$(dirname "$0")/../.."
 
-if [[ -z ${GAUGE_ARCHIVE:-} ]]; then
-    rt staticlib ffi >/dev/null
-    GAUGE_ARCHIVE=target/staticlib/libffi.a
-fi
-GAUGE_ARCHIVE=$(realpath "$GAUGE_ARCHIVE")
+GAUGE_ARCHIVE=$(host/archive.sh)
 export GAUGE_ARCHIVE CARGO_TARGET_DIR=target/host/cargo
 
-cargo run --offline --quiet --manifest-path examples/demo/Cargo.toml -- examples/demo/tail.settings "${1:-target/demo}"
+cargo run --offline --quiet --release --manifest-path examples/demo/Cargo.toml -- examples/demo/tail.settings "${1:-target/demo}"

@@ -1,4 +1,4 @@
-//! Links the archive: the one that GAUGE_ARCHIVE names, else the one that `rt staticlib ffi` makes in this repository.
+//! Links the archive: the one that GAUGE_ARCHIVE names, else the one that `make` makes in this repository.
 
 use std::env;
 use std::path::{Path, PathBuf};
@@ -12,7 +12,7 @@ fn main() {
     println!("cargo::rerun-if-changed={}", archive.display());
     let archive = archive.canonicalize().unwrap_or_else(|why| {
         panic!(
-            "{}: {why}; `rt staticlib ffi` makes it, or GAUGE_ARCHIVE names another",
+            "{}: {why}; `make` at the top of the repository makes it, or GAUGE_ARCHIVE names another",
             archive.display()
         )
     });

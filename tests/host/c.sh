@@ -43,3 +43,12 @@ awk -v to="$page" -f tests/host/blocks.awk docs/c.md
 for source in "$page"/*.c; do
     as_c "$source" "${source%.c}.txt"
 done
+
+# The page's own command, with its first program and files where it looks for them.
+command=$(sed -n 's/^    \(gcc .*\)/\1/p' docs/c.md)
+mkdir -p "$page/by_command/target/staticlib"
+cp -r include "$page/by_command/"
+cp "$GAUGE_ARCHIVE" "$page/by_command/target/staticlib/libffi.a"
+cp "$page/1.c" "$page/by_command/program.c"
+(cd "$page/by_command" && bash -c "$command" && ./program) | diff "$page/1.txt" -
+echo "c: docs/c.md by its own command"

@@ -1,14 +1,9 @@
 #!/usr/bin/env bash
-# The interfaces for C and Rust: declarations, programs, pages, the crate; the fitter's tool and the demo. GAUGE_ARCHIVE names another archive to link.
+# The interfaces for C and Rust: declarations, programs, pages, the crate; the fitter's tool and the demo; what the pages say. GAUGE_ARCHIVE names another archive to link.
 set -euo pipefail
 cd "$(dirname "$0")/../.."
 
-archive=${GAUGE_ARCHIVE:-}
-if [[ -z $archive ]]; then
-    rt staticlib ffi >/dev/null
-    archive=target/staticlib/libffi.a
-fi
-GAUGE_ARCHIVE=$(realpath "$archive")
+GAUGE_ARCHIVE=$(host/archive.sh)
 export GAUGE_ARCHIVE
 
 tests/host/declarations.sh
@@ -18,3 +13,4 @@ tests/host/c.sh
 tests/host/cargo.sh
 tests/host/gauge.sh
 tests/host/demo.sh
+tests/host/pages.sh

@@ -1,6 +1,6 @@
 #!/usr/bin/env bash
 # Builds target/oracle/oracle with rustc alone: the unchanged Rust as a crate of its own, then the program over it and over the archive.
-# GAUGE_ARCHIVE names an archive that is built already; without it the crate ffi is built here.
+# GAUGE_ARCHIVE names another archive to link.
 set -euo pipefail
 cd "$(dirname "$0")/../.."
 
@@ -29,14 +29,7 @@ if [ "$now" != "$(cat "$to/built" 2>/dev/null)" ]; then
     echo "$now" >"$to/built"
 fi
 
-archive=${GAUGE_ARCHIVE:-}
-if [ -z "$archive" ]; then
-    archive=target/staticlib/libffi.a
-    if ! rt staticlib ffi >"$to/staticlib.log" 2>&1; then
-        tail -n 20 "$to/staticlib.log"
-        exit 1
-    fi
-fi
+archive=$(host/archive.sh)
 
 rustc --edition 2024 -O --crate-name gauge_raw --crate-type rlib \
     -o "$to/libgauge_raw.rlib" host/gauge-line/src/raw.rs

@@ -8,8 +8,8 @@ use gauge::fault::Fault;
 use gauge::format::Format;
 use gauge::levels::Levels;
 use gauge::line_file::LineFile;
-use gauge::plot::Places;
-use gauge::svg::drawing;
+use gauge::plot::{LEVEL, Places};
+use gauge::svg::Drawing;
 use gauge::target::Target;
 use holding::holding_levels;
 use recording::{HOURS, OFFSET, RATE, first_round, recording};
@@ -44,17 +44,35 @@ fn demonstrate(settings: &str, directory: &str) -> Result<(), Fault> {
     write_samples(&within("recording.txt"), &samples)?;
     write_levels(&within("levels.txt"), &levels)?;
     write_levels(&within("holding.txt"), &held)?;
-    let places = Places::of(&file)?;
-    let series = [
-        places.samples(&samples),
-        places.levels("levels with a holding integrator (wrong)", "#c33", &held),
-        places.levels("levels", "#063", &levels),
-    ];
-    let title = "Tail channel: a holding integrator reads low once the sum has come round";
-    let svg = drawing(title, "sample, 8 a second", &series);
-    write_text(&within("levels.svg"), &svg)?;
+    write_text(
+        &within("levels.svg"),
+        &picture(&file, &samples, &levels, &held)?,
+    )?;
     println!("\nIn {directory}: recording.txt, levels.txt, holding.txt, levels.svg");
     Ok(())
+}
+
+fn picture(
+    file: &LineFile,
+    samples: &[i32],
+    levels: &[f32],
+    held: &[f32],
+) -> Result<String, Fault> {
+    let hour = 3600.0 * RATE as f64;
+    let places = Places::of(file, hour)?;
+    let name = "the sum of all samples passes 2^31 - 1";
+    let drawing = Drawing {
+        title: "Tail channel: one line wraps its sums, the other holds them",
+        x_name: "time, hours",
+        y_name: LEVEL,
+        mark: first_round(samples).map(|round| (round as f64 / hour, name)),
+        series: vec![
+            places.samples(samples),
+            places.levels("levels, holding integrator (wrong)", "#d62728", 4.5, held),
+            places.levels("levels", "#003f7d", 1.6, levels),
+        ],
+    };
+    Ok(drawing.svg())
 }
 
 fn summarize(samples: &[i32], levels: &[f32], held: &[f32]) {

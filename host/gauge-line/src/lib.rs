@@ -1,20 +1,9 @@
-//! The gauge line and its rate converters for Rust: safe types over the archive that `rt staticlib ffi` makes. The archive is proved, in crates/ffi/src, to do what the
+//! The gauge line and its rate converters for Rust: safe types over the archive that `make` makes. The archive is proved, in crates/ffi/src, to do what the
 //! comments here say; this crate only lends it places. No allocation, no global state, no dependency.
 //!
 //! [`Line`] takes cell samples and gives levels; the other types are its parts and their inverses. docs/rust.md is the page for a user.
 //!
-//! # Depth and passband
-//!
-//! A cascade of depth d runs the first d half-band stages of M = 3, 4, 5, 10, 23 taps, as the Rust original does. The long last stage is what makes the passband wide, so only
-//! depth 5 holds 140 dB up to 0.4 of the output rate. Computed from the taps:
-//!
-//! | depth | worst alias into 0 to 0.4 of the output rate | aliases below −140 dB up to, of the output rate | level at 0.4 of the output rate |
-//! |---|---|---|---|
-//! | 1 | −12.9 dB | 0.037 | −2.2 dB |
-//! | 2 | −15.0 dB | 0.074 | −1.9 dB |
-//! | 3 | −16.6 dB | 0.130 | −1.5 dB |
-//! | 4 | −28.0 dB | 0.260 | −0.4 dB |
-//! | 5 | −143.0 dB | 0.400 | 0.0 dB |
+//! Only depth 5 of the half-band cascade holds 140 dB up to 0.4 of its output rate: [`passband`] has the figures of each depth.
 #![no_std]
 #![warn(missing_docs)]
 
@@ -29,6 +18,7 @@ mod hbf_stream;
 pub mod limits;
 mod line;
 mod moved;
+pub mod passband;
 mod polyphase_resamp;
 mod q15_blocks;
 mod raw;

@@ -18,6 +18,7 @@ pub fn perform(arguments: &[String]) -> Result<(), Fault> {
         Some((command, rest)) if command == "run" => run(rest),
         Some((command, rest)) if command == "explain" => explain(rest),
         Some((command, rest)) if command == "plot" => plot(rest),
+        Some((command, _)) if command == "help" => print(HELP),
         Some((command, _)) => Err(Fault::usage(format!("no command {}", front(command)))),
         None => Err(Fault::usage("no command")),
     }

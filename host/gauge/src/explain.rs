@@ -3,9 +3,9 @@
 use crate::fault::Fault;
 use crate::line_file::LineFile;
 use crate::options::Options;
-use crate::passband::PASSBANDS;
 use crate::section::{Section, first_level, sections, whole};
 use crate::target::Target;
+use gauge_line::passband::{PASSBANDS, STAGE_TAPS};
 use gauge_line::{CicDecimator, Line, limits};
 use std::fmt::Write;
 
@@ -98,10 +98,14 @@ fn add_passband(text: &mut String, depth: usize) {
     let Some(figures) = depth.checked_sub(1).and_then(|at| PASSBANDS.get(at)) else {
         return;
     };
+    let taps = |depth: usize| STAGE_TAPS[..depth].iter().map(usize::to_string);
+    let taps = |depth| taps(depth).collect::<Vec<String>>().join(", ");
     add!(text, "");
     add!(
         text,
-        "Depth {depth} runs the first {depth} of the half-band stages of 3, 4, 5, 10 and 23 taps. Of the cascade's output rate:"
+        "Depth {depth}: half-band stages of {} taps, out of {}. Of the cascade's output rate:",
+        taps(depth),
+        taps(limits::MOST_DEPTH)
     );
     add!(
         text,

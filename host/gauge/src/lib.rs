@@ -11,7 +11,6 @@ pub mod levels;
 pub mod line_file;
 mod numbers;
 mod options;
-mod passband;
 pub mod plot;
 mod progress;
 mod run;

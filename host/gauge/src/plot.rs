@@ -7,10 +7,13 @@ use crate::line_file::LineFile;
 use crate::options::Options;
 use crate::samples::Samples;
 use crate::section::{first_level, sections, whole};
-use crate::svg::{Series, drawing};
+use crate::svg::{Drawing, Series};
 use crate::target::Target;
 
 const OPTIONS: [&str; 4] = ["--settings", "--in", "--out", "--format"];
+
+/// What levels are in parts of, for a drawing.
+pub const LEVEL: &str = "level, in parts of full scale (32768)";
 
 /// Draws a recording and its levels as the arguments say.
 pub fn plot(arguments: &[String]) -> Result<(), Fault> {
@@ -22,12 +25,18 @@ pub fn plot(arguments: &[String]) -> Result<(), Fault> {
     let samples = Samples::open(options.get("--in").unwrap_or("-"), format)?.all()?;
     let mut target = Target::create(options.get("--out").unwrap_or("-"))?;
     let levels = levels_of(&mut line, &samples)?;
-    let places = Places::of(&file)?;
-    let series = [
-        places.samples(&samples),
-        places.levels("levels", "#c33", &levels),
-    ];
-    target.write(drawing(name, "sample", &series).as_bytes())?;
+    let places = Places::of(&file, 1.0)?;
+    let drawing = Drawing {
+        title: name,
+        x_name: "sample",
+        y_name: LEVEL,
+        mark: None,
+        series: vec![
+            places.samples(&samples),
+            places.levels("levels", "#005a9c", 2.0, &levels),
+        ],
+    };
+    target.write(drawing.svg().as_bytes())?;
     target.finish()
 }
 
@@ -36,11 +45,12 @@ pub struct Places {
     first: f64,
     every: f64,
     gain: f64,
+    unit: f64,
 }
 
 impl Places {
-    /// For the line of a settings file. A level stands at the sample that it tells of, its delay taken off.
-    pub fn of(file: &LineFile) -> Result<Places, Fault> {
+    /// For the line of a settings file, with so many samples to a unit of the axis. A level stands at the sample that it tells of, its delay taken off.
+    pub fn of(file: &LineFile, unit: f64) -> Result<Places, Fault> {
         let sections = sections(file).map_err(|refusal| Fault::file("the line", refusal))?;
         let whole = whole(&sections);
         let delay = Some(whole.delay).filter(|delay| delay.is_finite());
@@ -48,6 +58,7 @@ impl Places {
             first: first_level(file) as f64 - 1.0 - delay.unwrap_or(0.0),
             every: whole.samples_per_value,
             gain: whole.gain,
+            unit,
         })
     }
 
@@ -56,18 +67,25 @@ impl Places {
         let level = |sample: &i32| f64::from(*sample) / 32768.0 * self.gain;
         Series {
             name: "samples, times the line's gain",
-            colour: "#9bd",
+            colour: "#a9bccb",
+            width: 1.0,
             points: samples
                 .iter()
                 .enumerate()
-                .map(|(at, s)| (at as f64, level(s)))
+                .map(|(at, s)| (at as f64 / self.unit, level(s)))
                 .collect(),
         }
     }
 
     /// Levels, without those that tell of the time before the start.
-    pub fn levels<'a>(&self, name: &'a str, colour: &'a str, levels: &[f32]) -> Series<'a> {
-        let place = |k: usize| self.first + k as f64 * self.every;
+    pub fn levels<'a>(
+        &self,
+        name: &'a str,
+        colour: &'a str,
+        width: f64,
+        levels: &[f32],
+    ) -> Series<'a> {
+        let place = |k: usize| (self.first + k as f64 * self.every) / self.unit;
         let points = levels
             .iter()
             .enumerate()
@@ -75,6 +93,7 @@ impl Places {
         Series {
             name,
             colour,
+            width,
             points: points.filter(|(at, _)| *at >= 0.0).collect(),
         }
     }

@@ -1,6 +1,7 @@
 //! The sections of a line as filters: how many values each hands on, how late, and at which gain.
 
 use crate::line_file::LineFile;
+use gauge_line::passband::STAGE_TAPS;
 use gauge_line::{CicDecimator, Refusal, hbf_tap_table};
 
 /// One section as a filter. Times are in samples of the recording.
@@ -89,12 +90,14 @@ fn fir(file: &LineFile, rate: f64) -> Section {
 // A stage of M taps has its middle 2M values back and its oldest 4M - 1.
 fn half_band(file: &LineFile, rate: f64) -> Section {
     let table = hbf_tap_table().map(f64::from);
-    let stages = [42..45, 38..42, 33..38, 23..33, 0..23];
+    let mut rest = &table[..];
     let (mut rate, mut delay, mut reach, mut gain) = (rate, 0.0, 0.0, 1.0);
-    for taps in stages.into_iter().take(file.settings.depth) {
-        delay += rate * 2.0 * taps.len() as f64;
-        reach += rate * (4 * taps.len() - 1) as f64;
-        gain *= 0.5 + table[taps].iter().sum::<f64>();
+    for taps in STAGE_TAPS.into_iter().take(file.settings.depth) {
+        let (before, own) = rest.split_at(rest.len() - taps);
+        rest = before;
+        delay += rate * 2.0 * taps as f64;
+        reach += rate * (4 * taps - 1) as f64;
+        gain *= 0.5 + own.iter().sum::<f64>();
         rate *= 2.0;
     }
     Section {

@@ -3,11 +3,16 @@
 use std::fmt::Write;
 
 const WIDTH: f64 = 960.0;
-const HEIGHT: f64 = 420.0;
-const LEFT: f64 = 70.0;
-const TOP: f64 = 40.0;
-const COLUMNS: usize = 840;
-const PLOT_HEIGHT: f64 = 310.0;
+const HEIGHT: f64 = 470.0;
+const LEFT: f64 = 80.0;
+const TOP: f64 = 76.0;
+const COLUMNS: usize = 850;
+const PLOT_HEIGHT: f64 = 330.0;
+// Where the names of the series stand, and how wide a letter of them is at most.
+const LEGEND: f64 = 56.0;
+const LETTER: f64 = 7.6;
+// So few points are marked one by one.
+const FEW: usize = 60;
 
 /// One line of a drawing.
 pub struct Series<'a> {
@@ -15,8 +20,24 @@ pub struct Series<'a> {
     pub name: &'a str,
     /// Its colour, as SVG names it.
     pub colour: &'a str,
+    /// How wide the line is.
+    pub width: f64,
     /// Its points, from left to right.
     pub points: Vec<(f64, f64)>,
+}
+
+/// Series over one axis, with their names.
+pub struct Drawing<'a> {
+    /// What is drawn.
+    pub title: &'a str,
+    /// What the axis across shows, with its unit.
+    pub x_name: &'a str,
+    /// What the axis upward shows, with its unit.
+    pub y_name: &'a str,
+    /// A place on the axis across, and what happens there.
+    pub mark: Option<(f64, &'a str)>,
+    /// The lines, the lowest first.
+    pub series: Vec<Series<'a>>,
 }
 
 // What the axes span.
@@ -28,9 +49,12 @@ struct Frame {
 impl Frame {
     fn of(series: &[Series]) -> Frame {
         let points = || series.iter().flat_map(|series| &series.points);
+        let (low, high) = span(points().map(|point| point.1));
+        // A line at the edge would lie on the axis.
+        let margin = 0.04 * (high - low);
         Frame {
             x: span(points().map(|point| point.0)),
-            y: span(points().map(|point| point.1)),
+            y: (low - margin, high + margin),
         }
     }
 
@@ -42,70 +66,115 @@ impl Frame {
     }
 }
 
-/// The drawing as a text.
-pub fn drawing(title: &str, x_name: &str, series: &[Series]) -> String {
-    let frame = Frame::of(series);
-    let mut svg = format!(
-        "<svg xmlns=\"http://www.w3.org/2000/svg\" viewBox=\"0 0 {WIDTH} {HEIGHT}\" font-family=\"sans-serif\" font-size=\"12\">\n<rect width=\"{WIDTH}\" height=\"{HEIGHT}\" fill=\"white\"/>\n"
-    );
-    add_text(&mut svg, (LEFT, 22.0), "start", "black", title);
-    let middle = LEFT + COLUMNS as f64 / 2.0;
-    add_text(
-        &mut svg,
-        (middle, TOP + PLOT_HEIGHT + 36.0),
-        "middle",
-        "black",
-        x_name,
-    );
-    add_grid(&mut svg, &frame);
-    for (at, series) in series.iter().enumerate() {
-        add_series(&mut svg, &frame, series);
-        let place = (LEFT + at as f64 * 280.0, HEIGHT - 10.0);
-        add_text(&mut svg, place, "start", series.colour, series.name);
+impl Drawing<'_> {
+    /// The drawing as a text. It has a white ground of its own, so that it can be read on a dark page too.
+    pub fn svg(&self) -> String {
+        let frame = Frame::of(&self.series);
+        let mut svg = format!(
+            "<svg xmlns=\"http://www.w3.org/2000/svg\" width=\"{WIDTH}\" height=\"{HEIGHT}\" viewBox=\"0 0 {WIDTH} {HEIGHT}\" font-family=\"sans-serif\" font-size=\"14\">\n<rect width=\"{WIDTH}\" height=\"{HEIGHT}\" fill=\"white\"/>\n"
+        );
+        self.add_names(&mut svg);
+        add_grid(&mut svg, &frame);
+        for series in &self.series {
+            add_series(&mut svg, &frame, series);
+        }
+        if let Some((x, name)) = self.mark {
+            add_mark(&mut svg, frame.place((x, 0.0)).0, name);
+        }
+        add_legend(&mut svg, &self.series);
+        svg.push_str("</svg>\n");
+        svg
     }
-    svg.push_str("</svg>\n");
-    svg
+
+    fn add_names(&self, svg: &mut String) {
+        let size = " font-size=\"17\" font-weight=\"bold\"";
+        add_text(svg, (LEFT, 26.0), size, self.title);
+        let across = LEFT + COLUMNS as f64 / 2.0;
+        let below = (across, TOP + PLOT_HEIGHT + 46.0);
+        add_text(svg, below, " text-anchor=\"middle\"", self.x_name);
+        let up = TOP + PLOT_HEIGHT / 2.0;
+        let turned = format!(" text-anchor=\"middle\" transform=\"rotate(-90 20 {up:.1})\"");
+        add_text(svg, (20.0, up), &turned, self.y_name);
+    }
 }
 
 fn add_grid(svg: &mut String, frame: &Frame) {
     for x in ticks(frame.x) {
         let (right, _) = frame.place((x, frame.y.0));
-        add_line(svg, (right, TOP), (right, TOP + PLOT_HEIGHT));
-        let place = (right, TOP + PLOT_HEIGHT + 18.0);
-        add_text(svg, place, "middle", "black", &tick_name(x));
+        add_line(svg, (right, TOP), (right, TOP + PLOT_HEIGHT), "#ddd", "");
+        let place = (right, TOP + PLOT_HEIGHT + 20.0);
+        add_text(svg, place, " text-anchor=\"middle\"", &tick_name(x));
     }
     for y in ticks(frame.y) {
         let (_, down) = frame.place((frame.x.0, y));
-        add_line(svg, (LEFT, down), (LEFT + COLUMNS as f64, down));
-        add_text(svg, (LEFT - 6.0, down + 4.0), "end", "black", &tick_name(y));
+        let right = LEFT + COLUMNS as f64;
+        add_line(svg, (LEFT, down), (right, down), "#ddd", "");
+        let place = (LEFT - 8.0, down + 5.0);
+        add_text(svg, place, " text-anchor=\"end\"", &tick_name(y));
     }
 }
 
-fn add_line(svg: &mut String, from: (f64, f64), to: (f64, f64)) {
-    let (x, y) = from;
-    let path = format!("M{x:.1} {y:.1}L{:.1} {:.1}", to.0, to.1);
-    svg.push_str(&format!("<path d=\"{path}\" stroke=\"#ddd\"/>\n"));
+// A broken line upward, with its name on the side that has more room.
+fn add_mark(svg: &mut String, x: f64, name: &str) {
+    let dashes = " stroke-dasharray=\"6 4\"";
+    add_line(svg, (x, TOP), (x, TOP + PLOT_HEIGHT), "#444", dashes);
+    let (side, anchor) = if x < LEFT + COLUMNS as f64 / 2.0 {
+        (8.0, "start")
+    } else {
+        (-8.0, "end")
+    };
+    let place = (x + side, TOP + PLOT_HEIGHT * 0.72);
+    add_text(svg, place, &format!(" text-anchor=\"{anchor}\""), name);
 }
 
-fn add_text(svg: &mut String, (x, y): (f64, f64), anchor: &str, colour: &str, text: &str) {
+// A piece of each line and its name, one behind another.
+fn add_legend(svg: &mut String, series: &[Series]) {
+    let mut x = LEFT;
+    for series in series {
+        let sample = format!(" stroke-width=\"{}\"", series.width.max(3.0));
+        let height = LEGEND - 5.0;
+        add_line(svg, (x, height), (x + 26.0, height), series.colour, &sample);
+        add_text(svg, (x + 34.0, LEGEND), "", series.name);
+        x += 60.0 + LETTER * series.name.chars().count() as f64;
+    }
+}
+
+fn add_line(svg: &mut String, from: (f64, f64), to: (f64, f64), colour: &str, more: &str) {
+    let (x, y) = from;
+    let path = format!("M{x:.1} {y:.1}L{:.1} {:.1}", to.0, to.1);
+    svg.push_str(&format!("<path d=\"{path}\" stroke=\"{colour}\"{more}/>\n"));
+}
+
+fn add_text(svg: &mut String, (x, y): (f64, f64), how: &str, text: &str) {
     let text = text.replace('&', "&amp;").replace('<', "&lt;");
     svg.push_str(&format!(
-        "<text x=\"{x:.1}\" y=\"{y:.1}\" text-anchor=\"{anchor}\" fill=\"{colour}\">{text}</text>\n"
+        "<text x=\"{x:.1}\" y=\"{y:.1}\"{how}>{text}</text>\n"
     ));
 }
 
 fn add_series(svg: &mut String, frame: &Frame, series: &Series) {
-    let mut path = String::new();
     let finite = |point: &(f64, f64)| point.1.is_finite();
-    for point in thinned(frame, &series.points).into_iter().filter(finite) {
-        let (x, y) = frame.place(point);
+    let points = thinned(frame, &series.points).into_iter().filter(finite);
+    let places: Vec<(f64, f64)> = points.map(|point| frame.place(point)).collect();
+    let mut path = String::new();
+    for (x, y) in &places {
         write!(path, " {x:.1},{y:.1}").expect("a text grows");
     }
     svg.push_str(&format!(
-        "<polyline fill=\"none\" stroke=\"{}\" points=\"{}\"/>\n",
+        "<polyline fill=\"none\" stroke=\"{}\" stroke-width=\"{}\" stroke-linejoin=\"round\" points=\"{}\"/>\n",
         series.colour,
+        series.width,
         path.trim_start()
     ));
+    if places.len() < FEW {
+        for (x, y) in places {
+            svg.push_str(&format!(
+                "<circle cx=\"{x:.1}\" cy=\"{y:.1}\" r=\"{}\" fill=\"{}\"/>\n",
+                1.5 + series.width,
+                series.colour
+            ));
+        }
+    }
 }
 
 // The lowest and the highest point of each column that holds more than two: nothing that can be seen is lost.
@@ -117,9 +186,10 @@ fn thinned(frame: &Frame, points: &[(f64, f64)]) -> Vec<(f64, f64)> {
             let by_height = |a: &&(f64, f64), b: &&(f64, f64)| a.1.total_cmp(&b.1);
             let lowest = inside.iter().min_by(by_height).copied();
             let highest = inside.iter().max_by(by_height).copied();
-            let mut ends = [lowest, highest];
-            ends.sort_by(|a, b| a.partial_cmp(b).unwrap_or(std::cmp::Ordering::Equal));
-            ends.into_iter().flatten()
+            let mut ends: Vec<(f64, f64)> = [lowest, highest].into_iter().flatten().collect();
+            ends.sort_by(|a, b| a.0.total_cmp(&b.0));
+            ends.dedup();
+            ends
         })
         .collect()
 }
@@ -137,7 +207,7 @@ fn span(values: impl Iterator<Item = f64>) -> (f64, f64) {
     }
 }
 
-// Round numbers within a span, at most ten.
+// Round numbers within a span, some ten at most. One that is missed by a sample in thousands counts as within.
 fn ticks((low, high): (f64, f64)) -> Vec<f64> {
     let least = (high - low) / 10.0;
     let power = 10f64.powf(least.log10().floor());
@@ -146,8 +216,8 @@ fn ticks((low, high): (f64, f64)) -> Vec<f64> {
         .into_iter()
         .find(|step| *step >= least)
         .unwrap_or(10.0 * power);
-    let first = (low / step).ceil() as i64;
-    let last = (high / step).floor() as i64;
+    let first = (low / step - 1e-3).ceil() as i64;
+    let last = (high / step + 1e-3).floor() as i64;
     (first..=last).map(|k| k as f64 * step).collect()
 }
 
@@ -159,6 +229,15 @@ fn tick_name(value: f64) -> String {
 #[cfg(test)]
 mod tests {
     use super::*;
+
+    fn series(name: &str, points: Vec<(f64, f64)>) -> Series<'_> {
+        Series {
+            name,
+            colour: "black",
+            width: 1.0,
+            points,
+        }
+    }
 
     #[test]
     fn ticks_are_round_and_few() {
@@ -177,11 +256,7 @@ mod tests {
         let points: Vec<(f64, f64)> = (0..100_002)
             .map(|i| (f64::from(i), f64::from(i % 7)))
             .collect();
-        let series = [Series {
-            name: "a",
-            colour: "black",
-            points,
-        }];
+        let series = [series("a", points)];
         let kept = thinned(&Frame::of(&series), &series[0].points);
         assert!(kept.len() <= 2 * (COLUMNS + 1));
         assert!(kept.iter().all(|point| point.1 == 0.0 || point.1 == 6.0));
@@ -191,14 +266,18 @@ mod tests {
     #[test]
     fn nothing_and_one_point_are_drawn_too() {
         for points in [vec![], vec![(3.0, 4.0)], vec![(0.0, f64::NAN)]] {
-            let series = [Series {
-                name: "<a>",
-                colour: "black",
-                points,
-            }];
-            let svg = drawing("a & b", "x", &series);
+            let finite = points.iter().filter(|point| point.1.is_finite()).count();
+            let drawing = Drawing {
+                title: "a & b",
+                x_name: "x",
+                y_name: "y",
+                mark: Some((3.0, "here")),
+                series: vec![series("<a>", points)],
+            };
+            let svg = drawing.svg();
             assert!(svg.contains("a &amp; b") && svg.contains("&lt;a>"));
             assert!(!svg.contains("NaN"));
+            assert_eq!(svg.matches("<circle").count(), finite);
         }
     }
 }
