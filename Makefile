@@ -3,11 +3,14 @@
 # make host: the interfaces for C and Rust, the fitter's tool and the demo, checked and run.
 # make demo: a simulated recording through the line, beside one whose integrator holds; levels and a drawing go to target/demo.
 # make bench: what a sample costs here and in the Rust; BENCH="--rounds 100" gives it other options. make bench-instructions: the same in instructions.
-.PHONY: run test compare host demo bench bench-instructions
+# make targets: the proved module recompiled for other machines, its outputs compared with those on x86-64; MACHINES="wasm32" names some of them.
+# make firmware: the archive for Cortex-M4F, with a table of its code and stack, in target/firmware.
+.PHONY: run test compare host demo bench bench-instructions targets firmware
 
 SEEDS =
 SEED = 20261116
 BENCH =
+MACHINES =
 
 run:
 	@rt check readings >/dev/null
@@ -31,3 +34,9 @@ bench:
 
 bench-instructions:
 	@bench/run.sh --callgrind $(BENCH)
+
+targets:
+	@targets/run.sh $(MACHINES)
+
+firmware:
+	@targets/firmware.sh
