@@ -1,6 +1,5 @@
 #!/bin/sh
 # Leaves in target/firmware libgauge_line.a, the proved module for Cortex-M4F, with its headers, and table.md: code size and stack of each function. Needs the kit, and readelf of binutils.
-# shellcheck disable=SC2086,SC2154
 set -eu
 cd "$(dirname "$0")/.."
 to=$PWD/target/targets
@@ -15,9 +14,9 @@ mkdir -p "$out"
 awk -f targets/calls.awk "$to/module.ll" >"$to/calls.txt"
 tsort "$to/calls.txt" >/dev/null
 
-targets/recompile.sh thumbv7em-none-eabihf "$to/firmware.o" $m4 -fstack-usage
-"$to/bin/llvm-ar" rcs "$out/libgauge_line.a" "$to/firmware.o"
+cortex_m4_object
+"$to/bin/llvm-ar" rcs "$out/libgauge_line.a" "$to/cortex_m4.o"
 cp include/*.h "$out/"
-readelf -SWrs "$to/firmware.o" >"$to/firmware.txt"
-awk -f targets/firmware.awk "$to/firmware.su" "$to/firmware.txt" >"$out/table.md"
+readelf -SWrs "$to/cortex_m4.o" >"$to/cortex_m4.elf.txt"
+awk -f targets/firmware.awk "$to/cortex_m4.su" "$to/cortex_m4.elf.txt" >"$out/table.md"
 cat "$out/table.md"

@@ -49,9 +49,14 @@ cortex_m4_needs() {
     tool qemu-system-arm qemu-system-arm
 }
 
+# The object that firmware.sh puts in the archive; beside it, the frame of each function.
+cortex_m4_object() {
+    targets/recompile.sh thumbv7em-none-eabihf "$to/cortex_m4.o" $m4 -fstack-usage
+}
+
 # No system: the board MPS2 AN386 of QEMU, and newlib, which writes by semihosting. A program that hangs is stopped.
 cortex_m4_prints() {
-    targets/recompile.sh thumbv7em-none-eabihf "$to/cortex_m4.o" $m4 &&
+    cortex_m4_object &&
         arm-none-eabi-gcc $strict -mthumb $m4 -nostartfiles -T targets/cortex_m4/link.ld --specs=rdimon.specs \
             -Wl,--no-warn-execstack $program targets/stdio.c targets/cortex_m4/start.c "$to/cortex_m4.o" -o "$to/cortex_m4" &&
         timeout 300 qemu-system-arm -M mps2-an386 -cpu cortex-m4 -nographic -monitor none -serial none \

@@ -16,7 +16,7 @@ mirror() {
     done
 }
 
-sources=$({ rt version && cat crates.txt "$0" && find crates -type f -exec sha256sum {} + | sort; } | sha256sum)
+sources=$({ rt version && cat crates.txt targets/module.sh && find crates -type f -exec sha256sum {} + | sort; } | sha256sum)
 if [ "$sources" = "$(cat "$to/sources" 2>/dev/null)" ]; then
     exit
 fi

@@ -7,6 +7,12 @@ cd "$(dirname "$0")/.."
 to=$PWD/target/targets
 . targets/machines.sh
 [ "$#" -gt 0 ] || set -- $machines
+for machine; do
+    case " $machines " in
+    *" $machine "*) ;;
+    *) echo "targets: $machine is not one of: $machines" >&2 && exit 2 ;;
+    esac
+done
 
 targets/module.sh
 gcc $strict $program targets/stdio.c "$to/libffi.a" -o "$to/x86_64"

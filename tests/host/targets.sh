@@ -1,5 +1,6 @@
 #!/usr/bin/env bash
-# The test program of targets/, on x86-64: compiled as C99, run and run under valgrind; it calls every function of the archive, and compare.sh finds a difference. GAUGE_ARCHIVE names the archive.
+# The test program of targets/, on x86-64: compiled as C99, run and run under valgrind; it calls every function of the archive, and compare.sh finds a difference. calls.awk finds what
+# makes a stack boundless. GAUGE_ARCHIVE names the archive.
 set -euo pipefail
 cd "$(dirname "$0")/../.."
 to=target/host/targets
@@ -38,4 +39,15 @@ if targets/compare.sh /dev/null /dev/null; then
     echo "targets: compare.sh takes nothing for the same as nothing" >&2
     exit 1
 fi
+
+# boundless CALL: in a function f, this call is found.
+boundless() {
+    if printf 'define void @f(ptr %%p) {\n  %s\n}\n' "$1" | awk -f targets/calls.awk >/dev/null 2>&1; then
+        echo "targets: calls.awk did not find $1" >&2
+        exit 1
+    fi
+}
+
+boundless 'call void @f(ptr %p)'
+boundless '%r = call i64 %p()'
 echo "targets: the program calls every function, and a difference is found"
