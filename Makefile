@@ -3,12 +3,15 @@
 # make host: the interfaces for C and Rust, the fitter's tool, the demo and the pages, checked and run.
 # make compare: a longer comparison of the archive with the Rust, over 10^9 samples; SEED=7 gives it another seed.
 # make bench: what a sample costs here and in the Rust; BENCH="--rounds 100" gives it other options. make bench-instructions: the same in instructions.
-.PHONY: all run test readings host compare bench bench-instructions
+# make targets: the proved module recompiled for other machines, its outputs compared with those on x86-64; MACHINES="wasm32" names some of them.
+# make firmware: the archive for Cortex-M4F, with a table of its code and stack, in target/firmware.
+.PHONY: all run test readings host compare bench bench-instructions targets firmware
 .DELETE_ON_ERROR:
 
 SEEDS =
 SEED = 20261116
 BENCH =
+MACHINES =
 
 archive = target/staticlib/libffi.a
 # The archive's crates, as crates.txt has them.
@@ -41,6 +44,12 @@ bench:
 
 bench-instructions:
 	@bench/run.sh --callgrind $(BENCH)
+
+targets:
+	@targets/run.sh $(MACHINES)
+
+firmware:
+	@targets/firmware.sh
 
 # What one believes of the archive is decided by these files alone: it is proved again where one of them changed.
 $(archive): crates.txt $(sources)

@@ -10,6 +10,7 @@ tests/host/declarations.sh
 tests/host/differences.sh
 tests/host/symbols.sh
 tests/host/c.sh
+tests/host/targets.sh
 tests/host/cargo.sh
 tests/host/gauge.sh
 tests/host/demo.sh

@@ -1,0 +1,9 @@
+#include "outputs.h"
+
+void outputs(void) {
+    cic_outputs();
+    q15_outputs();
+    half_band_outputs();
+    resampler_outputs();
+    line_outputs();
+}

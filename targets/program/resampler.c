@@ -1,0 +1,102 @@
+#include "gauge_resampler.h"
+#include "outputs.h"
+#include "print.h"
+#include "samples.h"
+
+#define COUNT(list) (sizeof(list) / sizeof(list)[0])
+#define LEN 50
+#define PLACES 40
+#define FEEDS 8
+
+static float prototype[1024], src[LEN], dst[PLACES];
+
+// Ordinary steps and ratios, then: zeros, the least number, the largest, below zero, infinite, a NaN.
+static const uint32_t steps[] = {0x3f000000, 0x3f800000, 0x3fb5c28f, 0x406ccccd, 0x3c800000, 0x42800000, 0,
+                                 0x80000000, 0x00000001, 0x7f7fffff, 0xbf800000, 0x7f800000, 0x7fc00000};
+
+static void put_resamp(const GaugePolyphaseResamp *state) {
+    const uint64_t numbers[2] = {state->phases, state->taps};
+    const float floats[2] = {state->mu, state->step};
+    put_values("numbers", U64, numbers, 2);
+    put_values("floats", F32, floats, 2);
+    put_values("delay", F32, state->delay, 16);
+    put_values("prototype", F32, state->prototype, 1024);
+}
+
+// Blocks and pushes, until one is refused.
+static void resample(GaugePolyphaseResamp *state, Stream stream) {
+    uint64_t taken, written, refused = 0;
+    for (int feed = 0; feed < FEEDS && refused == 0; feed++) {
+        uint64_t len = below(LEN + 1);
+        fill_f32(stream, src, len);
+        fill_f32(ORDINARY, dst, PLACES);
+        refused = GaugePolyphaseResamp_process_block(state, src, len, dst, below(PLACES - 1), &taken, &written);
+        put_counts("block", refused, taken, written);
+        put_values("dst", F32, dst, written + 2);
+    }
+    refused = 0;
+    for (int i = 0; i < FEEDS && refused == 0; i++) {
+        fill_f32(ORDINARY, dst, PLACES);
+        float x = sample_f32(stream);
+        refused = GaugePolyphaseResamp_push(state, x, dst, below(5), &written);
+        put_counts("push", refused, 1, written);
+        put_values("dst", F32, dst, written + 2);
+    }
+}
+
+static void resampler(uint64_t phases, uint64_t taps, float step) {
+    static GaugePolyphaseResamp state;
+    uint64_t len = phases <= 64 && taps <= 16 ? phases * taps : 1024;
+    uint64_t refused = GaugePolyphaseResamp_from_taps(&state, phases, taps, prototype, len, step);
+    put_counts("PolyphaseResamp", refused, phases, taps);
+    put_values("step", F32, &step, 1);
+    for (int stream = ORDINARY; stream < STREAMS; stream++) {
+        resample(&state, (Stream)stream);
+    }
+    put_number("reset", GaugePolyphaseResamp_reset(&state));
+    resample(&state, ORDINARY);
+    put_resamp(&state);
+}
+
+// A state that no opening makes.
+static void damaged(uint32_t mu) {
+    static GaugePolyphaseResamp state;
+    uint64_t refused = GaugePolyphaseResamp_from_taps(&state, 4, 4, prototype, 16, 1.5f);
+    put_number("damaged", refused);
+    state.mu = float_of(mu);
+    resample(&state, ORDINARY);
+    put_resamp(&state);
+}
+
+static void linear(uint32_t ratio) {
+    uint64_t written;
+    for (int stream = ORDINARY; stream < STREAMS; stream++) {
+        for (uint64_t len = 0; len <= LEN; len += 10) {
+            fill_f32((Stream)stream, src, len);
+            fill_f32(ORDINARY, dst, PLACES);
+            uint64_t refused = gauge_resample_linear_f32(src, len, dst, PLACES - 2, float_of(ratio), &written);
+            put_counts("resample_linear_f32", refused, len, written);
+            put_values("dst", F32, dst, PLACES);
+        }
+    }
+}
+
+void resampler_outputs(void) {
+    static const uint64_t phases[] = {0, 1, 2, 7, 64, 65, 0x100000002};
+    static const uint64_t taps[] = {0, 1, 5, 16, 17, 0x100000001};
+    seed(4);
+    fill_f32(ORDINARY, prototype, COUNT(prototype));
+    for (uint64_t i = 0; i < COUNT(phases) * COUNT(taps); i++) {
+        resampler(phases[i % COUNT(phases)], taps[i / COUNT(phases)], 0.734f);
+    }
+    for (uint64_t i = 0; i < COUNT(steps); i++) {
+        resampler(3, 2, float_of(steps[i]));
+        linear(steps[i]);
+    }
+    // A NaN, then about -2^24 and about 1 + step.
+    damaged(0x7fc00000);
+    damaged(0xcb800000);
+    damaged(0xcb800001);
+    damaged(0x40200000);
+    damaged(0x40200001);
+}
