@@ -5,7 +5,8 @@ use lib.ListN.{length}
 use denote.Ref.{now}
 use Rattle.float.specs.HbfTaps.{stageTaps, interpolation}
 use Rattle.float.specs.HbfIntCascade.{upsampled}
-use Rattle.float.proofs.IntCascades.{Growing, src-fits, doubled, grow-start, grow-next, grow-end}
+use Rattle.float.proofs.StageTables.{fewer}
+use Rattle.float.proofs.IntCascades.{Growing, doubled, grow-start, grow-next, grow-end}
 use native.Mathlib.Omega.{arith}
 use borrow.Author.Needs.{needs}
 use Rattle.float.proofs.hbf_int_cascade.expand_stages.Statement.{statement}
@@ -33,7 +34,7 @@ span-fits : (c : tie.At-loop Inv-loop μ-loop) → length (c .before .before .be
 span-fits c = omega (arith, span-same c, begun c .good)
 
 put-at-end-requires : tie.Need-put-at-end-requires Inv-loop μ-loop
-put-at-end-requires c κs = let s = c .before .before .before .before in src-fits (length (now (s .args .src))) (length (now (s .args .span))) (s .args .depth) (s .pre .2)
+put-at-end-requires c κs = let s = c .before .before .before .before in fewer (length (now (s .args .src))) (length (now (s .args .span))) (s .args .depth) (s .pre .2)
 
 loop-holds : tie.Need-loop-holds Inv-loop μ-loop
 loop-holds c = let s = c .before .before .before .before .before .before .before in
