@@ -1,18 +1,17 @@
--- A cascade of d stages that hold nothing makes floor(n / 2^d) outputs of n samples, and holds nothing again after a whole number of 2^d: a stage gives half as
--- many values to the next, and holds nothing after an even number.
+-- A cascade of d stages that hold nothing holds nothing again after a whole number of 2^d samples: a stage gives half as many values to the next, and holds
+-- nothing after an even number.
 use mathlib.Core.Path.{_≡_, refl, sym, ap, _∙_, subst}
 use mathlib.Core.List.{List, [], _∷_}
 use mathlib.Core.Option.{Option, none, some}
-use Prim.Native.Nat.{ℕ, zero, suc, _+_, _-_, _*_, _/_, _^_, _≤_, _<_, min}
-use native.Mathlib.Nat.{div-div-eq-div-mul, pow-succ', pow-zero, mul-left-comm, div-one}
+use Prim.Native.Nat.{ℕ, zero, suc, _+_, _*_, _/_, _^_, _≤_, _<_, min}
+use native.Mathlib.Nat.{pow-succ', mul-left-comm}
 use native.Mathlib.Omega.{arith}
 use native.Mathlib.Decide.{decLt}
 use lib.ListN.{length, getD, replicate, getD-replicate, length-replicate}
 use lib.Seq.{ext-getD, getD-set-other}
 use lib.Ieee.{Float, nan}
 use Rattle.theory.specs.Sections.{Section, onto, state, outs}
-use Rattle.theory.specs.Cascades.{stay, cascadeNext, cascade, cascaded}
-use Rattle.theory.proofs.Cascades.{outs-cascade}
+use Rattle.theory.specs.Cascades.{stay, cascadeNext, cascade}
 use Rattle.float.specs.F32.{zero32}
 use Rattle.half_band.specs.Windows.{slid, pairs, decimator}
 use Rattle.half_band.specs.HbfStream.{Half, half, stageIn, withStage, through, stream, streamOf}
@@ -21,7 +20,7 @@ use Rattle.half_band.proofs.Blocks.{outs-length}
 use Rattle.half_band.proofs.WholeLists.{length-pairs, dec-made}
 use Rattle.half_band.proofs.StageTables.{FiveStages}
 use Rattle.half_band.proofs.Stages.{Sized, stage, stagesFrom}
-use Rattle.half_band.proofs.Streaming.{half-pairs, view, outs-view, state-view, depth-state, sized-state}
+use Rattle.half_band.proofs.Streaming.{half-pairs, view, state-view, depth-state, sized-state}
 
 -- a stage that holds nothing, and a list of them
 pub record Empty (h : Half) : Type 0 where
@@ -35,12 +34,16 @@ AllEmpty (h ∷ hs) = Empty h × AllEmpty hs
 bare : (h : Half) → Empty h → h ≡ record { window = h .window; held = h .held; count = 0 }
 bare h e = ap {B = Half} (λ (n : ℕ). record { window = h .window; held = h .held; count = n }) (e .count)
 
-half-count : (c : List Float) (h : Half) (v : List Float) → Empty h → length (outs (half c) h v) ≡ length v / 2
+-- a decimator makes an output of each pair
+pub made-count : (c w : List Float) (p : List (Float × Float)) → length (outs (decimator c) w p) ≡ length p
 unfolding decimator
+made-count c w p = outs-length (decimator c) (dec-made c) (λ u x. refl) w p
+
+half-count : (c : List Float) (h : Half) (v : List Float) → Empty h → length (outs (half c) h v) ≡ length v / 2
 half-count c h v e =
     ap (λ (g : Half). length (outs (half c) g v)) (bare h e)
     ∙ ap length (half-pairs c (h .window) (h .held) v)
-    ∙ outs-length (decimator c) (dec-made c) (λ w p. refl) (h .window) (pairs v)
+    ∙ made-count c (h .window) (pairs v)
     ∙ length-pairs v
 
 half-even : (c w : List Float) (y : Float) (v : List Float) (q : ℕ) → length v ≡ 2 * q → y ≡ zero32 → Empty (state (half c) (record { window = w; held = y; count = 0 }) v)
@@ -61,14 +64,6 @@ module _ {S A : Type 0} (stages : ℕ → Section S A A) where
       go (some b) = refl
 
 module _ (taps : ℕ → List Float) (five : FiveStages taps) where
-  cascaded-count : (k : ℕ) (hs : List Half) (v : List Float) → AllEmpty hs → length (cascaded (stage taps five) k hs v) ≡ length v / 2 ^ length hs
-  cascaded-count k [] v e = sym (ap (λ (m : ℕ). length v / m) (pow-zero 2) ∙ div-one (length v))
-  cascaded-count k (h ∷ hs) v e =
-      cascaded-count (suc k) hs (outs (half (taps k)) h v) (e .1)
-      ∙ ap (λ (m : ℕ). m / 2 ^ length hs) (half-count (taps k) h v (e .0))
-      ∙ div-div-eq-div-mul (length v) 2 (2 ^ length hs)
-      ∙ ap (λ (m : ℕ). length v / m) (sym (pow-succ' 2 (length hs)))
-
   cascade-empty : (k : ℕ) (hs : List Half) (v : List Float) (q : ℕ) → AllEmpty hs → length v ≡ q * 2 ^ length hs → AllEmpty (state (cascade (stage taps five) k) hs v)
   cascade-empty k [] v q e h = go v
     where
@@ -141,12 +136,6 @@ module _ (taps : ℕ → List Float) (five : FiveStages taps) where
   module _ (d : ℕ) (delays : List Float) (deep : d ≤ 5) (long : length delays ≡ 480) where
     all : min d 5 ≡ d
     all = omega arith
-
-    pub outs-count : (v : List Float) → length (outs (stream taps) (unheldOf d delays) v) ≡ length v / 2 ^ d
-    outs-count v =
-        ap length (outs-view taps five (unheldOf d delays) v (unheld-sized d delays long) ∙ outs-cascade (stage taps five) 0 (view taps five (unheldOf d delays)) v)
-        ∙ cascaded-count 0 (view taps five (unheldOf d delays)) v (unheld-stages d delays (min d 5) 0 (omega arith))
-        ∙ ap (λ (n : ℕ). length v / 2 ^ n) (stages-count (min d 5) 0 (unheldOf d delays) ∙ all)
 
     -- after a whole number of frames
     pub nothing-held : (v : List Float) (q : ℕ) → length v ≡ q * 2 ^ d → state (stream taps) (unheldOf d delays) v ≡ unheldOf d (state (stream taps) (unheldOf d delays) v .delays)

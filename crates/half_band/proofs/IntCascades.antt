@@ -28,7 +28,7 @@ use Rattle.half_band.proofs.Blocks.{outs-length}
 use Rattle.half_band.proofs.Filling.{drop-replicate, take-replicate}
 use Rattle.half_band.proofs.Moving.{length-slid}
 use Rattle.half_band.proofs.Parts.{part-long, part-found, part-elsewhere, length-with}
-use Rattle.half_band.proofs.StageTables.{FiveStages, int-stages}
+use Rattle.half_band.proofs.StageTables.{FiveStages, int-stages, fewer}
 use Rattle.half_band.proofs.WholeLists.{interpolator-whole}
 
 -- ---- two outputs of each sample
@@ -291,9 +291,6 @@ pub record Growing (want : Upsampled) (depth L : ℕ) (delays span : List Float)
   pub long : length delays ≡ 240
   pub rest : upsampled (stageTaps interpolation) (depth - k) k delays (drop (L - n) span) ≡ want
 
-pub src-fits : (m l d : ℕ) → l ≡ m * 2 ^ d → m ≤ l
-src-fits m l d e = let a : m * 1 ≤ m * 2 ^ d = native.Mathlib.Nat.mul-le-mul-left m (pow-pos d) in omega (arith, mul-one m)
-
 -- the samples stand at the end
 pub grow-start : (depth : ℕ) (delays span src t : List Float) → length span ≡ length src * 2 ^ depth → length delays ≡ 240 → t ≡ take (length span - length src) span ++ src
     → Growing (upsampled (stageTaps interpolation) depth 0 delays src) depth (length t) delays t (length src) 0
@@ -308,7 +305,7 @@ grow-start depth delays span src t e l p =
     }
   where
     fits : length src ≤ length span
-    fits = src-fits (length src) (length span) depth e
+    fits = fewer (length src) (length span) depth e
 
     less : depth - 0 ≡ depth
     less = omega arith

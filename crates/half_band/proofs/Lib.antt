@@ -20,5 +20,6 @@ pub mod Stages
 pub mod Streaming
 pub mod HeldOnes
 pub mod Frames
+pub mod StageByStage
 pub mod DecCascades
 pub mod IntCascades

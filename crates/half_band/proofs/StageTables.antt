@@ -2,7 +2,9 @@
 use mathlib.Core.Path.{_≡_, refl, sym, ap, _∙_, subst}
 use mathlib.Core.List.{List, [], _∷_}
 use Prim.Native.Nat.{ℕ, zero, suc, _+_, _-_, _*_, _^_, _≤_, _<_}
+use native.Mathlib.Nat.{mul-one, mul-le-mul-left}
 use native.Mathlib.Omega.{arith}
+use lib.Pow.{pow-pos}
 use lib.Dec.{lit≤}
 use lib.ListN.{length, getD, take, drop, length-drop}
 use lib.Seq.{length-take-le}
@@ -103,3 +105,6 @@ rate (suc (suc (suc zero))) h = refl
 rate (suc (suc (suc (suc zero)))) h = refl
 rate (suc (suc (suc (suc (suc zero))))) h = refl
 rate (suc (suc (suc (suc (suc (suc d)))))) h = absurd (omega arith)
+
+pub fewer : (m l d : ℕ) → l ≡ m * 2 ^ d → m ≤ l
+fewer m l d e = let a : m * 1 ≤ m * 2 ^ d = mul-le-mul-left m (pow-pos d) in omega (arith, mul-one m)

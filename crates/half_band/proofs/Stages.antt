@@ -127,7 +127,7 @@ module _ (taps : ℕ → List Float) (five : FiveStages taps) where
   depth-through (suc n) k (some x) s = depth-through n (suc k) (half (taps k) .out (stageIn taps k s) x) (withStage taps k (half (taps k) .next (stageIn taps k s) x) s)
 
   -- a stage before k is as it was
-  before-through : (n k : ℕ) (o : Option Float) (s : HbfStream) → k + n ≤ 5 → Sized s → (j : ℕ) → j < k → stageIn taps j (through taps n k o s .state) ≡ stageIn taps j s
+  pub before-through : (n k : ℕ) (o : Option Float) (s : HbfStream) → k + n ≤ 5 → Sized s → (j : ℕ) → j < k → stageIn taps j (through taps n k o s .state) ≡ stageIn taps j s
   unfolding through
   before-through zero k o s h z j l = refl
   before-through (suc n) k none s h z j l = refl

@@ -9,6 +9,7 @@ use native.Mathlib.Nat.{le-refl}
 use native.Mathlib.Numerals.{add-one}
 use native.Mathlib.Omega.{arith}
 use lib.ListN.{length, getD, take, replicate}
+use lib.Seq.{length-take-le}
 use lib.Ieee.{Float, nan, binary32, add, mul}
 use Rattle.theory.specs.Lists.{listed}
 use Rattle.theory.specs.Sections.{Section, outs}
@@ -71,6 +72,12 @@ length-pairs (a ∷ b ∷ w) = ap suc (length-pairs w) ∙ more (length w)
   where
     more : (n : ℕ) → suc (n / 2) ≡ suc (suc n) / 2
     more n = omega arith
+
+pub pairs-front : (n : ℕ) (w : List Float) → 2 * n ≤ length w → length (pairs (take (2 * n) w)) ≡ n
+pairs-front n w h =
+    let l : length (take (2 * n) w) ≡ 2 * n = length-take-le (2 * n) w h in
+    let e : 2 * n / 2 ≡ n = omega arith in
+    length-pairs (take (2 * n) w) ∙ ap (λ (k : ℕ). k / 2) l ∙ e
 
 pub pair-at : (w : List Float) (i : ℕ) → 2 * i + 1 < length w → getD (pairs w) i (nan, nan) ≡ (getD w (2 * i) nan, getD w (2 * i + 1) nan)
 pair-at [] i h = absurd (omega arith)

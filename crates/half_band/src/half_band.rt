@@ -11,7 +11,7 @@ ghost use Rattle.half_band.specs.Windows.{slid, folded, decValue, intVal
 use float::span::put_at_end;
 
 // Places for the longest window and for many samples more.
-const TAPE: usize = 192;
+pub(crate) const TAPE: usize = 192;
 
 // The window moves down by so many places; the last so many stay.
 fn move_down(window: &mut [f32], by: usize)
@@ -74,6 +74,20 @@ pub(crate) fn decimate(window: &mut [f32], taps: &[f32], src: &[f32], dst: &mut 
     }
 }
 
+// The first 2n values of the span go through the decimator, and their outputs stand in front of it. An output is never written over a value that is still
+// to be read: output i stands i places before the pair i.
+pub(crate) fn decimate_in_place(window: &mut [f32], taps: &[f32], span: &mut [f32], n: usize)
+    requires { ⌜ (1 ≤ length (now taps)) × (length (now window) ≡ 4 * length (now taps)) × (2 * n ≤ length (now span)) ⌝ }
+    ensures { λ _. ⌜ (now (window .exit) ≡ state (decimator (now (taps .entry))) (now (window .entry)) (pairs (take (2 * n) (now (span .entry))))) × (now (span .exit) ≡ outs (decimator (now (taps .entry))) (now (window .entry)) (pairs (take (2 * n) (now (span .entry)))) ++ drop n (now (span .entry))) ⌝ }
+{
+    let mut i = 0;
+    while i < n {
+        let y = take_pair(window, taps, span[2 * i], span[2 * i + 1]);
+        span[i] = y;
+        i += 1;
+    }
+}
+
 // The two outputs that the interpolator makes of a sample.
 pub(crate) struct Both {
     pub even: f32,
@@ -102,7 +116,7 @@ pub(crate) fn take_sample(window: &mut [f32], taps: &[f32], x: f32) -> Both
 }
 
 // A tape with the window in front.
-fn on_tape(window: &[f32]) -> [f32; TAPE]
+pub(crate) fn on_tape(window: &[f32]) -> [f32; TAPE]
     requires { ⌜ length (now window) ≤ 192 ⌝ }
     ensures { λ r. ⌜ take (length (now (window .entry))) r ≡ now (window .entry) ⌝ }
 {

@@ -1,20 +1,26 @@
-// 01, section 4: blocks through a cascade of half-band decimators, one output of each 2^depth samples. The samples go through the stages one by one,
-// by the leaf of the streaming cascade: over whole frames of 2^depth samples nothing is held at their end.
+// 01, section 4: blocks through a cascade of half-band decimators, one output of each 2^depth samples. The samples are put on a tape, as many whole frames
+// of 2^depth as it has places for, and each stage turns the list there into half as many values in place: nothing is held at the end of whole frames.
 ghost use mathlib.Core.Path.{_≡_};
 ghost use mathlib.Core.List.{_++_};
-ghost use Prim.Native.Nat.{_*_, _^_, _≤_};
+ghost use Prim.Native.Nat.{_*_, _^_, _≤_, _<_};
 ghost use lib.ListN.{length, take, drop, replicate};
 ghost use Rattle.theory.specs.Sections.{state, outs};
 ghost use Rattle.refusal.specs.Outcome.{openingNumber};
 ghost use Rattle.half_band.specs.Answers.{toldOpening, toldCount};
 ghost use Rattle.float.specs.F32.{zero32};
+ghost use Rattle.half_band.specs.HbfTaps.{stageTaps, decimation};
+ghost use Rattle.half_band.specs.Windows.{pairs, decimator, spliced};
 ghost use Rattle.half_band.specs.HbfStream.{hbfStream, streamOf};
 ghost use Rattle.half_band.specs.HbfDecCascade.{decCascadeFresh, decCascadeOpening, decCascadeReset, decCascadeBlock, decCascadeSpan, DecCascadeMeets};
-use crate::hbf_stream::HbfOut;
-use crate::hbf_stream::hbf_stream_at;
+use crate::half_band::TAPE;
+use crate::half_band::decimate_in_place;
+use crate::half_band::on_tape;
+use crate::hbf_taps::HBF_TAPS;
+use crate::hbf_taps::decimation_stage;
 use crate::limits::MOST_STAGES;
 use crate::limits::rate_change;
 use crate::limits::smaller;
+use float::span::put_at_end;
 use refusal::Count;
 use refusal::Opening;
 use refusal::Refusal;
@@ -37,32 +43,58 @@ pub struct HbfDecCascadeBlock {
     pub state: HbfDecCascade,
 }
 
-// So many frames of src go through the stages, and an output of each stands in front of dst.
-fn decimate_frames(
-    depth: usize,
-    delays: &mut [f32; 480],
-    src: &[f32],
-    dst: &mut [f32],
-    frames: usize,
-)
-    requires { ⌜ (depth ≤ 5) × (length (now delays) ≡ 480) × (frames * 2 ^ depth ≤ length (now src)) × (frames ≤ length (now dst)) × (length (now src) ≤ 65536) ⌝ }
-    ensures { λ _. ⌜ (now (delays .exit) ≡ state hbfStream (streamOf depth (now (delays .entry)) (replicate 5 zero32) (replicate 5 0)) (take (frames * 2 ^ depth) (now (src .entry))) .delays) × (now (dst .exit) ≡ outs hbfStream (streamOf depth (now (delays .entry)) (replicate 5 zero32) (replicate 5 0)) (take (frames * 2 ^ depth) (now (src .entry))) ++ drop frames (now (dst .entry))) ⌝ }
+// The first 2n values of the span go through stage k, and their outputs stand in front of it.
+fn decimate_stage(k: usize, delays: &mut [f32], span: &mut [f32], n: usize)
+    requires { ⌜ (k < 5) × (length (now delays) ≡ 480) × (2 * n ≤ length (now span)) ⌝ }
+    ensures { λ _. ⌜ (now (delays .exit) ≡ spliced (96 * k) (4 * length (stageTaps decimation k)) (state (decimator (stageTaps decimation k)) (take (4 * length (stageTaps decimation k)) (drop (96 * k) (now (delays .entry)))) (pairs (take (2 * n) (now (span .entry))))) (now (delays .entry))) × (now (span .exit) ≡ outs (decimator (stageTaps decimation k)) (take (4 * length (stageTaps decimation k)) (drop (96 * k) (now (delays .entry)))) (pairs (take (2 * n) (now (span .entry)))) ++ drop n (now (span .entry))) ⌝ }
 {
-    let mut held = [0.0f32; 5];
-    let mut counts = [0usize; 5];
-    let total = frames * rate_change(depth);
-    let mut taken = 0;
-    let mut written = 0;
-    while taken < total {
-        let o = hbf_stream_at(depth, delays, &mut held, &mut counts, src[taken]);
-        taken += 1;
-        match o {
-            HbfOut::Nothing => {}
-            HbfOut::Value(y) => {
-                dst[written] = y;
-                written += 1;
-            }
-        }
+    let taps = decimation_stage(k);
+    let first = taps.first;
+    let end = first + taps.count;
+    let from = 96 * k;
+    let past = from + 4 * taps.count;
+    decimate_in_place(&mut delays[from..past], &HBF_TAPS[first..end], span, n)
+}
+
+// So many frames of the span go through the stages, and an output of each stands in front of it.
+fn decimate_stages(depth: usize, delays: &mut [f32], span: &mut [f32], frames: usize)
+    requires { ⌜ (depth ≤ 5) × (length (now delays) ≡ 480) × (frames * 2 ^ depth ≤ length (now span)) ⌝ }
+    ensures { λ _. ⌜ (streamOf depth (now (delays .exit)) (replicate 5 zero32) (replicate 5 0) ≡ state hbfStream (streamOf depth (now (delays .entry)) (replicate 5 zero32) (replicate 5 0)) (take (frames * 2 ^ depth) (now (span .entry)))) × (take frames (now (span .exit)) ≡ outs hbfStream (streamOf depth (now (delays .entry)) (replicate 5 zero32) (replicate 5 0)) (take (frames * 2 ^ depth) (now (span .entry)))) ⌝ }
+{
+    let mut n = frames * rate_change(depth);
+    let mut k = 0;
+    while k < depth {
+        n = n / 2;
+        decimate_stage(k, delays, span, n);
+        k += 1;
+    }
+}
+
+// The frames of src, at most a tape long, go through the stages on a tape, and an output of each fills dst.
+fn decimate_on_tape(depth: usize, delays: &mut [f32], src: &[f32], dst: &mut [f32])
+    requires { ⌜ (depth ≤ 5) × (length (now delays) ≡ 480) × (length (now src) ≡ length (now dst) * 2 ^ depth) × (length (now src) ≤ 192) ⌝ }
+    ensures { λ _. ⌜ (streamOf depth (now (delays .exit)) (replicate 5 zero32) (replicate 5 0) ≡ state hbfStream (streamOf depth (now (delays .entry)) (replicate 5 zero32) (replicate 5 0)) (now (src .entry))) × (now (dst .exit) ≡ outs hbfStream (streamOf depth (now (delays .entry)) (replicate 5 zero32) (replicate 5 0)) (now (src .entry))) ⌝ }
+{
+    let frames = dst.len();
+    let mut tape = on_tape(src);
+    decimate_stages(depth, delays, &mut tape, frames);
+    put_at_end(dst, &tape[..frames]);
+}
+
+// So many frames of src go through the stages, and an output of each stands in front of dst.
+fn decimate_frames(depth: usize, delays: &mut [f32], src: &[f32], dst: &mut [f32], frames: usize)
+    requires { ⌜ (depth ≤ 5) × (length (now delays) ≡ 480) × (frames * 2 ^ depth ≤ length (now src)) × (frames ≤ length (now dst)) × (length (now src) ≤ 65536) ⌝ }
+    ensures { λ _. ⌜ (streamOf depth (now (delays .exit)) (replicate 5 zero32) (replicate 5 0) ≡ state hbfStream (streamOf depth (now (delays .entry)) (replicate 5 zero32) (replicate 5 0)) (take (frames * 2 ^ depth) (now (src .entry)))) × (now (dst .exit) ≡ outs hbfStream (streamOf depth (now (delays .entry)) (replicate 5 zero32) (replicate 5 0)) (take (frames * 2 ^ depth) (now (src .entry))) ++ drop frames (now (dst .entry))) ⌝ }
+{
+    let factor = rate_change(depth);
+    let most = TAPE / factor;
+    let mut done = 0;
+    while done < frames {
+        let end = smaller(done + most, frames);
+        let from = done * factor;
+        let past = end * factor;
+        decimate_on_tape(depth, delays, &src[from..past], &mut dst[done..end]);
+        done = end;
     }
 }
 

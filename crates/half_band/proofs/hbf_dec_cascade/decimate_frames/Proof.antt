@@ -1,130 +1,176 @@
--- `half_band::hbf_dec_cascade::decimate_frames` meets its contract: the span has the outputs of the samples taken, of which whole frames make one each.
+-- `half_band::hbf_dec_cascade::decimate_frames` meets its contract: the span has the outputs of the frames taken, one of each.
 use mathlib.Core.Path.{_≡_, sym, ap, _∙_, subst}
-use mathlib.Core.List.{_++_}
+use mathlib.Core.List.{List}
 use Prim.Native.Nat.{ℕ, _+_, _*_, _-_, _≤_, _<_, _^_}
-use native.Mathlib.Nat.{le-antisymm}
-use lib.ListN.{length, take, drop}
-use lib.Ieee.{nan}
+use native.Mathlib.Nat.{le-antisymm, le-trans, le-of-lt, add-sub-of-le, zero-mul, div-le-self}
+use lib.Pow.{pow-pos}
+use lib.ListN.{length, take, drop, length-drop}
+use lib.Seq.{length-take-le}
+use lib.Ieee.{Float}
 use denote.Ref.{now}
-use Rattle.theory.specs.Sections.{outs}
-use Rattle.half_band.specs.HbfStream.{hbfStream, streamOf, valueOf}
-use Rattle.half_band.specs.declared.hbf_stream.HbfStream.{HbfStream}
-use Rattle.half_band.proofs.Blocks.{Emitted, emitted-start, emitted-none, emitted-one}
-use Rattle.half_band.proofs.DecCascades.{bare, place-left, all-made}
+use Rattle.half_band.specs.Windows.{spliced}
+use Rattle.half_band.specs.HbfStream.{hbfStream}
+use Rattle.half_band.proofs.Blocks.{Emitted, emitted-start, emitted-many}
+use Rattle.half_band.proofs.Splicing.{length-splice}
+use Rattle.half_band.proofs.DecCascades.{bare, Turn, turn}
 use native.Mathlib.Omega.{arith}
 use borrow.Author.Needs.{needs}
 use Rattle.half_band.proofs.hbf_dec_cascade.decimate_frames.Statement.{statement}
 use Rattle.half_band.proofs.hbf_dec_cascade.decimate_frames.Tie as tie
 
 abbrev Inv-loop : tie.InvT-loop
-Inv-loop depth delays₀ src dst₀ frames held₀ counts₀ total taken₀ written₀ delays dst held counts taken written = (taken ≤ total) × (total ≡ frames * 2 ^ depth) × Emitted hbfStream (bare depth delays₀) src dst₀ (streamOf depth delays held counts) dst taken written
+Inv-loop depth delays₀ src dst₀ frames factor most done₀ delays dst done = (done ≤ frames) × (length delays ≡ 480) × Emitted hbfStream (bare depth delays₀) src dst₀ (bare depth delays) dst (done * factor) done
 
 abbrev μ-loop : tie.MeasureT-loop
-μ-loop depth delays₀ src dst₀ frames held₀ counts₀ total taken₀ written₀ delays dst held counts taken written = total - taken
+μ-loop depth delays₀ src dst₀ frames factor most done₀ delays dst done = frames - done
 
 abbrev begun : tie.After-rate-change Inv-loop μ-loop → tie.Start Inv-loop μ-loop
-begun c = c .before .before .before
+begun c = c .before .before .before .before
 
-total-is : (c : tie.After-rate-change Inv-loop μ-loop) → begun c .args .frames * c .rate-change .result ≡ begun c .args .frames * 2 ^ begun c .args .depth
-total-is c = ap (λ (n : ℕ). begun c .args .frames * n) (c .rate-change .ensures)
+-- the samples of the frames
+reach : (c : tie.After-rate-change Inv-loop μ-loop) → begun c .args .frames * c .rate-change .result ≤ length (now (begun c .args .src))
+reach c = subst (λ (n : ℕ). begun c .args .frames * n ≤ length (now (begun c .args .src))) (sym (c .rate-change .ensures)) (begun c .pre .2)
 
--- the stages at the loop's head
-abbrev lent : (c : tie.At-loop Inv-loop μ-loop) → HbfStream
-lent c = streamOf (begun (c .before) .args .depth) (c .loop .delays) (c .loop .held) (c .loop .counts)
+-- the frames of a turn
+turn-of : (c : tie.After-smaller Inv-loop μ-loop) → Turn (c .before .before .before .rate-change .result) (begun (c .before .before .before) .args .frames) (c .before .before .loop .done) (c .smaller .result)
+turn-of c =
+    let r = c .before .before .before in
+    turn (r .rate-change .result) (begun r .args .depth) (begun r .args .frames) (c .before .before .loop .done) (c .smaller .result) (r .rate-change .ensures) (begun r .pre .0) (c .before .loop-test .taken) (c .smaller .ensures)
 
-in-loop : (c : tie.In-loop Inv-loop μ-loop) → c .before .loop .taken < length (now (begun (c .before .before) .args .src))
-in-loop c = omega (arith, c .before .loop .inv .1, begun (c .before .before) .pre)
+inside : (n from : ℕ) (l : List Float) → from + n ≤ length l → length (take n (drop from l)) ≡ n
+inside n from l h = length-take-le n (drop from l) (simp length-drop (omega arith))
 
--- an output has a place
-place : (c : tie.After-known-told Inv-loop μ-loop) → c .before .before .before .before .before .before .before .before .before .loop .written < begun (c .before .before .before .before .before .before .before .before .before .before) .args .frames
-place c =
-    let m = c .before .before .before .before .before .before .before .before .before in
-    let a = begun (m .before) .args in
-    let l = m .loop in
-    let p = begun (m .before) .pre in
-    let t = c .before .before .before .hbf-stream-at in
-    place-left (a .depth) (now (a .delays)) (p .0) (p .1) (now (a .src)) (a .frames) (p .2) (now (a .dst)) (lent m) (l .dst) (l .taken) (l .written) (l .inv .2)
-    (omega (arith, l .inv .1, c .before .before .before .before .before .before .before .before .loop-test .taken)) (c .before .o .given .0 .0) (sym (t .ensures .0) ∙ ap valueOf (c .before .o .given .1))
+-- the samples and the places of a turn
+src-long :
+    (c : tie.After-smaller Inv-loop μ-loop) →
+    let f = c .before .before .before .rate-change .result in
+    let d = c .before .before .loop .done in
+    length (take (c .smaller .result * f - d * f) (drop (d * f) (now (begun (c .before .before .before) .args .src)))) ≡ c .smaller .result * f - d * f
+src-long c =
+    let t = turn-of c in
+    let f = c .before .before .before .rate-change .result in
+    let d = c .before .before .loop .done in
+    inside (c .smaller .result * f - d * f) (d * f) (now (begun (c .before .before .before) .args .src)) (omega (arith, t .before, t .behind, reach (c .before .before .before)))
+
+dst-long :
+    (c : tie.After-smaller Inv-loop μ-loop) →
+    let d = c .before .before .loop .done in
+    length (take (c .smaller .result - d) (drop d (c .before .before .loop .dst))) ≡ c .smaller .result - d
+dst-long c =
+    let t = turn-of c in
+    inside (c .smaller .result - c .before .before .loop .done) (c .before .before .loop .done) (c .before .before .loop .dst) (omega (arith, t .more, t .most, c .before .before .loop .inv .2 .same, begun (c .before .before .before) .pre))
+
+-- what the turn leaves is as long as it was
+made-long : (c : tie.After-decimate-on-tape Inv-loop μ-loop) → length (c .decimate-on-tape .last .1 .1 .1 .0) ≡ c .before .before .before .before .smaller .result - c .before .before .before .before .before .before .loop .done
+made-long c = search needs ∙ dst-long (c .before .before .before .before)
+
+delays-long : (c : tie.After-decimate-on-tape Inv-loop μ-loop) → length (c .decimate-on-tape .last .1 .0) ≡ 480
+delays-long c = search needs
 
 rate-change-requires : tie.Need-rate-change-requires Inv-loop μ-loop
 rate-change-requires c κs = search needs
 
-mul-total : tie.Need-mul-total Inv-loop μ-loop
-mul-total c = omega (arith, total-is c)
+div-most : tie.Need-div-most Inv-loop μ-loop
+div-most c = subst (λ (n : ℕ). 0 < n) (sym (c .rate-change .ensures)) (pow-pos (begun c .args .depth))
 
 loop-holds : tie.Need-loop-holds Inv-loop μ-loop
-loop-holds c = (omega arith, total-is c, emitted-start _ _ _ _)
-
-mul-hbf-stream-at : tie.Need-mul-hbf-stream-at Inv-loop μ-loop
-mul-hbf-stream-at c = omega (arith, in-loop (c .before .before .before))
-
-shared-slice-read-hbf-stream-at : tie.Need-shared-slice-read-hbf-stream-at Inv-loop μ-loop
-shared-slice-read-hbf-stream-at c = omega (arith, in-loop (c .before .before .before .before))
-
-hbf-stream-at-requires : tie.Need-hbf-stream-at-requires Inv-loop μ-loop
-hbf-stream-at-requires c κs = search needs
-
-add-taken : tie.Need-add-taken Inv-loop μ-loop
-add-taken c = omega (arith, in-loop (c .before .before .before .before .before))
-
-enum-told : tie.Need-enum-told Inv-loop μ-loop
-enum-told c = search needs
-
-loop-less : tie.Need-loop-less Inv-loop μ-loop
-loop-less c = omega (arith, c .before .before .before .before .before .before .before .loop-test .taken)
-
-loop-again : tie.Need-loop-again Inv-loop μ-loop
-loop-again c = let t = c .before .before .hbf-stream-at in
-    let m = c .before .before .before .before .before .before .before .before in
-    let a = begun (m .before) .args in
-    let l = m .loop in (
-      omega (arith, c .before .before .before .before .before .before .before .loop-test .taken),
-      l .inv .1,
-      emitted-none hbfStream (bare (a .depth) (now (a .delays))) (now (a .src)) (now (a .dst)) (lent m) (l .dst) (l .taken) (l .written) nan (l .inv .2) (in-loop (c .before .before .before .before .before .before .before))
-          (streamOf (a .depth) (t .last .1 .0) (t .last .1 .1 .0) (t .last .1 .1 .1 .0)) (t .ensures .1) (sym (t .ensures .0) ∙ ap valueOf (c .enum-told .given .1)),
+loop-holds c =
+    let a = begun c .args in
+    let s = bare (a .depth) (now (a .delays)) in (
+      omega arith,
+      begun c .pre .1,
+      subst (λ (i : ℕ). Emitted hbfStream s (now (a .src)) (now (a .dst)) s (now (a .dst)) i 0) (sym (zero-mul (c .rate-change .result))) (emitted-start hbfStream s (now (a .src)) (now (a .dst))),
     )
 
-enum-known-o : tie.Need-enum-known-o Inv-loop μ-loop
-enum-known-o c = search needs
+add-smaller : tie.Need-add-smaller Inv-loop μ-loop
+add-smaller c = omega (arith, div-le-self 192 (c .before .before .rate-change .result), c .loop-test .taken, begun (c .before .before) .pre, begun (c .before .before) .good)
 
-mul-dst : tie.Need-mul-dst Inv-loop μ-loop
-mul-dst c = omega (arith, place c, begun (c .before .before .before .before .before .before .before .before .before .before) .pre, begun (c .before .before .before .before .before .before .before .before .before .before) .good)
+smaller-requires : tie.Need-smaller-requires Inv-loop μ-loop
+smaller-requires c κs = search needs
 
-slice-write-dst : tie.Need-slice-write-dst Inv-loop μ-loop
-slice-write-dst c = omega (arith, place c, begun (c .before .before .before .before .before .before .before .before .before .before) .pre, c .before .before .before .before .before .before .before .before .before .loop .inv .2 .same)
+mul-from : tie.Need-mul-from Inv-loop μ-loop
+mul-from c = let t = turn-of c in omega (arith, t .before, t .behind, reach (c .before .before .before), begun (c .before .before .before) .pre)
 
-add-written : tie.Need-add-written Inv-loop μ-loop
-add-written c = omega (arith, place c, begun (c .before .before .before .before .before .before .before .before .before .before) .pre, begun (c .before .before .before .before .before .before .before .before .before .before) .good)
+mul-past : tie.Need-mul-past Inv-loop μ-loop
+mul-past c = let t = turn-of c in omega (arith, t .behind, reach (c .before .before .before), begun (c .before .before .before) .pre)
 
-loop-less-2 : tie.Need-loop-less-2 Inv-loop μ-loop
-loop-less-2 c = omega (arith, c .before .before .before .before .before .before .before .before .loop-test .taken)
+mul-decimate-on-tape : tie.Need-mul-decimate-on-tape Inv-loop μ-loop
+mul-decimate-on-tape c = let t = turn-of (c .before) in omega (arith, t .before, t .behind, reach (c .before .before .before .before), begun (c .before .before .before .before) .pre)
 
-loop-again-2 : tie.Need-loop-again-2 Inv-loop μ-loop
-loop-again-2 c = let t = c .before .before .before .hbf-stream-at in
-    let m = c .before .before .before .before .before .before .before .before .before in
-    let a = begun (m .before) .args in
-    let l = m .loop in
-    let p = place c in
-    let r : c .before .before .before .before .before .before .before .before .before .loop .written < length (now (begun (c .before .before .before .before .before .before .before .before .before .before) .args .dst)) = omega (arith, begun (m .before) .pre) in (
-      omega (arith, c .before .before .before .before .before .before .before .before .loop-test .taken),
-      l .inv .1,
-      emitted-one hbfStream (bare (a .depth) (now (a .delays))) (now (a .src)) (now (a .dst)) (lent m) (l .dst) (l .taken) (l .written) nan (l .inv .2) (in-loop (c .before .before .before .before .before .before .before .before))
-          (streamOf (a .depth) (t .last .1 .0) (t .last .1 .1 .0) (t .last .1 .1 .1 .0)) (t .ensures .1) (c .before .o .given .0 .0) (sym (t .ensures .0) ∙ ap valueOf (c .before .o .given .1)) r,
+sub-decimate-on-tape : tie.Need-sub-decimate-on-tape Inv-loop μ-loop
+sub-decimate-on-tape c = turn-of (c .before) .before
+
+part-decimate-on-tape-start : tie.Need-part-decimate-on-tape-start Inv-loop μ-loop
+part-decimate-on-tape-start c = turn-of (c .before) .before
+
+part-decimate-on-tape-end : tie.Need-part-decimate-on-tape-end Inv-loop μ-loop
+part-decimate-on-tape-end c = le-trans (turn-of (c .before) .behind) (reach (c .before .before .before .before))
+
+mul-decimate-on-tape-2 : tie.Need-mul-decimate-on-tape-2 Inv-loop μ-loop
+mul-decimate-on-tape-2 c = omega (arith, c .before .before .before .loop-test .taken, begun (c .before .before .before .before .before) .pre, begun (c .before .before .before .before .before) .good)
+
+sub-decimate-on-tape-2 : tie.Need-sub-decimate-on-tape-2 Inv-loop μ-loop
+sub-decimate-on-tape-2 c = le-of-lt (turn-of (c .before .before) .more)
+
+part-decimate-on-tape-start-2 : tie.Need-part-decimate-on-tape-start-2 Inv-loop μ-loop
+part-decimate-on-tape-start-2 c = le-of-lt (turn-of (c .before .before) .more)
+
+part-decimate-on-tape-end-2 : tie.Need-part-decimate-on-tape-end-2 Inv-loop μ-loop
+part-decimate-on-tape-end-2 c = let t = turn-of (c .before .before) in omega (arith, t .most, c .before .before .before .before .loop .inv .2 .same, begun (c .before .before .before .before .before) .pre)
+
+decimate-on-tape-requires : tie.Need-decimate-on-tape-requires Inv-loop μ-loop
+decimate-on-tape-requires c κs =
+    let m = c .before .before .before in
+    let r = m .before .before .before in
+    let t = turn-of m in (
+      begun r .pre .0,
+      m .before .before .loop .inv .1,
+      src-long m ∙ t .count ∙ ap (λ (n : ℕ). n * r .rate-change .result) (sym (dst-long m)) ∙ ap (λ (n : ℕ). length (take (m .smaller .result - m .before .before .loop .done) (drop (m .before .before .loop .done) (m .before .before .loop .dst))) * n) (r .rate-change .ensures),
+      subst (λ (n : ℕ). n ≤ 192) (sym (src-long m)) (t .on-tape),
+    )
+
+loop-less : tie.Need-loop-less Inv-loop μ-loop
+loop-less c = let t = turn-of (c .before .before .before .before .before .before .before .before) in omega (arith, t .more, t .most)
+
+loop-again : tie.Need-loop-again Inv-loop μ-loop
+loop-again c =
+    let m = c .before .before .before .before .before .before .before .before in
+    let l = m .before .before .loop in
+    let r = m .before .before .before in
+    let a = begun r .args in
+    let o = c .before .before .before .before .decimate-on-tape in
+    let f = r .rate-change .result in
+    let e = m .smaller .result in
+    let d = l .done in
+    let t = turn-of m in
+    let y = o .last .1 .1 .1 .0 in
+    let s = bare (a .depth) (now (a .delays)) in
+    let u = bare (a .depth) (o .last .1 .0) in
+    let w = made-long (c .before .before .before .before) in
+    let span = spliced d (e - d) y (l .dst) in
+    let all = emitted-many hbfStream s (now (a .src)) (now (a .dst)) (bare (a .depth) (l .delays)) (l .dst) (d * f) d (l .inv .2) (e * f - d * f) (e - d) u y (o .ensures .0) (o .ensures .1) w
+    (length-splice d (e - d) y (l .dst) w (omega (arith, t .more, t .most, l .inv .2 .same, begun r .pre))) in (
+      t .most,
+      delays-long (c .before .before .before .before),
+      subst (λ (k : ℕ). Emitted hbfStream s (now (a .src)) (now (a .dst)) u span (e * f) k) (add-sub-of-le (le-of-lt (t .more)))
+          (subst (λ (i : ℕ). Emitted hbfStream s (now (a .src)) (now (a .dst)) u span i (d + (e - d))) (add-sub-of-le (t .before)) all),
     )
 
 same-length : tie.Need-same-length Inv-loop μ-loop
-same-length c = c .before .loop .inv .2 .same
+same-length c = c .before .loop .inv .1 ∙ sym (begun (c .before .before) .pre .1)
+
+same-length-2 : tie.Need-same-length-2 Inv-loop μ-loop
+same-length-2 c = c .before .loop .inv .2 .same
 
 returns : tie.Need-returns Inv-loop μ-loop
-returns c = let m = c .before in
-    let a = begun (m .before) .args in
-    let l = m .loop in
-    let p = begun (m .before) .pre in
-    let all = subst (λ (i : ℕ). Emitted hbfStream (bare (a .depth) (now (a .delays))) (now (a .src)) (now (a .dst)) (lent m) (l .dst) i (l .written)) (le-antisymm (l .inv .0) (c .loop-test .left) ∙ l .inv .1) (l .inv .2) in
-    let n : l .written ≡ a .frames = sym (all .count-is) ∙ all-made (a .depth) (now (a .delays)) (p .0) (p .1) (now (a .src)) (a .frames) (p .2) in (
-      ap (λ (s : HbfStream). s .delays) (all .state-is),
-      all .span-is ∙ ap (λ (k : ℕ). outs hbfStream (bare (a .depth) (now (a .delays))) (take (a .frames * 2 ^ a .depth) (now (a .src))) ++ drop k (now (a .dst))) n,
-    )
+returns c =
+    let l = c .before .loop in
+    let r = c .before .before in
+    let a = begun r .args in
+    let s = bare (a .depth) (now (a .delays)) in
+    let all = subst (λ (n : ℕ). Emitted hbfStream s (now (a .src)) (now (a .dst)) (bare (a .depth) (l .delays)) (l .dst) (n * 2 ^ a .depth) n) (le-antisymm (l .inv .0) (c .loop-test .left))
+    (subst (λ (f : ℕ). Emitted hbfStream s (now (a .src)) (now (a .dst)) (bare (a .depth) (l .delays)) (l .dst) (l .done * f) (l .done)) (r .rate-change .ensures) (l .inv .2)) in
+    (all .state-is, all .span-is)
 
 pub decimate-frames-spec : {M : Type 1} → statement M
 decimate-frames-spec =
@@ -133,20 +179,23 @@ decimate-frames-spec =
     Inv-loop
     μ-loop
     rate-change-requires
-    mul-total
+    div-most
     loop-holds
-    mul-hbf-stream-at
-    shared-slice-read-hbf-stream-at
-    hbf-stream-at-requires
-    add-taken
-    enum-told
+    add-smaller
+    smaller-requires
+    mul-from
+    mul-past
+    mul-decimate-on-tape
+    sub-decimate-on-tape
+    part-decimate-on-tape-start
+    part-decimate-on-tape-end
+    mul-decimate-on-tape-2
+    sub-decimate-on-tape-2
+    part-decimate-on-tape-start-2
+    part-decimate-on-tape-end-2
+    decimate-on-tape-requires
     loop-less
     loop-again
-    enum-known-o
-    mul-dst
-    slice-write-dst
-    add-written
-    loop-less-2
-    loop-again-2
     same-length
+    same-length-2
     returns)

@@ -6,7 +6,8 @@ use denote.Ref.{now}
 use Rattle.half_band.specs.HbfTaps.{stageTaps, interpolation}
 use Rattle.half_band.specs.HbfIntCascade.{upsampled}
 use Rattle.float.proofs.Tape.{ends-in}
-use Rattle.half_band.proofs.IntCascades.{Growing, src-fits, doubled, grow-start, grow-next, grow-end}
+use Rattle.half_band.proofs.StageTables.{fewer}
+use Rattle.half_band.proofs.IntCascades.{Growing, doubled, grow-start, grow-next, grow-end}
 use native.Mathlib.Omega.{arith}
 use borrow.Author.Needs.{needs}
 use Rattle.half_band.proofs.hbf_int_cascade.expand_stages.Statement.{statement}
@@ -36,7 +37,7 @@ put-at-end-requires c κs = search needs
 
 loop-holds : tie.Need-loop-holds Inv-loop μ-loop
 loop-holds c = let s = c .before .before .before .before .before .before .before in
-    let fits = src-fits (length (now (s .args .src))) (length (now (s .args .span))) (s .args .depth) (s .pre .2) in
+    let fits = fewer (length (now (s .args .src))) (length (now (s .args .span))) (s .args .depth) (s .pre .2) in
     grow-start (s .args .depth) (now (s .args .delays)) (now (s .args .span)) (now (s .args .src)) (c .before .before .put-at-end .last .0) (s .pre .2) (s .pre .1) (c .before .before .put-at-end .ensures ∙ ends-in _ _ fits)
 
 expand-stage-requires : tie.Need-expand-stage-requires Inv-loop μ-loop

@@ -6,6 +6,7 @@ use lib.Pow.{pow-pos}
 use lib.ListN.{length}
 use denote.Ref.{now}
 use Rattle.refusal.specs.Rows.{samplesRefused}
+use Rattle.half_band.specs.declared.hbf_stream.HbfStream.{HbfStream}
 use Rattle.half_band.specs.HbfDecCascade.{decCascadeRefused, decCascadeCount}
 use Rattle.refusal.proofs.Limits.{within, lengths-fine}
 use Rattle.half_band.proofs.Choices.{chosen, second}
@@ -52,6 +53,9 @@ div-smaller c = subst (λ (n : ℕ). 0 < n) (sym (c .rate-change .ensures)) (pow
 smaller-requires : tie.Need-smaller-requires
 smaller-requires c κs = search needs
 
+slice-aggregate-decimate-frames : tie.Need-slice-aggregate-decimate-frames
+slice-aggregate-decimate-frames c = search needs
+
 decimate-frames-requires : tie.Need-decimate-frames-requires
 decimate-frames-requires c κs = let k = c .before .before .before in
     let a = begun (k .before .before .before .before) .args in
@@ -63,11 +67,11 @@ same-length : tie.Need-same-length
 same-length c = search needs
 
 returns-3 : tie.Need-returns-3
-returns-3 c = let o = c .before .before .decimate-frames in
-    let k = c .before .before .before .before .before .before in
+returns-3 c = let o = c .before .before .before .decimate-frames in
+    let k = c .before .before .before .before .before .before .before in
     let e = k .before .before .before .before in
     let a = begun e .args in (
-      block-answer (a .self) (now (a .src)) (now (a .dst)) (k .smaller .result) (fine e) (in-limits (k .before .before)) (count k) (o .last .1 .0) (o .ensures .0),
+      block-answer (a .self) (now (a .src)) (now (a .dst)) (k .smaller .result) (fine e) (in-limits (k .before .before)) (count k) (o .last .1 .0) (ap (λ (t : HbfStream). t .delays) (o .ensures .0)),
       block-span (a .self) (now (a .src)) (now (a .dst)) (k .smaller .result) (fine e) (in-limits (k .before .before)) (count k) (o .last .1 .1 .1 .0) (o .ensures .1),
     )
 
@@ -82,6 +86,7 @@ process-spec =
     rate-change-requires
     div-smaller
     smaller-requires
+    slice-aggregate-decimate-frames
     decimate-frames-requires
     same-length
     returns-3)
