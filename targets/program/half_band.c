@@ -1,3 +1,4 @@
+// Half-band stages, cascades and the stream, each over three streams of floats.
 #include "gauge_half_band.h"
 #include "outputs.h"
 #include "print.h"

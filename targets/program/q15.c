@@ -1,3 +1,4 @@
+// The 16-bit converters: blocks at and past every limit, the FIR sample by sample, and single values.
 #include "gauge_q15.h"
 #include "outputs.h"
 #include "print.h"

@@ -1,3 +1,5 @@
+// The resamplers: settings, steps and ratios of every kind, blocks and pushes, and a place of the next output that no
+// opening makes.
 #include "gauge_resampler.h"
 #include "outputs.h"
 #include "print.h"
