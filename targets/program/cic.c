@@ -1,3 +1,4 @@
+// The CIC converters: every pair of settings, then blocks of any length, samples, and a counter out of range.
 #include "gauge_cic.h"
 #include "outputs.h"
 #include "print.h"

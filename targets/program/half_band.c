@@ -1,14 +1,21 @@
+// Half-band stages, cascades and the stream, each over three streams of floats.
 #include "gauge_half_band.h"
 #include "outputs.h"
 #include "print.h"
 #include "samples.h"
 
-#define LEN 100
 #define FEEDS 6
-// Places of a span for LEN samples at 32 outputs each, and two that stay unwritten.
-#define PLACES (32 * LEN + 2)
+#define SHORT 60
+// So long that a stage moves its delay line back to the front of its buffer.
+#define LONG 400
 
-static float src[LEN], dst[PLACES], taps[GAUGE_MOST_HALF_BAND_TAPS + 1];
+// One more than a block may have, and two places that stay unwritten.
+static float src[GAUGE_MOST_BLOCK + 1], dst[GAUGE_MOST_BLOCK + 3], taps[GAUGE_MOST_HALF_BAND_TAPS + 1];
+
+// Samples or places of a feed: a long one first.
+static uint64_t length_of(int feed) {
+    return feed == 0 ? LONG : below(SHORT);
+}
 
 static void put_block(uint64_t refused, uint64_t len, uint64_t written) {
     put_counts("block", refused, len, written);
@@ -27,10 +34,9 @@ static void dec(Stream stream, uint64_t m) {
     float pair[2], value;
     put_counts("HbfDec", refused, stream, m);
     for (int feed = 0; feed < FEEDS; feed++) {
-        uint64_t len = below(LEN + 1);
+        uint64_t len = length_of(feed);
         fill_f32(stream, src, len);
-        fill_f32(ORDINARY, dst, LEN);
-        refused = GaugeHbfDec_process(&state, src, len, dst, below(LEN), &written);
+        refused = GaugeHbfDec_process(&state, src, len, dst, length_of(feed), &written);
         put_block(refused, len, written);
         fill_f32(stream, pair, 2);
         refused = GaugeHbfDec_process_pair(&state, pair[0], pair[1], &value);
@@ -48,10 +54,9 @@ static void interpolating(Stream stream, uint64_t m) {
     float values[2];
     put_counts("HbfInt", refused, stream, m);
     for (int feed = 0; feed < FEEDS; feed++) {
-        uint64_t len = below(LEN + 1);
+        uint64_t len = length_of(feed);
         fill_f32(stream, src, len);
-        fill_f32(ORDINARY, dst, LEN);
-        refused = GaugeHbfInt_process(&state, src, len, dst, below(LEN), &written);
+        refused = GaugeHbfInt_process(&state, src, len, dst, length_of(feed), &written);
         put_block(refused, len, written);
         refused = GaugeHbfInt_process_sample(&state, sample_f32(stream), &values[0], &values[1]);
         put_number("sample", refused);
@@ -67,9 +72,9 @@ static void dec_cascade(Stream stream, uint64_t depth) {
     uint64_t written, refused = GaugeHbfDecCascade_new(&state, depth);
     put_counts("HbfDecCascade", refused, stream, depth);
     for (int feed = 0; feed < 2 * FEEDS; feed++) {
-        uint64_t len = below(LEN + 1);
+        uint64_t len = length_of(feed);
         fill_f32(stream, src, len);
-        refused = GaugeHbfDecCascade_process(&state, src, len, dst, below(LEN), &written);
+        refused = GaugeHbfDecCascade_process(&state, src, len, dst, length_of(feed), &written);
         put_block(refused, len, written);
     }
     put_values("delays", F32, state.delays, 480);
@@ -82,9 +87,9 @@ static void int_cascade(Stream stream, uint64_t depth) {
     uint64_t written, refused = GaugeHbfIntCascade_new(&state, depth);
     put_counts("HbfIntCascade", refused, stream, depth);
     for (int feed = 0; feed < FEEDS; feed++) {
-        uint64_t len = below(8);
+        uint64_t len = length_of(feed);
         fill_f32(stream, src, len);
-        refused = GaugeHbfIntCascade_process(&state, src, len, dst, below(PLACES), &written);
+        refused = GaugeHbfIntCascade_process(&state, src, len, dst, 2 * length_of(feed), &written);
         put_block(refused, len, written);
     }
     put_values("delays", F32, state.delays, 240);
@@ -122,6 +127,29 @@ static void stream_cascade(Stream stream, uint64_t depth) {
     put_stream(&state);
 }
 
+// Blocks of the most samples and places, and of one more.
+static void limits(void) {
+    GaugeHbfDec dec_state;
+    GaugeHbfInt int_state;
+    GaugeHbfDecCascade dec_cascade_state;
+    GaugeHbfIntCascade int_cascade_state;
+    uint64_t written, refused[4];
+    fill_f32(ORDINARY, src, GAUGE_MOST_BLOCK + 1);
+    for (uint64_t i = 0; i < 4; i++) {
+        uint64_t len = GAUGE_MOST_BLOCK + i / 2, places = GAUGE_MOST_BLOCK + i % 2;
+        GaugeHbfDec_new(&dec_state, taps, 3);
+        GaugeHbfInt_new(&int_state, taps, 3);
+        GaugeHbfDecCascade_new(&dec_cascade_state, 5);
+        GaugeHbfIntCascade_new(&int_cascade_state, 5);
+        refused[0] = GaugeHbfDec_process(&dec_state, src, len, dst, places, &written);
+        refused[1] = GaugeHbfInt_process(&int_state, src, len, dst, places, &written);
+        refused[2] = GaugeHbfDecCascade_process(&dec_cascade_state, src, len, dst, places, &written);
+        refused[3] = GaugeHbfIntCascade_process(&int_cascade_state, src, len, dst, places, &written);
+        put_values("limits", U64, refused, 4);
+        put_values("dst", F32, dst + GAUGE_MOST_BLOCK - SHORT, SHORT);
+    }
+}
+
 static void values(void) {
     float table[45];
     uint64_t lengths[4];
@@ -140,7 +168,8 @@ void half_band_outputs(void) {
     seed(3);
     values();
     fill_f32(ORDINARY, taps, GAUGE_MOST_HALF_BAND_TAPS + 1);
-    fill_f32(ORDINARY, dst, PLACES);
+    fill_f32(ORDINARY, dst, GAUGE_MOST_BLOCK + 3);
+    limits();
     for (int stream = ORDINARY; stream < STREAMS; stream++) {
         for (int i = 0; i < 5; i++) {
             dec((Stream)stream, taps_wanted[i]);

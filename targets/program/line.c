@@ -1,3 +1,4 @@
+// The line: opened, fed in pieces, stepped, reset, and damaged.
 #include "gauge_line.h"
 #include "outputs.h"
 #include "print.h"

@@ -1,3 +1,4 @@
+// The 16-bit converters: blocks at and past every limit, the FIR sample by sample, and single values.
 #include "gauge_q15.h"
 #include "outputs.h"
 #include "print.h"
@@ -27,10 +28,10 @@ static void fir_blocks(uint64_t len, uint64_t taps, uint64_t factor, uint64_t pl
 }
 
 static void all_fir_blocks(void) {
-    static const uint64_t lens[] = {0, 1, 9, 100, GAUGE_MOST_BLOCK + 1};
-    static const uint64_t taps[] = {0, 1, 2, 6, 64, GAUGE_MOST_BLOCK + 1};
+    static const uint64_t lens[] = {0, 1, 9, 100, GAUGE_MOST_BLOCK, GAUGE_MOST_BLOCK + 1};
+    static const uint64_t taps[] = {0, 1, 2, 6, 64, GAUGE_MOST_BLOCK, GAUGE_MOST_BLOCK + 1};
     static const uint64_t factors[] = {0, 1, 2, 3, 4096, 4097, 0x100000001};
-    static const uint64_t places[] = {0, 5, PLACES, GAUGE_MOST_BLOCK + 1};
+    static const uint64_t places[] = {0, 5, PLACES, GAUGE_MOST_BLOCK, GAUGE_MOST_BLOCK + 1};
     for (uint64_t i = 0; i < COUNT(lens) * COUNT(taps) * COUNT(factors); i++) {
         uint64_t k = i / COUNT(lens);
         put_number("fir", i);
@@ -41,13 +42,13 @@ static void all_fir_blocks(void) {
 
 static void linear_blocks(void) {
     static const int32_t ratios[] = {INT32_MIN, -1, 0, 1, 30000, 65536, 98765, INT32_MAX};
+    static const uint64_t lens[] = {0, 1, 26, GAUGE_MOST_BLOCK, GAUGE_MOST_BLOCK + 1};
     uint64_t refused, written;
-    for (uint64_t i = 0; i < COUNT(ratios); i++) {
-        for (uint64_t len = 0; len < 40; len += 13) {
-            fill_i16(dst, PLACES);
-            refused = gauge_resample_linear_q15(samples, len, dst, PLACES - 2, ratios[i], &written);
-            put_block("resample_linear_q15", refused, len, written);
-        }
+    for (uint64_t i = 0; i < COUNT(ratios) * COUNT(lens); i++) {
+        uint64_t len = lens[i % COUNT(lens)];
+        fill_i16(dst, PLACES);
+        refused = gauge_resample_linear_q15(samples, len, dst, PLACES - 2, ratios[i / COUNT(lens)], &written);
+        put_block("resample_linear_q15", refused, len, written);
     }
 }
 

@@ -1,3 +1,5 @@
+// The resamplers: settings, steps and ratios of every kind, blocks and pushes, and a place of the next output that no
+// opening makes.
 #include "gauge_resampler.h"
 #include "outputs.h"
 #include "print.h"
@@ -8,7 +10,8 @@
 #define PLACES 40
 #define FEEDS 8
 
-static float prototype[1024], src[LEN], dst[PLACES];
+// One more than a block may have.
+static float src[GAUGE_MOST_BLOCK + 1], dst[GAUGE_MOST_BLOCK + 1], prototype[1024];
 
 // Ordinary steps and ratios, then: zeros, the least number, the largest, below zero, infinite, a NaN.
 static const uint32_t steps[] = {0x3f000000, 0x3f800000, 0x3fb5c28f, 0x406ccccd, 0x3c800000, 0x42800000, 0,
@@ -68,17 +71,24 @@ static void damaged(uint32_t mu) {
     put_resamp(&state);
 }
 
-static void linear(uint32_t ratio) {
+static void linear_block(Stream stream, uint64_t len, uint64_t places, float ratio) {
     uint64_t written;
+    fill_f32(stream, src, len);
+    fill_f32(ORDINARY, dst, PLACES);
+    uint64_t refused = gauge_resample_linear_f32(src, len, dst, places, ratio, &written);
+    put_counts("resample_linear_f32", refused, len, written);
+    put_values("dst", F32, dst, PLACES);
+}
+
+static void linear(float ratio) {
     for (int stream = ORDINARY; stream < STREAMS; stream++) {
         for (uint64_t len = 0; len <= LEN; len += 10) {
-            fill_f32((Stream)stream, src, len);
-            fill_f32(ORDINARY, dst, PLACES);
-            uint64_t refused = gauge_resample_linear_f32(src, len, dst, PLACES - 2, float_of(ratio), &written);
-            put_counts("resample_linear_f32", refused, len, written);
-            put_values("dst", F32, dst, PLACES);
+            linear_block((Stream)stream, len, PLACES - 2, ratio);
         }
     }
+    linear_block(ORDINARY, GAUGE_MOST_BLOCK, GAUGE_MOST_BLOCK, ratio);
+    linear_block(ORDINARY, GAUGE_MOST_BLOCK + 1, PLACES, ratio);
+    linear_block(ORDINARY, LEN, GAUGE_MOST_BLOCK + 1, ratio);
 }
 
 void resampler_outputs(void) {
@@ -91,7 +101,7 @@ void resampler_outputs(void) {
     }
     for (uint64_t i = 0; i < COUNT(steps); i++) {
         resampler(3, 2, float_of(steps[i]));
-        linear(steps[i]);
+        linear(float_of(steps[i]));
     }
     // A NaN, then about -2^24 and about 1 + step.
     damaged(0x7fc00000);
