@@ -8,7 +8,7 @@ ghost use Rattle.theory.specs.Sections.{state, outs};
 ghost use Rattle.float.specs.HalfBand.{zero32, flat};
 ghost use Rattle.float.specs.Windows.{slid, folded, decValue, intValue, pairs, decimator, interpolator};
 
-// Places for the longest window and for many samples more.
+// Places for the longest window and for many samples more, or for six frames of the deepest cascade.
 pub(crate) const TAPE: usize = 192;
 
 // The window moves down by so many places; the last so many stay.
