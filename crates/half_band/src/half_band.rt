@@ -10,7 +10,7 @@ ghost use Rattle.float.specs.F32.{zero32};
 ghost use Rattle.half_band.specs.Windows.{slid, folded, decValue, intValue, pairs, decimator, interpolator};
 use float::span::put_at_end;
 
-// Places for the longest window and for many samples more.
+// Places for the longest window and for many samples more, or for six frames of the deepest cascade.
 pub(crate) const TAPE: usize = 192;
 
 // The window moves down by so many places; the last so many stay.
