@@ -18,6 +18,7 @@ use crate::answers::sum_made;
 use crate::answers::sum_number;
 use crate::answers::sum_value;
 use integer::CicDecimator;
+use integer::cic_decimator::block_at;
 
 #[no_mangle]
 pub extern "C" fn gauge_cic_decimator_new(
@@ -183,25 +184,9 @@ pub extern "C" fn gauge_cic_decimator_process_block(
     ensures answer { λ n. ⌜ record { number = n; value = record { taken = now (taken .exit); written = now (written .exit) }; state = D.decimatorOf (now (stages .exit)) (now (r .exit)) (now (integrators .exit)) (now (combs .exit)) (now («sample_counter» .exit)) } ≡ D.block (D.decimatorOf (now (stages .entry)) (now (r .entry)) (now (integrators .entry)) (now (combs .entry)) (now («sample_counter» .entry))) (now (src .entry)) (length (now (dst .entry))) ⌝ }
     ensures span { λ n. ⌜ now (dst .exit) ≡ D.blockSpan (D.decimatorOf (now (stages .entry)) (now (r .entry)) (now (integrators .entry)) (now (combs .entry)) (now («sample_counter» .entry))) (now (src .entry)) (now (dst .entry)) ⌝ }
 {
-    let lent_integrators = *integrators;
-    let lent_combs = *combs;
-    let state = CicDecimator {
-        stages: *stages,
-        r: *r,
-        integrator_state: lent_integrators,
-        comb_state: lent_combs,
-        sample_counter: *sample_counter,
-    };
-    let done = state.process_block(src, dst);
-    let next = done.state;
-    let next_integrators = next.integrator_state;
-    let next_combs = next.comb_state;
-    *stages = next.stages;
-    *r = next.r;
-    *integrators = next_integrators;
-    *combs = next_combs;
-    *sample_counter = next.sample_counter;
-    let counts = done.counts;
+    let moved = block_at(*stages, *r, *sample_counter, integrators, combs, src, dst);
+    *sample_counter = moved.sample_counter;
+    let counts = moved.counts;
     *taken = counts_taken(counts);
     *written = counts_written(counts);
     counts_number(counts)

@@ -12,6 +12,7 @@ use crate::answers::gain_number;
 use crate::answers::gain_value;
 use crate::answers::opening_number;
 use integer::CicInterpolator;
+use integer::cic_interpolator::sample_at;
 
 #[no_mangle]
 pub extern "C" fn gauge_cic_interpolator_new(
@@ -95,23 +96,7 @@ pub extern "C" fn gauge_cic_interpolator_process_sample(
     ensures answer { λ n. ⌜ record { number = n; value = now (written .exit); state = I.interpolatorOf (now (stages .exit)) (now (r .exit)) (now (combs .exit)) (now (integrators .exit)) } ≡ I.sample (I.interpolatorOf (now (stages .entry)) (now (r .entry)) (now (combs .entry)) (now (integrators .entry))) input (now («out_buf» .entry)) ⌝ }
     ensures span { λ n. ⌜ now («out_buf» .exit) ≡ I.sampleSpan (I.interpolatorOf (now (stages .entry)) (now (r .entry)) (now (combs .entry)) (now (integrators .entry))) input (now («out_buf» .entry)) ⌝ }
 {
-    let lent_combs = *combs;
-    let lent_integrators = *integrators;
-    let state = CicInterpolator {
-        stages: *stages,
-        r: *r,
-        comb_state: lent_combs,
-        integrator_state: lent_integrators,
-    };
-    let done = state.process_sample(input, out_buf);
-    let next = done.state;
-    let next_combs = next.comb_state;
-    let next_integrators = next.integrator_state;
-    *stages = next.stages;
-    *r = next.r;
-    *combs = next_combs;
-    *integrators = next_integrators;
-    let answer = done.written;
+    let answer = sample_at(*stages, *r, combs, integrators, input, out_buf);
     *written = count_written(answer);
     count_number(answer)
 }

@@ -1,4 +1,4 @@
--- The loop that fills a span from the integrators: the places before i are written, and what is left is the run from there.
+-- The loop that fills a span from the integrators: the places before i are written, and what is left is the run from there. What stands behind the stages stays.
 use mathlib.Core.Path.{_≡_, refl, sym, ap, _∙_}
 use mathlib.Core.List.{List, [], _∷_, _++_, append-nil}
 use Prim.Native.Nat.{ℕ, zero, suc, _+_, _-_, _≤_, _<_}
@@ -8,8 +8,9 @@ use native.Mathlib.Omega.{arith}
 use lib.ListN.{length, take, drop, set, take-append-drop, length-set}
 use lib.Seq.{take-suc-set, drop-set-lt, drop-drop, append-snoc}
 use lib.IntN.{ℤ, pos}
-use Rattle.integer.specs.Stages.{integrated}
+use Rattle.integer.specs.Stages.{integrated, sum32}
 use Rattle.integer.specs.CicInterpolator.{Filled, filled}
+use Rattle.integer.proofs.Row.{behind}
 
 abbrev pub glue : List ℤ → Filled → Filled
 glue p q = record { state = q .state; outs = p ++ q .outs }
@@ -55,3 +56,14 @@ module _ (n : ℕ) (s : List ℤ) (v : ℤ) (r : ℕ) (span : List ℤ) where
         sym (take-append-drop i out) ∙ ap (λ d. take i out ++ d) (l .kept ∙ ap (λ k. drop k span) e)
             ∙ ap (λ p. p ++ drop r span) (sym (append-nil (take i out)) ∙ sym (ap (λ f. f .outs) q)),
       )
+
+filled-behind : (n : ℕ) (s : List ℤ) (v : ℤ) (k : ℕ) → drop n (filled n s v k .state) ≡ drop n s
+unfolding filled integrated
+filled-behind n s v zero = refl
+filled-behind n s v (suc k) = filled-behind n (integrated n s v .state) (pos 0) k ∙ behind sum32 sum32 n s v
+
+-- so the stages in front of what stood behind them are all of it
+pub front-filled : (n : ℕ) (s : List ℤ) (v : ℤ) (k : ℕ) → take n (filled n s v k .state) ++ drop n s ≡ filled n s v k .state
+front-filled n s v k =
+    let a = filled n s v k .state in
+    ap (λ d. take n a ++ d) (sym (filled-behind n s v k)) ∙ take-append-drop n a

@@ -4,6 +4,7 @@ pub mod Turning
 pub mod Held
 pub mod Bits
 pub mod Within
+pub mod Writing
 pub mod Hogenauer
 pub mod Towers
 pub mod Decimating

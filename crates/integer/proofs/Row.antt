@@ -18,6 +18,12 @@ long-kept keep out zero s v = refl
 long-kept keep out (suc n) [] v = refl
 long-kept keep out (suc n) (a ∷ s) v = ap suc (long-kept keep out n s (out a v))
 
+-- and leaves what stands behind its stages
+pub behind : {A : Type 0} (keep out : A → A → A) (n : ℕ) (s : List A) (v : A) → drop n (row keep out n s v .state) ≡ drop n s
+behind keep out zero s v = refl
+behind keep out (suc n) [] v = refl
+behind keep out (suc n) (a ∷ s) v = behind keep out n s (out a v)
+
 module _ {A : Type 0} (keep out : A → A → A) (z : A) (n : ℕ) (s : List A) (v : A) where
   nothing-left : (m : ℕ) (val : A) → row keep out m [] val ≡ record { state = []; val = val }
   nothing-left zero val = refl

@@ -16,6 +16,7 @@ use crate::limits::factor_ok;
 use crate::limits::stages_ok;
 use crate::stages::comb;
 use crate::stages::integrate;
+use crate::stages::write_back;
 use refusal::Count;
 use refusal::Opening;
 use refusal::Refusal;
@@ -59,7 +60,8 @@ fn valid(stages: usize, r: usize) -> bool
     factor_ok(r)
 }
 
-// r values out of the integrators, which are held in a local: input goes in, and then zeros.
+// r values out of the integrators, which are held in a local: input goes in, and then zeros. Only the stages in use are written back,
+// one by one: the next sample reads them so, and a load that is wider than the stores before it waits for them.
 fn fill_of(
     stages: usize,
     integrators: &mut [i32; MAX_STAGES],
@@ -79,7 +81,7 @@ fn fill_of(
         val = 0;
         i += 1;
     }
-    *integrators = held;
+    write_back(stages, held, integrators);
 }
 
 // The same, the number of stages a constant in each arm, so that the compiler unrolls the integrators.
@@ -104,6 +106,30 @@ fn fill(
         8 => fill_of(8, integrators, input, r, out_buf),
         _ => fill_of(stages, integrators, input, r, out_buf),
     }
+}
+
+// One sample, the numbers by value and the arrays lent. The combs stand before the arms of `fill`: inside them the compiler works their differences into the
+// sums of every later output.
+pub fn sample_at(
+    stages: usize,
+    r: usize,
+    combs: &mut [i32; MAX_STAGES],
+    integrators: &mut [i32; MAX_STAGES],
+    input: i32,
+    out_buf: &mut [i32],
+) -> Count
+    ensures answer { λ n. ⌜ I.toldSample (record { written = n; state = I.interpolatorOf stages r (now (combs .exit)) (now (integrators .exit)) }) ≡ I.sample (I.interpolatorOf stages r (now (combs .entry)) (now (integrators .entry))) input (now («out_buf» .entry)) ⌝ }
+    ensures span { λ _. ⌜ now («out_buf» .exit) ≡ I.sampleSpan (I.interpolatorOf stages r (now (combs .entry)) (now (integrators .entry))) input (now («out_buf» .entry)) ⌝ }
+{
+    if !valid(stages, r) {
+        return Count::Refused(Refusal::State);
+    }
+    if out_buf.len() < r {
+        return Count::Refused(Refusal::Span);
+    }
+    let val = comb(stages, combs, input);
+    fill(stages, integrators, val, r, out_buf);
+    Count::Written(r)
 }
 
 impl CicInterpolator {
@@ -156,27 +182,20 @@ impl CicInterpolator {
         ensures answer { λ s. ⌜ I.toldSample s ≡ I.sample self input (now («out_buf» .entry)) ⌝ }
         ensures span { λ s. ⌜ now («out_buf» .exit) ≡ I.sampleSpan self input (now («out_buf» .entry)) ⌝ }
     {
-        let r = self.r;
-        if !valid(self.stages, r) {
-            return CicInterpolated {
-                written: Count::Refused(Refusal::State),
-                state: self,
-            };
-        }
-        if out_buf.len() < r {
-            return CicInterpolated {
-                written: Count::Refused(Refusal::Span),
-                state: self,
-            };
-        }
         let mut combs = self.comb_state;
-        let val = comb(self.stages, &mut combs, input);
         let mut integrators = self.integrator_state;
-        fill(self.stages, &mut integrators, val, r, out_buf);
+        let written = sample_at(
+            self.stages,
+            self.r,
+            &mut combs,
+            &mut integrators,
+            input,
+            out_buf,
+        );
         self.comb_state = combs;
         self.integrator_state = integrators;
         CicInterpolated {
-            written: Count::Written(r),
+            written,
             state: self,
         }
     }

@@ -1,5 +1,6 @@
 // Integrators and combs in a row, over lent arrays: the leaves of both CIC converters.
 ghost use mathlib.Core.Path.{_≡_};
+ghost use mathlib.Core.List.{_++_};
 ghost use Prim.Native.Nat.{_-_, _≤_};
 ghost use lib.IntN.{pos};
 ghost use lib.ListN.{length, take, drop};
@@ -44,6 +45,18 @@ pub fn comb(stages: usize, combs: &mut [i32; MAX_STAGES], input: i32) -> i32
         i += 1;
     }
     val
+}
+
+// The first `stages` of held go to the front of the lent array, each by itself; the places behind them stay.
+pub(crate) fn write_back(stages: usize, held: [i32; MAX_STAGES], state: &mut [i32; MAX_STAGES])
+    ensures { λ _. ⌜ now (state .exit) ≡ take stages held ++ drop stages (now (state .entry)) ⌝ }
+{
+    eight(*state);
+    let mut i = 0;
+    while i < MAX_STAGES && i < stages {
+        state[i] = held[i];
+        i += 1;
+    }
 }
 
 // The samples from..to go through the integrators; the last one's value comes back, 0 where there is none.

@@ -28,12 +28,11 @@ fn decimated_count(n: usize, t: usize, d: usize, m: usize) -> usize
     k
 }
 
-// So many outputs from the front of the span.
-fn decimate(src: &[i16], coeffs: &[i16], d: usize, count: usize, dst: &mut [i16])
-    requires { ⌜ (count ≤ length (now dst)) × (length (now coeffs) ≤ mostBlock) × (length (now src) ≤ mostBlock) × ((i : ℕ) → i < count → i * d + length (now coeffs) ≤ length (now src)) ⌝ }
-    ensures { λ _. ⌜ now (dst .exit) ≡ listed count (λ i. filtered (now (coeffs .entry)) (length (now (coeffs .entry))) (now (src .entry)) (i * d)) ++ drop count (now (dst .entry)) ⌝ }
+// So many outputs of t taps from the front of the span.
+fn decimate_of(src: &[i16], coeffs: &[i16], t: usize, d: usize, count: usize, dst: &mut [i16])
+    requires { ⌜ (count ≤ length (now dst)) × (t ≤ length (now coeffs)) × (t ≤ mostBlock) × (length (now src) ≤ mostBlock) × ((i : ℕ) → i < count → i * d + t ≤ length (now src)) ⌝ }
+    ensures { λ _. ⌜ now (dst .exit) ≡ listed count (λ i. filtered (now (coeffs .entry)) t (now (src .entry)) (i * d)) ++ drop count (now (dst .entry)) ⌝ }
 {
-    let t = coeffs.len();
     let mut i = 0;
     while i < count {
         let sum = fir_sum(src, i * d, coeffs, t);
@@ -41,6 +40,24 @@ fn decimate(src: &[i16], coeffs: &[i16], d: usize, count: usize, dst: &mut [i16]
         let bits = y.0;
         dst[i] = bits;
         i += 1;
+    }
+}
+
+// The same for all the taps. Few taps are a constant in each arm, so that the compiler unrolls their sum; its loop for eight and more takes eight at once.
+fn decimate(src: &[i16], coeffs: &[i16], d: usize, count: usize, dst: &mut [i16])
+    requires { ⌜ (count ≤ length (now dst)) × (length (now coeffs) ≤ mostBlock) × (length (now src) ≤ mostBlock) × ((i : ℕ) → i < count → i * d + length (now coeffs) ≤ length (now src)) ⌝ }
+    ensures { λ _. ⌜ now (dst .exit) ≡ listed count (λ i. filtered (now (coeffs .entry)) (length (now (coeffs .entry))) (now (src .entry)) (i * d)) ++ drop count (now (dst .entry)) ⌝ }
+{
+    let t = coeffs.len();
+    match t {
+        1 => decimate_of(src, coeffs, 1, d, count, dst),
+        2 => decimate_of(src, coeffs, 2, d, count, dst),
+        3 => decimate_of(src, coeffs, 3, d, count, dst),
+        4 => decimate_of(src, coeffs, 4, d, count, dst),
+        5 => decimate_of(src, coeffs, 5, d, count, dst),
+        6 => decimate_of(src, coeffs, 6, d, count, dst),
+        7 => decimate_of(src, coeffs, 7, d, count, dst),
+        _ => decimate_of(src, coeffs, t, d, count, dst),
     }
 }
 

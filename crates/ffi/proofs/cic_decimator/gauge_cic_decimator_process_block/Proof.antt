@@ -1,11 +1,11 @@
--- `gauge_cic_decimator_process_block` meets its contract: it hands over what the layer's `process_block` answers, field by field.
+-- `gauge_cic_decimator_process_block` meets its contract: it hands over what the layer's `block_at` answers, which is lent the arrays.
 use mathlib.Core.Path.{_≡_}
 use borrow.Author.Needs.{needs}
 use Rattle.ffi.proofs.cic_decimator.gauge_cic_decimator_process_block.Statement.{statement}
 use Rattle.ffi.proofs.cic_decimator.gauge_cic_decimator_process_block.Tie as tie
 
-process-block-requires : tie.Need-process-block-requires
-process-block-requires c κs = search needs
+block-at-requires : tie.Need-block-at-requires
+block-at-requires c κs = search needs
 
 counts-taken-requires : tie.Need-counts-taken-requires
 counts-taken-requires c κs = search needs
@@ -20,13 +20,13 @@ same-length : tie.Need-same-length
 same-length c = search needs
 
 returns : tie.Need-returns
-returns c = rw (c .counts-number .ensures, c .before .counts-written .ensures, c .before .before .counts-taken .ensures) (c .before .before .before .before .before .before .before .process-block .ensures .0, c .before .before .before .before .before .before .before .process-block .ensures .1)
+returns c = rw (c .counts-number .ensures, c .before .counts-written .ensures, c .before .before .counts-taken .ensures) (c .before .before .before .before .block-at .ensures .0, c .before .before .before .before .block-at .ensures .1)
 
 pub gauge-cic-decimator-process-block-spec : {M : Type 1} → statement M
 gauge-cic-decimator-process-block-spec =
     tie.close
     (tie.spec
-    process-block-requires
+    block-at-requires
     counts-taken-requires
     counts-written-requires
     counts-number-requires

@@ -1,4 +1,4 @@
--- `gauge_cic_interpolator_process_sample` meets its contract: it hands over what the layer's `process_sample` answers, field by field.
+-- `gauge_cic_interpolator_process_sample` meets its contract: it hands over what the layer's `sample_at` answers, which is lent the arrays.
 use mathlib.Core.Path.{_≡_}
 use borrow.Author.Needs.{needs}
 use mir.Facts.{toZ-ofZ}
@@ -7,8 +7,8 @@ use Rattle.ffi.proofs.cic_interpolator.gauge_cic_interpolator_process_s
 }
 use Rattle.ffi.proofs.cic_interpolator.gauge_cic_interpolator_process_sample.Tie as tie
 
-process-sample-requires : tie.Need-process-sample-requires
-process-sample-requires c κs = search needs
+sample-at-requires : tie.Need-sample-at-requires
+sample-at-requires c κs = search needs
 
 count-written-requires : tie.Need-count-written-requires
 count-written-requires c κs = search needs
@@ -20,13 +20,15 @@ same-length : tie.Need-same-length
 same-length c = search needs
 
 returns : tie.Need-returns
-returns c = rw (c .count-number .ensures, c .before .count-written .ensures) (rw (toZ-ofZ (c .before .before .before .before .before .before .before .before .before .before .before .before .fits .input)) at (c .before .before .before .before .before .before .process-sample .ensures .0), rw (toZ-ofZ (c .before .before .before .before .before .before .before .before .before .before .before .before .fits .input)) at (c .before .before .before .before .before .before .process-sample .ensures .1))
+returns c =
+    let x = toZ-ofZ (c .before .before .before .before .before .before .before .before .before .fits .input) in
+    rw (c .count-number .ensures, c .before .count-written .ensures) (rw x at (c .before .before .before .sample-at .ensures .0), rw x at (c .before .before .before .sample-at .ensures .1))
 
 pub gauge-cic-interpolator-process-sample-spec : {M : Type 1} → statement M
 gauge-cic-interpolator-process-sample-spec =
     tie.close
     (tie.spec
-    process-sample-requires
+    sample-at-requires
     count-written-requires
     count-number-requires
     same-length

@@ -1,4 +1,4 @@
--- `fill_of` meets its contract: what is written, and then what is left of the run, is the whole run.
+-- `fill_of` meets its contract: what is written, and then what is left of the run, is the whole run; the stages behind are as they were, so those in front are all there is to write back.
 use mathlib.Core.Path.{_≡_, refl, sym, ap, _∙_}
 use Prim.Native.Nat.{_-_}
 use borrow.Author.Needs.{needs}
@@ -6,7 +6,7 @@ use lib.IntN.{pos}
 use mir.Syntax.{w32}
 use mir.Val.{toZ, ofZ, SFits}
 use mir.Facts.{toZ-ofZ}
-use Rattle.integer.proofs.Filling.{Left, starts, goes-on, done}
+use Rattle.integer.proofs.Filling.{Left, starts, goes-on, done, front-filled}
 use Rattle.integer.proofs.cic_interpolator.fill_of.Statement.{statement}
 use Rattle.integer.proofs.cic_interpolator.fill_of.Tie as tie
 
@@ -40,11 +40,18 @@ loop-again c =
     rw (toZ-ofZ g, c .integrate .ensures .1, c .integrate .ensures .0)
     (goes-on _ _ _ _ _ _ _ _ _ (c .before .before .before .before .before .pre) (c .before .before .loop-test .taken) (c .before .before .before .loop .inv))
 
+write-back-requires : tie.Need-write-back-requires Inv-loop μ-loop
+write-back-requires c κs = search needs
+
 same-length : tie.Need-same-length Inv-loop μ-loop
 same-length c = search needs
 
 returns : tie.Need-returns Inv-loop μ-loop
-returns c = rw (toZ-ofZ (c .before .before .before .fits .input)) at (done _ _ _ _ _ _ _ _ _ (c .loop-test .left) (c .before .loop .inv))
+returns c =
+    let v = c .before .before .before .loop in
+    let a = c .before .before .before .before .before in
+    let d = rw (toZ-ofZ (a .fits .input)) at (done _ _ _ _ _ _ _ _ _ (c .before .before .loop-test .left) (v .inv)) in
+    (c .write-back .ensures ∙ rw (d .0) (front-filled (a .args .stages) (a .args .integrators .now) (a .args .input) (a .args .r)), d .1)
 
 pub fill-of-spec : {M : Type 1} → statement M
 fill-of-spec =
@@ -59,5 +66,6 @@ fill-of-spec =
     add-i
     loop-less
     loop-again
+    write-back-requires
     same-length
     returns)

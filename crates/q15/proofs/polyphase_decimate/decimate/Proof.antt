@@ -1,95 +1,118 @@
--- `polyphase_decimate::decimate` meets its contract: the invariant says that i outputs stand in front of the span.
-use mathlib.Core.Path.{_≡_, ap, _∙_}
-use Prim.Native.Nat.{_+_, _*_, _-_, _≤_}
+-- `polyphase_decimate::decimate` meets its contract: each arm decimates by as many taps as it names, and they are all.
+use mathlib.Core.Path.{_≡_, refl}
+use Prim.Native.Nat.{ℕ, _+_, _*_, _≤_, _<_}
 use native.Mathlib.Omega.{arith}
 use borrow.Author.Needs.{needs}
 use lib.ListN.{length}
-use mir.Syntax.{w16, w64}
-use mir.Val.{toZ, ofZ}
-use mir.Facts.{toZ-ofZ}
-use Rattle.q15.specs.Fixed.{cut}
-use Rattle.q15.specs.PolyphaseDecimate.{filtered}
-use Rattle.q15.proofs.Filling.{Filled, none-filled, next-filled, all-filled}
+use Rattle.q15.specs.Block.{mostBlock}
 use Rattle.q15.proofs.polyphase_decimate.decimate.Statement.{statement}
 use Rattle.q15.proofs.polyphase_decimate.decimate.Tie as tie
 
-abbrev Inv-loop : tie.InvT-loop
-Inv-loop src coeffs d count dst₀ t i₀ dst i = Filled (λ k. filtered coeffs (length coeffs) src (k * d)) dst₀ count dst i
+-- what a call with t taps asks for, where t are all
+module _ (c : tie.Start) (t : ℕ) (e : length (c .args .coeffs .now) ≡ t) where
+  abbrev Asked : Type 0
+  Asked = (c .args .count ≤ length (c .args .dst .now)) × (t ≤ length (c .args .coeffs .now)) × (t ≤ mostBlock) × (length (c .args .src .now) ≤ mostBlock) × ((i : ℕ) → i < c .args .count → i * c .args .d + t ≤ length (c .args .src .now))
 
-abbrev μ-loop : tie.MeasureT-loop
-μ-loop src coeffs d count dst₀ t i₀ dst i = count - i
+  asked : Asked
+  asked = (c .pre .0, omega (arith, e), omega (arith, e, c .pre .1), c .pre .2, λ i l. omega (arith, e, c .pre .3 i l))
 
-loop-holds : tie.Need-loop-holds Inv-loop μ-loop
-loop-holds c = none-filled _ _ _
+decimate-of-requires : tie.Need-decimate-of-requires
+decimate-of-requires c κs = asked (c .before .before) 1 (c .before .match .keys1)
 
-samples : (c : tie.In-loop Inv-loop μ-loop) → c .before .loop .i * c .before .before .args .d + length (c .before .before .args .coeffs .now) ≤ length (c .before .before .args .src .now)
-samples c = c .before .before .pre .3 (c .before .loop .i) (c .loop-test .taken)
+decimate-of-requires-2 : tie.Need-decimate-of-requires-2
+decimate-of-requires-2 c κs = asked (c .before .before) 2 (c .before .match .keys2)
 
-mul-fir-sum : tie.Need-mul-fir-sum Inv-loop μ-loop
-mul-fir-sum c = omega (arith, samples c, c .before .before .pre .2)
+decimate-of-requires-3 : tie.Need-decimate-of-requires-3
+decimate-of-requires-3 c κs = asked (c .before .before) 3 (c .before .match .keys3)
 
-fir-sum-requires : tie.Need-fir-sum-requires Inv-loop μ-loop
-fir-sum-requires c κs = (samples c, omega arith, c .before .before .pre .1)
+decimate-of-requires-4 : tie.Need-decimate-of-requires-4
+decimate-of-requires-4 c κs = asked (c .before .before) 4 (c .before .match .keys4)
 
-cut-q15-requires : tie.Need-cut-q15-requires Inv-loop μ-loop
-cut-q15-requires c κs = tt
+decimate-of-requires-5 : tie.Need-decimate-of-requires-5
+decimate-of-requires-5 c κs = asked (c .before .before) 5 (c .before .match .keys5)
 
-mul-bits : tie.Need-mul-bits Inv-loop μ-loop
-mul-bits c = search needs
+decimate-of-requires-6 : tie.Need-decimate-of-requires-6
+decimate-of-requires-6 c κs = asked (c .before .before) 6 (c .before .match .keys6)
 
-slice-set-from-bits : tie.Need-slice-set-from-bits Inv-loop μ-loop
-slice-set-from-bits c =
-    omega (arith, c .before .before .before .loop-test .taken, c .before .before .before .before .loop .inv .long, c .before .before .before .before .before .pre .0)
+decimate-of-requires-7 : tie.Need-decimate-of-requires-7
+decimate-of-requires-7 c κs = asked (c .before .before) 7 (c .before .match .keys7)
 
-add-i : tie.Need-add-i Inv-loop μ-loop
-add-i c = search needs
+decimate-of-requires-8 : tie.Need-decimate-of-requires-8
+decimate-of-requires-8 c κs = asked (c .before .before) _ refl
 
-loop-less : tie.Need-loop-less Inv-loop μ-loop
-loop-less c = search needs
+same-length : tie.Need-same-length
+same-length c = search needs
 
-module _ (c : tie.After-struct-told Inv-loop μ-loop) where
-  abbrev loop : tie.At-loop Inv-loop μ-loop
-  loop = c .before .before .before .before
+returns : tie.Need-returns
+returns c = rw (c .before .before .before .match .keys1) (c .before .decimate-of .ensures)
 
-  abbrev start : tie.Start Inv-loop μ-loop
-  start = loop .before
+same-length-2 : tie.Need-same-length-2
+same-length-2 c = search needs
 
-  bits : toZ w16 (ofZ w16 (c .before .cut-q15 .result .0)) ≡ c .before .cut-q15 .result .0
-  bits = search needs
+returns-2 : tie.Need-returns-2
+returns-2 c = rw (c .before .before .before .match .keys2) (c .before .decimate-of2 .ensures)
 
-  value : toZ w16 (ofZ w16 (c .before .cut-q15 .result .0)) ≡ filtered (start .args .coeffs .now) (length (start .args .coeffs .now)) (start .args .src .now) (loop .loop .i * start .args .d)
-  unfolding filtered
-  value =
-      let sum = c .before .before .fir-sum in
-      bits ∙ c .before .cut-q15 .ensures ∙ ap (cut w16) (toZ-ofZ {w = w64} {z = sum .result} (record { sfits = sum .ok }) ∙ sum .ensures)
+same-length-3 : tie.Need-same-length-3
+same-length-3 c = search needs
 
-loop-again : tie.Need-loop-again Inv-loop μ-loop
-loop-again c =
-    let a = start c .args in
-    let v = loop c .loop in
-    next-filled (λ k. filtered (a .coeffs .now) (length (a .coeffs .now)) (a .src .now) (k * a .d)) (a .dst .now) (a .count) (v .dst) (v .i) _
-    (c .before .before .before .loop-test .taken) (start c .pre .0) (value c) (v .inv)
+returns-3 : tie.Need-returns-3
+returns-3 c = rw (c .before .before .before .match .keys3) (c .before .decimate-of3 .ensures)
 
-same-length : tie.Need-same-length Inv-loop μ-loop
-same-length c = c .before .loop .inv .long
+same-length-4 : tie.Need-same-length-4
+same-length-4 c = search needs
 
-returns : tie.Need-returns Inv-loop μ-loop
-returns c = all-filled _ _ _ _ _ (c .loop-test .left) (c .before .loop .inv)
+returns-4 : tie.Need-returns-4
+returns-4 c = rw (c .before .before .before .match .keys4) (c .before .decimate-of4 .ensures)
+
+same-length-5 : tie.Need-same-length-5
+same-length-5 c = search needs
+
+returns-5 : tie.Need-returns-5
+returns-5 c = rw (c .before .before .before .match .keys5) (c .before .decimate-of5 .ensures)
+
+same-length-6 : tie.Need-same-length-6
+same-length-6 c = search needs
+
+returns-6 : tie.Need-returns-6
+returns-6 c = rw (c .before .before .before .match .keys6) (c .before .decimate-of6 .ensures)
+
+same-length-7 : tie.Need-same-length-7
+same-length-7 c = search needs
+
+returns-7 : tie.Need-returns-7
+returns-7 c = rw (c .before .before .before .match .keys7) (c .before .decimate-of7 .ensures)
+
+same-length-8 : tie.Need-same-length-8
+same-length-8 c = search needs
+
+returns-8 : tie.Need-returns-8
+returns-8 c = c .before .decimate-of8 .ensures
 
 pub decimate-spec : {M : Type 1} → statement M
 decimate-spec =
     tie.close
     (tie.spec
-    Inv-loop
-    μ-loop
-    loop-holds
-    mul-fir-sum
-    fir-sum-requires
-    cut-q15-requires
-    mul-bits
-    slice-set-from-bits
-    add-i
-    loop-less
-    loop-again
+    decimate-of-requires
+    decimate-of-requires-2
+    decimate-of-requires-3
+    decimate-of-requires-4
+    decimate-of-requires-5
+    decimate-of-requires-6
+    decimate-of-requires-7
+    decimate-of-requires-8
     same-length
-    returns)
+    returns
+    same-length-2
+    returns-2
+    same-length-3
+    returns-3
+    same-length-4
+    returns-4
+    same-length-5
+    returns-5
+    same-length-6
+    returns-6
+    same-length-7
+    returns-7
+    same-length-8
+    returns-8)

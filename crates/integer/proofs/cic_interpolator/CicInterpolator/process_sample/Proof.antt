@@ -1,55 +1,19 @@
--- `CicInterpolator::process_sample` meets its contract: 15, then 4, and else the combs take the sample and the integrators fill the span.
-use mathlib.Core.Path.{_≡_, refl, sym, ap, _∙_}
-use mathlib.Core.Bool.{true, false}
+-- `CicInterpolator::process_sample` meets its contract: `sample_at` does it with the parts of the state, which are put together again.
 use borrow.Author.Needs.{needs}
-use borrow.Author.Tests.{not-true, not-false, le-leb, lt-leb}
-use mir.Syntax.{w32}
-use mir.Val.{SFits}
 use mir.Facts.{toZ-ofZ}
-use Rattle.integer.specs.CicInterpolator.{valid, sample, sampleSpan}
 use Rattle.integer.proofs.cic_interpolator.CicInterpolator.process_sample.Statement.{statement}
 use Rattle.integer.proofs.cic_interpolator.CicInterpolator.process_sample.Tie as tie
 
--- the state is valid
-ok : (c : tie.Else1) → valid (c .before .before .args .self) ≡ true
-ok c = sym (c .before .valid .ensures) ∙ not-false _ (c .if1 .left)
-
-valid-requires : tie.Need-valid-requires
-valid-requires c κs = search needs
-
-returns : tie.Need-returns
-unfolding sample sampleSpan
-returns c =
-    let v : valid (c .before .before .args .self) ≡ false = sym (c .before .valid .ensures) ∙ not-true _ (c .if1 .taken) in
-    (rw v, rw v)
-
-returns-2 : tie.Need-returns-2
-unfolding sample sampleSpan
-returns-2 c =
-    let s = lt-leb _ _ (c .if2 .taken) in
-    (rw (ok (c .before), s), rw (ok (c .before), s))
-
-comb-requires : tie.Need-comb-requires
-comb-requires c κs = search needs
-
-fill-requires : tie.Need-fill-requires
-fill-requires c κs = c .before .before .before .before .before .before .if2 .left
+sample-at-requires : tie.Need-sample-at-requires
+sample-at-requires c κs = tt
 
 same-length : tie.Need-same-length
 same-length c = search needs
 
-returns-3 : tie.Need-returns-3
-unfolding sample sampleSpan
-returns-3 c =
-    let f : SFits w32 (c .before .before .before .before .before .comb .result) = record { sfits = c .before .before .before .before .before .comb .ok } in
-    let v = ok (c .before .before .before .before .before .before .before .before .before) in
-    let s = le-leb _ _ (c .before .before .before .before .before .before .before .before .if2 .left) in
-    let x = toZ-ofZ (c .before .before .before .before .before .before .before .before .before .before .before .fits .input) in (
-      rw (v, s, c .before .fill .ensures .0, toZ-ofZ f, c .before .before .before .before .before .comb .ensures .1, c .before .before .before .before .before .comb .ensures .0, x),
-      rw (v, s, c .before .fill .ensures .1, toZ-ofZ f, c .before .before .before .before .before .comb .ensures .1, x),
-    )
+returns : tie.Need-returns
+returns c =
+    let x = toZ-ofZ (c .before .before .before .before .before .before .before .fits .input) in
+    (rw x at (c .before .sample-at .ensures .0), rw x at (c .before .sample-at .ensures .1))
 
 pub process-sample-spec : {M : Type 1} → statement M
-process-sample-spec =
-    tie.close
-    (tie.spec valid-requires returns returns-2 comb-requires fill-requires same-length returns-3)
+process-sample-spec = tie.close (tie.spec sample-at-requires same-length returns)
