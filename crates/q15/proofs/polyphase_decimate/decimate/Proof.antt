@@ -4,7 +4,7 @@ use Prim.Native.Nat.{ℕ, _+_, _*_, _≤_, _<_}
 use native.Mathlib.Omega.{arith}
 use borrow.Author.Needs.{needs}
 use lib.ListN.{length}
-use Rattle.q15.specs.Block.{mostBlock}
+use Rattle.refusal.specs.Rows.{mostBlock}
 use Rattle.q15.proofs.polyphase_decimate.decimate.Statement.{statement}
 use Rattle.q15.proofs.polyphase_decimate.decimate.Tie as tie
 
