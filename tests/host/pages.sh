@@ -50,7 +50,7 @@ edited() {
 by_hand() {
     local change check undo file log=target/must-fail/$2/$3/.log
     { read -r change && read -r check && read -r undo; } <"$to/$1.sh"
-    file=${undo#git checkout }
+    file=${undo#git checkout -q }
     diff <(edited "$2" "$3") <(bash -c "${change/ -i / }") || wrong "$change is not $2/$3"
     [[ $check == "rt dev $2 2>&1 | "* ]] || wrong "$check is no check of $2"
     [[ $change == *" $file" ]] || wrong "$undo does not undo $change"
