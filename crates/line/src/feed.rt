@@ -11,8 +11,8 @@ ghost use Rattle.line.specs.Together as T;
 use crate::sample::Fixed;
 use crate::sample::Numbers;
 use crate::step::Did;
-use crate::step::due;
-use crate::step::step_on;
+use crate::step::take_on;
+use float::polyphase_resamp::write_due;
 use integer::stages::run;
 
 // How far a feed came.
@@ -41,9 +41,6 @@ fn at_once(
     ensures { λ m. ⌜ (m ≡ T.atOnce f s place (length (now (samples .entry)) - at)) × (now (integrators .exit) ≡ ran (f .stages) (now (integrators .entry)) (pos 0) (take m (drop at (now (samples .entry)))) .state) ⌝ }
 {
     if !place {
-        return 0;
-    }
-    if due(f, s.mu) {
         return 0;
     }
     let m = least(f.r - 1 - s.sample_counter, samples.len() - at);
@@ -77,10 +74,22 @@ pub(crate) fn feed_on(
     let mut taken: usize = 0;
     let mut written: usize = 0;
     loop {
+        let due = write_due(
+            prototype,
+            delay,
+            f.phases,
+            f.taps,
+            f.step,
+            n.mu,
+            out,
+            written,
+        );
+        n.mu = due.mu;
+        written = due.written;
         let m = at_once(f, n, integrators, samples, taken, written < out.len());
         n.sample_counter = n.sample_counter + m;
         taken += m;
-        let on = step_on(
+        let on = take_on(
             f,
             n,
             integrators,
@@ -91,7 +100,6 @@ pub(crate) fn feed_on(
             held,
             counts,
             delay,
-            prototype,
             samples,
             taken,
             written < out.len(),
