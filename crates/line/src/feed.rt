@@ -1,6 +1,6 @@
 // 01, section 6: "A feed steps until stopped". The arrays are lent, and the samples that complete no sum go through the integrators at once.
 ghost use mathlib.Core.Path.{_≡_};
-ghost use mathlib.Core.Bool.{true};
+ghost use mathlib.Core.Bool.{true, false};
 ghost use Prim.Native.Nat.{_-_, _<_, _≤_, min};
 ghost use lib.IntN.{pos};
 ghost use lib.ListN.{length, take, drop};
@@ -28,7 +28,7 @@ fn least(a: usize, b: usize) -> usize
     if a < b { a } else { b }
 }
 
-// The samples that complete no sum, where a place is left and no output is due.
+// The samples that complete no sum, where no output is due and a place is left.
 fn at_once(
     f: Fixed,
     s: Numbers,
@@ -37,7 +37,7 @@ fn at_once(
     at: usize,
     place: bool,
 ) -> usize
-    requires { ⌜ (s .«sample_counter» < f .r) × (at ≤ length (now samples)) ⌝ }
+    requires { ⌜ (s .«sample_counter» < f .r) × (at ≤ length (now samples)) × (place ≡ true → T.dueAt f (s .mu) ≡ false) ⌝ }
     ensures { λ m. ⌜ (m ≡ T.atOnce f s place (length (now (samples .entry)) - at)) × (now (integrators .exit) ≡ ran (f .stages) (now (integrators .entry)) (pos 0) (take m (drop at (now (samples .entry)))) .state) ⌝ }
 {
     if !place {

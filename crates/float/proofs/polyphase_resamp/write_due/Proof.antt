@@ -68,8 +68,8 @@ loop-again c =
     rw (c .interpolate-within .ensures) (
       same ∙ l .inv .0,
       l .inv .1
-      ∙ ap (λ (n : ℕ). emitted (a .phases) (a .taps) (a .step) (now (a .delay)) (now (a .prototype)) n (l .next) (l .written) (l .dst)) left
-      ∙ one-due (a .phases) (a .taps) (a .step) (now (a .delay)) (now (a .prototype)) _ (l .next) (l .written) (l .dst) (c .before .before .if2 .taken),
+          ∙ ap (λ (n : ℕ). emitted (a .phases) (a .taps) (a .step) (now (a .delay)) (now (a .prototype)) n (l .next) (l .written) (l .dst)) left
+          ∙ one-due (a .phases) (a .taps) (a .step) (now (a .delay)) (now (a .prototype)) _ (l .next) (l .written) (l .dst) (c .before .before .if2 .taken),
     )
 
 same-length : tie.Need-same-length Inv-loop μ-loop
