@@ -7,6 +7,7 @@ pub mod Tape
 pub mod Packing
 pub mod PolyphaseRange
 pub mod PolyphaseWhole
+pub mod DueOutputs
 pub mod PolyphaseCalls
 pub mod ResampleLinear
 pub mod Levels

@@ -3,23 +3,24 @@
 use mathlib.Core.Path.{_≡_, refl, sym, _∙_, subst, subst⁻¹}
 use mathlib.Core.Bool.{Bool, true, false, cond, true≢false}
 use mathlib.Core.List.{List, []}
-use Prim.Native.Nat.{ℕ, _*_}
+use Prim.Native.Nat.{ℕ, _-_, _*_, _<_}
 use native.Mathlib.Omega.{arith}
-use borrow.Author.Tests.{eq-eqb, eqb-true}
-use lib.Dec.{eqb}
+use borrow.Author.Tests.{eq-eqb, eqb-true, ltb-true, ltb-false}
+use lib.Dec.{eqb, ltb}
 use lib.ListN.{length, take, drop}
 use lib.Seq.{take-append-seam, drop-nil}
-use lib.Ieee.{Float, binary32, sub}
+use lib.Ieee.{Float, binary32, sub, lt}
 use Rattle.theory.specs.Feeds.{Fed, feed}
 use Rattle.theory.specs.Runs.{Runs}
-use Rattle.theory.proofs.FeedRules.{Between, Ended, feed-keeps, feed-short, feed-conserves}
+use Rattle.theory.proofs.FeedRules.{Between, Ended, between-start, after-output, ended-full, ended-dry, feed-keeps, feed-short, feed-conserves}
 use Rattle.refusal.specs.Outcome.{Outcome, Opened}
 use Rattle.float.specs.F32.{one32, aboveZero}
-use Rattle.float.specs.PolyphaseResamp.{inLimits, valid, consumed, resampler, fresh, refusedOpening, opening, ownTaps, reset, Counts, laid, together, RanTo, shiftedIn, block, blockOutcome, blockSpan, push, pushOutcome, pushSpan}
+use Rattle.float.specs.PolyphaseResamp.{inLimits, valid, consumed, outputOf, passed, resampler, Emitted, emitted, emittedFrom, fresh, refusedOpening, opening, ownTaps, reset, Counts, laid, together, RanTo, shiftedIn, block, blockOutcome, blockSpan, push, pushOutcome, pushSpan}
 use Rattle.float.specs.PolyphaseWhole.{Opens, Resets, Conserves, BlockKept, PushKept}
 use Rattle.float.specs.declared.polyphase_resamp.PolyphaseResampF32.{PolyphaseResampF32}
 use Rattle.float.specs.declared.polyphase_resamp.Ran.{Ran}
 use Rattle.float.proofs.PolyphaseRange.{valid-in-limits, valid-above, valid-consumed, valid-passed, valid-fresh}
+use Rattle.float.proofs.DueOutputs.{emitted-keeps, emitted-all}
 use Rattle.float.proofs.PolyphaseWhole.{fresh-becomes, becomes-fresh, becomes-all}
 
 -- ---- the opening
@@ -93,6 +94,27 @@ pub finished :
     → Ended resampler _ _ _ _ _ _ _ mid → RanTo P T step mu h d₀ xs o₀ r d o
 finished P T step mu h d₀ xs o₀ r d o mid e =
     record { state = rw (e .is-fed); taken = rw (e .is-fed); written = rw (e .is-fed) (sym (e .count)); span = rw (e .is-fed) (e .span) }
+
+-- and so are the outputs that are due, with no samples to consume
+pub emitted-ran :
+    (P T : ℕ) (step mu : Float) (h d o₀ : List Float) (e : Emitted) → inLimits P T ≡ true → e ≡ emittedFrom P T step d h mu 0 o₀
+    → RanTo P T step mu h d [] o₀ (record { mu = e .mu; taken = 0; written = e .written }) d (e .span)
+unfolding emittedFrom resampler outputOf passed
+emitted-ran P T step mu h d o₀ e l q =
+    let f : Emitted = emitted P T step d h (length o₀ - 0) mu 0 o₀ in
+    let same : e ≡ f = rw l at q in
+    let mid : Between resampler (together P T mu step d h) [] o₀ (f .span) (together P T (f .mu) step d h) 0 (f .written) =
+    emitted-keeps P T step d h (λ mu′ w o. Between resampler (together P T mu step d h) [] o₀ o (together P T mu′ step d h) 0 w)
+    (λ mu′ w o k due place. after-output resampler _ _ _ _ _ _ _ k due place)
+    (length o₀ - 0) mu 0 o₀ refl (between-start resampler (together P T mu step d h) [] o₀)
+    in
+    rw same (finished P T step mu h d [] o₀ (record { mu = f .mu; taken = 0; written = f .written }) d (f .span) mid (go f mid (emitted-all P T step d h (length o₀ - 0) mu 0 o₀ refl) (ltb (f .written) (length (f .span))) refl))
+  where
+    go :
+        (f : Emitted) (mid : Between resampler (together P T mu step d h) [] o₀ (f .span) (together P T (f .mu) step d h) 0 (f .written))
+        → (f .written < length (f .span) → lt (f .mu) one32 ≡ false) → (b : Bool) → ltb (f .written) (length (f .span)) ≡ b → Ended resampler _ _ _ _ _ _ _ mid
+    go f mid all true b = ended-dry resampler _ _ _ _ _ _ _ mid (all (ltb-true _ _ b)) (omega arith)
+    go f mid all false b = ended-full resampler _ _ _ _ _ _ _ mid (ltb-false _ _ b)
 
 -- where two counts leave the same samples
 left-alike : {s t : PolyphaseResampF32} {xs w : List Float} {n k : ℕ} → drop n xs ≡ drop k xs → Conserves s xs w n t → Conserves s xs w k t

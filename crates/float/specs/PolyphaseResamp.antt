@@ -3,9 +3,9 @@ use mathlib.Core.Path.{_≡_}
 use mathlib.Core.Bool.{Bool, not, _&&_, _||_, cond}
 use mathlib.Core.List.{List, [], _∷_, _++_}
 use mathlib.Core.Option.{none, some}
-use Prim.Native.Nat.{ℕ, _-_, _*_}
+use Prim.Native.Nat.{ℕ, zero, suc, _+_, _-_, _*_}
 use lib.Dec.{leb, eqb}
-use lib.ListN.{length, take, drop, replicate}
+use lib.ListN.{length, take, drop, set, replicate}
 use lib.Ieee.{Float, binary32, ofBits, add, sub, lt, le}
 use Rattle.theory.specs.Machines.{Machine}
 use Rattle.theory.specs.Feeds.{Fed, feed}
@@ -17,6 +17,7 @@ use Rattle.float.specs.declared.polyphase_resamp.PolyphaseOpening.{Polyp
 use Rattle.float.specs.declared.polyphase_resamp.PolyphaseBlock.{PolyphaseBlock}
 use Rattle.float.specs.declared.polyphase_resamp.PolyphasePush.{PolyphasePush}
 use Rattle.float.specs.declared.polyphase_resamp.Ran.{Ran}
+use Rattle.float.specs.declared.polyphase_resamp.Due.{Due}
 
 -- "P phases 2 to 64, T taps 1 to 16"
 abbrev pub leastPhases : ℕ
@@ -228,3 +229,24 @@ pub record RanTo (P T : ℕ) (step mu : Float) (h d₀ xs o₀ : List Float) (r 
   pub taken : r .taken ≡ ran P T step mu h d₀ xs o₀ .taken
   pub written : r .written ≡ length (ran P T step mu h d₀ xs o₀ .written)
   pub span : o ≡ laid (ran P T step mu h d₀ xs o₀ .written) o₀
+
+-- 01, section 5, "while mu < 1 an output is made": mu after the outputs that were due, the places written, and the span
+pub record Emitted : Type 0 where
+  pub mu : Float
+  pub written : ℕ
+  pub span : List Float
+
+-- for the delay d and the prototype h, with w places of the span o written and n left
+unfoldable pub emitted : ℕ → ℕ → Float → List Float → List Float → ℕ → Float → ℕ → List Float → Emitted
+emitted P T step d h zero mu w o = record { mu = mu; written = w; span = o }
+emitted P T step d h (suc n) mu w o =
+    cond (lt mu one32)
+    (emitted P T step d h n (add binary32 mu step) (w + 1) (set o w (output P T mu d h)))
+    (record { mu = mu; written = w; span = o })
+
+-- outside the limits of P and T, nothing
+unfoldable pub emittedFrom : ℕ → ℕ → Float → List Float → List Float → Float → ℕ → List Float → Emitted
+emittedFrom P T step d h mu w o = cond (inLimits P T) (emitted P T step d h (length o - w) mu w o) (record { mu = mu; written = w; span = o })
+
+abbrev pub toldDue : Due → List Float → Emitted
+toldDue r o = record { mu = r .mu; written = r .written; span = o }

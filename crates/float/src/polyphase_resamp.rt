@@ -76,6 +76,12 @@ struct Ran {
     written: usize,
 }
 
+// Where the next output lies after those that were due, and how many places of the span are written.
+pub struct Due {
+    pub mu: f32,
+    pub written: usize,
+}
+
 // Whether x is finite and above zero, as a step or a ratio has to be.
 pub fn above_zero(x: f32) -> bool
     ensures { λ r. ⌜ r ≡ aboveZero x ⌝ }
@@ -306,8 +312,8 @@ fn run(
     }
 }
 
-// What is due from mu on is written, as long as dst has a place.
-fn emit(
+// What is due from mu on is written from the place `from` of dst on, as long as it has a place. Where P or T is outside its limits, nothing.
+pub fn write_due(
     prototype: &[f32; MOST_CELLS],
     delay: &[f32; MOST_TAPS],
     phases: usize,
@@ -315,26 +321,26 @@ fn emit(
     step: f32,
     mu: f32,
     dst: &mut [f32],
-) -> Ran
-    requires { ⌜ R.inLimits phases taps ≡ true ⌝ }
-    ensures { λ r. ⌜ R.RanTo phases taps step mu (now (prototype .entry)) (now (delay .entry)) [] (now (dst .entry)) r (now (delay .entry)) (now (dst .exit)) ⌝ }
+    from: usize,
+) -> Due
+    ensures { λ r. ⌜ R.toldDue r (now (dst .exit)) ≡ R.emittedFrom phases taps step (now (delay .entry)) (now (prototype .entry)) mu from (now (dst .entry)) ⌝ }
 {
+    if !in_limits(phases, taps) {
+        return Due { mu, written: from };
+    }
+    lent_whole(*delay);
     let mut next = mu;
-    let mut written = 0usize;
+    let mut written = from;
     while written < dst.len() {
         if next < 1.0 {
-            dst[written] = interpolate(prototype, delay, phases, taps, next);
+            dst[written] = interpolate_within(prototype, delay, phases, taps, next);
             written += 1;
             next = next + step;
         } else {
             break;
         }
     }
-    Ran {
-        mu: next,
-        taken: 0,
-        written,
-    }
+    Due { mu: next, written }
 }
 
 // The prototype in front, zeros behind; what is past the last place is not read.
@@ -446,7 +452,7 @@ impl PolyphaseResampF32 {
         }
         let mut delay = self.delay;
         shift_in(&mut delay, self.taps, x);
-        let ran = emit(
+        let ran = write_due(
             &self.prototype,
             &delay,
             self.phases,
@@ -454,6 +460,7 @@ impl PolyphaseResampF32 {
             self.step,
             self.mu - 1.0,
             out,
+            0,
         );
         self.mu = ran.mu;
         self.delay = delay;

@@ -70,15 +70,11 @@ quiet (x ∷ w) l d h =
     let g : l .cic .«sample_counter» + 1 + length w < l .cic .r = omega arith in
     (d, sym (o .0), subst (λ (z : Line). Quiet line w z (advanced l (x ∷ w))) (o .1) (subst (λ (z : Line). Quiet line w (advanced l (x ∷ [])) z) (same l x w) (quiet w (advanced l (x ∷ [])) d g)))
 
--- how many are taken at once, by the test's three ways
+-- how many are taken at once, by the test's two ways
 module _ (f : Fixed) (s : Numbers) (place : Bool) (left : ℕ) where
   pub at-full : place ≡ false → 0 ≡ atOnce f s place left
   unfolding atOnce
   at-full p = simp p
-
-  pub at-due : place ≡ true → dueAt f (s .mu) ≡ true → 0 ≡ atOnce f s place left
-  unfolding atOnce
-  at-due p d = simp (p, d)
 
   pub at-quiet : place ≡ true → dueAt f (s .mu) ≡ false → min (f .r - 1 - s .«sample_counter») left ≡ atOnce f s place left
   unfolding atOnce

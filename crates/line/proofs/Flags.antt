@@ -21,3 +21,7 @@ not-says false e = refl
 pub not-is : (b : Bool) → b ≡ false → not b ≡ true
 not-is true e = absurd (true≢false e)
 not-is false e = refl
+
+pub and-false : (a : Bool) → (a && false) ≡ false
+and-false true = refl
+and-false false = refl

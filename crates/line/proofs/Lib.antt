@@ -5,3 +5,4 @@ pub mod Openings
 pub mod Demanded
 pub mod Numbers
 pub mod AtOnce
+pub mod Emitting

@@ -1,6 +1,6 @@
 // 01, section 6: "A feed steps until stopped". The arrays are lent, and the samples that complete no sum go through the integrators at once.
 ghost use mathlib.Core.Path.{_≡_};
-ghost use mathlib.Core.Bool.{true};
+ghost use mathlib.Core.Bool.{true, false};
 ghost use Prim.Native.Nat.{_-_, _<_, _≤_, min};
 ghost use lib.IntN.{pos};
 ghost use lib.ListN.{length, take, drop};
@@ -11,8 +11,8 @@ ghost use Rattle.line.specs.Together as T;
 use crate::sample::Fixed;
 use crate::sample::Numbers;
 use crate::step::Did;
-use crate::step::due;
-use crate::step::step_on;
+use crate::step::take_on;
+use float::polyphase_resamp::write_due;
 use integer::stages::run;
 
 // How far a feed came.
@@ -28,7 +28,7 @@ fn least(a: usize, b: usize) -> usize
     if a < b { a } else { b }
 }
 
-// The samples that complete no sum, where a place is left and no output is due.
+// The samples that complete no sum, where no output is due and a place is left.
 fn at_once(
     f: Fixed,
     s: Numbers,
@@ -37,13 +37,10 @@ fn at_once(
     at: usize,
     place: bool,
 ) -> usize
-    requires { ⌜ (s .«sample_counter» < f .r) × (at ≤ length (now samples)) ⌝ }
+    requires { ⌜ (s .«sample_counter» < f .r) × (at ≤ length (now samples)) × (place ≡ true → T.dueAt f (s .mu) ≡ false) ⌝ }
     ensures { λ m. ⌜ (m ≡ T.atOnce f s place (length (now (samples .entry)) - at)) × (now (integrators .exit) ≡ ran (f .stages) (now (integrators .entry)) (pos 0) (take m (drop at (now (samples .entry)))) .state) ⌝ }
 {
     if !place {
-        return 0;
-    }
-    if due(f, s.mu) {
         return 0;
     }
     let m = least(f.r - 1 - s.sample_counter, samples.len() - at);
@@ -77,10 +74,22 @@ pub(crate) fn feed_on(
     let mut taken: usize = 0;
     let mut written: usize = 0;
     loop {
+        let due = write_due(
+            prototype,
+            delay,
+            f.phases,
+            f.taps,
+            f.step,
+            n.mu,
+            out,
+            written,
+        );
+        n.mu = due.mu;
+        written = due.written;
         let m = at_once(f, n, integrators, samples, taken, written < out.len());
         n.sample_counter = n.sample_counter + m;
         taken += m;
-        let on = step_on(
+        let on = take_on(
             f,
             n,
             integrators,
@@ -91,7 +100,6 @@ pub(crate) fn feed_on(
             held,
             counts,
             delay,
-            prototype,
             samples,
             taken,
             written < out.len(),

@@ -86,6 +86,9 @@ fn half_band_in(
 ) -> Resampled
     ensures { λ r. ⌜ ((h : List Float) → T.Takes L.from4 (T.halfBandOf f (now (delays .entry)) (now (held .entry)) (now (counts .entry)), T.resamplerOf f mu (now (delay .entry)) h) level (valueOf (r .out)) (T.halfBandOf f (now (delays .exit)) (now (held .exit)) (now (counts .exit)), T.resamplerOf f (r .mu) (now (delay .exit)) h)) ⌝ }
 {
+    if f.depth == 0 {
+        return resampler_in(f, mu, delay, level);
+    }
     let made = hbf_stream_at(f.depth, delays, held, counts, level);
     match made {
         HbfOut::Nothing => Resampled {

@@ -1,7 +1,9 @@
 // 01, section 6: "One step of the line: a full span stops it; else a due output is written; else the next sample is taken ..; else it stops."
 ghost use mathlib.Core.Path.{_≡_};
-ghost use mathlib.Core.Bool.{true};
+ghost use mathlib.Core.Bool.{true, false};
+ghost use mathlib.Core.List.{List};
 ghost use lib.ListN.{drop};
+ghost use lib.Ieee.{Float};
 ghost use Rattle.theory.specs.Feeds.{step, headOf, taking};
 ghost use Rattle.integer.specs.Gain.{gainBits};
 ghost use Rattle.half_band.specs.HbfStream.{valueOf};
@@ -47,6 +49,59 @@ fn taking(out: HbfOut) -> Did
     }
 }
 
+// A step where no output is due: a full span stops it, else the next sample is taken, else it stops.
+pub(crate) fn take_on(
+    f: Fixed,
+    s: Numbers,
+    integrators: &mut [i32; 8],
+    combs: &mut [i32; 8],
+    taps: &[i16; 64],
+    fir_delay: &mut [i16; 64],
+    delays: &mut [f32; 480],
+    held: &mut [f32; 5],
+    counts: &mut [usize; 5],
+    delay: &mut [f32; 16],
+    samples: &[i32],
+    at: usize,
+    place: bool,
+) -> NumberStep
+    requires { ⌜ (f .bits ≡ gainBits (f .stages) (f .r)) × (place ≡ true → T.dueAt f (s .mu) ≡ false) ⌝ }
+    ensures steps { λ r. ⌜ ((h : List Float) → T.steppedAt f r (now (integrators .exit)) (now (combs .exit)) (now (taps .entry)) (now («fir_delay» .exit)) (now (delays .exit)) (now (held .exit)) (now (counts .exit)) (now (delay .exit)) h ≡ step L.line place (T.together f s (now (integrators .entry)) (now (combs .entry)) (now (taps .entry)) (now («fir_delay» .entry)) (now (delays .entry)) (now (held .entry)) (now (counts .entry)) (now (delay .entry)) h) (headOf (drop at (now (samples .entry))))) ⌝ }
+{
+    if !place {
+        return NumberStep {
+            step: Did::Stopped,
+            numbers: s,
+        };
+    }
+    if samples.len() <= at {
+        return NumberStep {
+            step: Did::Stopped,
+            numbers: s,
+        };
+    }
+    let x = samples[at];
+    let on = sample_in(
+        f,
+        s,
+        integrators,
+        combs,
+        taps,
+        fir_delay,
+        delays,
+        held,
+        counts,
+        delay,
+        x,
+    );
+    let out = on.out;
+    let numbers = on.numbers;
+    NumberStep {
+        step: taking(out),
+        numbers,
+    }
+}
+
 // One step, the numbers by value and the arrays lent.
 pub(crate) fn step_on(
     f: Fixed,
@@ -84,14 +139,7 @@ pub(crate) fn step_on(
             },
         };
     }
-    if samples.len() <= at {
-        return NumberStep {
-            step: Did::Stopped,
-            numbers: s,
-        };
-    }
-    let x = samples[at];
-    let on = sample_in(
+    take_on(
         f,
         s,
         integrators,
@@ -102,12 +150,8 @@ pub(crate) fn step_on(
         held,
         counts,
         delay,
-        x,
-    );
-    let out = on.out;
-    let numbers = on.numbers;
-    NumberStep {
-        step: taking(out),
-        numbers,
-    }
+        samples,
+        at,
+        place,
+    )
 }

@@ -1,4 +1,4 @@
--- `at_once` meets its contract: by the test's three ways, and the run of the integrators.
+-- `at_once` meets its contract: by the test's two ways, and the run of the integrators.
 use mathlib.Core.Path.{_≡_, refl, sym, ap, _∙_}
 use Prim.Native.Nat.{ℕ, _+_, _-_}
 use native.Mathlib.Omega.{arith}
@@ -8,7 +8,7 @@ use denote.Ref.{now}
 use lib.IntN.{pos}
 use lib.ListN.{take, drop}
 use Rattle.integer.specs.Stages.{ran}
-use Rattle.line.proofs.AtOnce.{at-full, at-due, at-quiet, none-ran}
+use Rattle.line.proofs.AtOnce.{at-full, at-quiet, none-ran}
 use Rattle.line.proofs.feed.at_once.Statement.{statement}
 use Rattle.line.proofs.feed.at_once.Tie as tie
 
@@ -16,16 +16,6 @@ returns : tie.Need-returns
 returns c =
     let a = c .before .args in
     (at-full (a .f) (a .s) (a .place) _ (not-true _ (c .if1 .taken)), sym (none-ran (a .f .stages) (now (a .integrators)) (drop (a .at) (now (a .samples))) 0 refl))
-
-due-requires : tie.Need-due-requires
-due-requires c κs = search needs
-
-returns-2 : tie.Need-returns-2
-returns-2 c =
-    let a = c .before .before .before .args in (
-      at-due (a .f) (a .s) (a .place) _ (not-false _ (c .before .before .if1 .left)) (sym (c .before .due .ensures) ∙ c .if2 .taken),
-      sym (none-ran (a .f .stages) (now (a .integrators)) (drop (a .at) (now (a .samples))) 0 refl),
-    )
 
 sub-least : tie.Need-sub-least
 sub-least c = search needs
@@ -39,10 +29,12 @@ sub-least-3 c = search needs
 least-requires : tie.Need-least-requires
 least-requires c κs = search needs
 
-returns-3 : tie.Need-returns-3
-returns-3 c =
-    let a = c .before .before .before .before .before .before .before .args in (
-      sym (c .if3 .taken) ∙ c .before .least .ensures ∙ at-quiet (a .f) (a .s) (a .place) _ (not-false _ (c .before .before .before .before .before .before .if1 .left)) (sym (c .before .before .before .before .before .due .ensures) ∙ c .before .before .before .before .if2 .left),
+returns-2 : tie.Need-returns-2
+returns-2 c =
+    let b = c .before .before .before .before .before in
+    let a = b .args in
+    let here = not-false _ (c .before .before .before .before .if1 .left) in (
+      sym (c .if2 .taken) ∙ c .before .least .ensures ∙ at-quiet (a .f) (a .s) (a .place) _ here (b .pre .2 here),
       sym (none-ran (a .f .stages) (now (a .integrators)) (drop (a .at) (now (a .samples))) 0 refl),
     )
 
@@ -52,12 +44,14 @@ add-run c = search needs
 run-requires : tie.Need-run-requires
 run-requires c κs = search needs
 
-returns-4 : tie.Need-returns-4
-returns-4 c =
-    let a = c .before .before .before .before .before .before .before .before .before .args in
+returns-3 : tie.Need-returns-3
+returns-3 c =
+    let b = c .before .before .before .before .before .before .before in
+    let a = b .args in
     let m = c .before .before .before .least .result in
-    let e : a .at + m - a .at ≡ m = omega arith in (
-      c .before .before .before .least .ensures ∙ at-quiet (a .f) (a .s) (a .place) _ (not-false _ (c .before .before .before .before .before .before .before .before .if1 .left)) (sym (c .before .before .before .before .before .before .before .due .ensures) ∙ c .before .before .before .before .before .before .if2 .left),
+    let e : a .at + m - a .at ≡ m = omega arith in
+    let here = not-false _ (c .before .before .before .before .before .before .if1 .left) in (
+      c .before .before .before .least .ensures ∙ at-quiet (a .f) (a .s) (a .place) _ here (b .pre .2 here),
       c .run .ensures .0 ∙ ap (λ (k : ℕ). ran (a .f .stages) (now (a .integrators)) (pos 0) (take k (drop (a .at) (now (a .samples)))) .state) e,
     )
 
@@ -66,13 +60,11 @@ at-once-spec =
     tie.close
     (tie.spec
     returns
-    due-requires
-    returns-2
     sub-least
     sub-least-2
     sub-least-3
     least-requires
-    returns-3
+    returns-2
     add-run
     run-requires
-    returns-4)
+    returns-3)

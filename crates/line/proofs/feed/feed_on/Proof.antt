@@ -1,8 +1,8 @@
--- `feed_on` meets its contract: the loop keeps `Midway` of the line put together from its locals, and each kind of step has its law.
+-- `feed_on` meets its contract: the loop keeps `Midway` of the line put together from its locals; the outputs that are due have a law, the samples that complete no sum another, and each kind of step its own.
 use mathlib.Core.Path.{_≡_, refl, sym, ap, _∙_}
 use mathlib.Core.Bool.{true}
 use mathlib.Core.List.{List, _++_}
-use Prim.Native.Nat.{ℕ, _+_, _-_, _<_}
+use Prim.Native.Nat.{ℕ, _+_, _-_, _≤_, _<_}
 use native.Mathlib.Omega.{arith}
 use borrow.Author.Needs.{needs}
 use denote.Ref.{now}
@@ -12,12 +12,15 @@ use lib.Ieee.{Float}
 use Rattle.theory.specs.Feeds.{Stepped}
 use Rattle.theory.specs.Feeds as F
 use Rattle.theory.proofs.FeedLoop.{Midway, start, after-took, after-wrote, after-both, after-stopped}
+use Rattle.float.specs.PolyphaseResamp.{toldDue}
 use Rattle.line.specs.Line.{line, valid, fedLine}
 use Rattle.line.specs.Together.{together, didOf, steppedAt, counted, RanTo}
 use Rattle.line.specs.declared.gauge_line.Line.{Line}
+use Rattle.line.specs.declared.sample.Numbers.{Numbers}
 use Rattle.line.proofs.Lawful.{Good, line-lawful}
-use Rattle.line.proofs.Numbers.{counter-below, due-limits}
+use Rattle.line.proofs.Numbers.{counter-below}
 use Rattle.line.proofs.AtOnce.{Taken, taken, after-at-once}
+use Rattle.line.proofs.Emitting.{Drained, drained}
 use Rattle.line.proofs.feed.feed_on.Statement.{statement}
 use Rattle.line.proofs.feed.feed_on.Tie as tie
 
@@ -32,10 +35,13 @@ abbrev μ-loop : tie.MeasureT-loop
 abbrev begun : tie.At-loop Inv-loop μ-loop → tie.Start Inv-loop μ-loop
 begun c = c .before .before
 
-abbrev entered : tie.After-at-once Inv-loop μ-loop → tie.At-loop Inv-loop μ-loop
-entered c = c .before .before
+abbrev entered : tie.After-write-due Inv-loop μ-loop → tie.At-loop Inv-loop μ-loop
+entered c = c .before .before .before
 
-abbrev sped : tie.After-step-on Inv-loop μ-loop → tie.After-at-once Inv-loop μ-loop
+abbrev emptied : tie.After-at-once Inv-loop μ-loop → tie.After-write-due Inv-loop μ-loop
+emptied c = c .before .before .before .before
+
+abbrev sped : tie.After-take-on Inv-loop μ-loop → tie.After-at-once Inv-loop μ-loop
 sped c = c .before .before .before .before .before .before .before .before .before
 
 -- the line as it was lent
@@ -44,71 +50,92 @@ lent s =
     let a = s .args in
     together (a .f) (a .s) (now (a .integrators)) (now (a .combs)) (now (a .taps)) (now (a .fir-delay)) (now (a .delays)) (now (a .held)) (now (a .counts)) (now (a .delay)) (now (a .prototype))
 
-below : (c : tie.At-loop Inv-loop μ-loop) → c .loop .n .«sample_counter» < begun c .args .f .r
-below c = counter-below _ (c .loop .inv .good)
+-- the numbers and the span after the outputs that were due, and the invariant there
+abbrev numbers : tie.After-write-due Inv-loop μ-loop → Numbers
+numbers c = let n = entered c .loop .n in record { «sample_counter» = n .«sample_counter»; wait = n .wait; mu = c .write-due .result .mu }
+
+abbrev spanned : tie.After-write-due Inv-loop μ-loop → List Float
+spanned c = c .write-due .last .1 .1 .1 .1 .1 .1 .0
+
+due : (c : tie.After-write-due Inv-loop μ-loop) →
+    let a = begun (entered c) .args in
+    let v = entered c .loop in
+    Drained (lent (begun (entered c))) (now (a .samples)) (now (a .out)) (a .f) (v .n) (v .integrators) (v .combs) (now (a .taps)) (v .fir-delay) (v .delays) (v .held) (v .counts) (v .delay) (now (a .prototype)) (v .taken) (v .written) (toldDue (c .write-due .result) (spanned c))
+due c =
+    let a = begun (entered c) .args in
+    let v = entered c .loop in
+    drained (lent (begun (entered c))) (now (a .samples)) (now (a .out)) (a .f) (v .n) (v .integrators) (v .combs) (now (a .taps)) (v .fir-delay) (v .delays) (v .held) (v .counts) (v .delay) (now (a .prototype)) (v .taken) (v .written) (v .out) (v .inv) (toldDue (c .write-due .result) (spanned c)) (c .write-due .ensures)
+
+below : (c : tie.After-write-due Inv-loop μ-loop) → entered c .loop .n .«sample_counter» < begun (entered c) .args .f .r
+below c = counter-below _ (due c .mid .good)
 
 count : (c : tie.After-at-once Inv-loop μ-loop) →
-    let a = begun (entered c) .args in
-    let v = entered c .loop in
-    Taken (a .f) (v .n) (ltb (v .written) (length (v .out))) (length (now (a .samples)) - v .taken) (c .at-once .result)
+    let d = emptied c in
+    let a = begun (entered d) .args in
+    Taken (a .f) (numbers d) (ltb (d .write-due .result .written) (length (spanned d))) (length (now (a .samples)) - entered d .loop .taken) (c .at-once .result)
 count c =
-    let a = begun (entered c) .args in
-    let v = entered c .loop in
-    taken (a .f) (v .n) (ltb (v .written) (length (v .out))) (length (now (a .samples)) - v .taken) (c .at-once .result) (below (entered c)) (c .at-once .ensures .0)
+    let d = emptied c in
+    let a = begun (entered d) .args in
+    taken (a .f) (numbers d) (ltb (d .write-due .result .written) (length (spanned d))) (length (now (a .samples)) - entered d .loop .taken) (c .at-once .result) (below d) (c .at-once .ensures .0)
 
 -- the line put together after the samples taken at once, and the invariant there
 abbrev sped-line : (c : tie.After-at-once Inv-loop μ-loop) → Line
 sped-line c =
-    let a = begun (entered c) .args in
-    let v = entered c .loop in
-    together (a .f) (counted (v .n) (c .at-once .result)) (c .at-once .last .1 .1 .0) (v .combs) (now (a .taps)) (v .fir-delay) (v .delays) (v .held) (v .counts) (v .delay) (now (a .prototype))
+    let a = begun (entered (emptied c)) .args in
+    let v = entered (emptied c) .loop in
+    together (a .f) (counted (numbers (emptied c)) (c .at-once .result)) (c .at-once .last .1 .1 .0) (v .combs) (now (a .taps)) (v .fir-delay) (v .delays) (v .held) (v .counts) (v .delay) (now (a .prototype))
 
 mid : (c : tie.After-at-once Inv-loop μ-loop) →
-    let a = begun (entered c) .args in
-    let v = entered c .loop in
-    Midway line 64 Good line-lawful (lent (begun (entered c))) (now (a .samples)) (now (a .out)) (v .out) (sped-line c) (v .taken + c .at-once .result) (v .written)
+    let d = emptied c in
+    let a = begun (entered d) .args in
+    Midway line 64 Good line-lawful (lent (begun (entered d))) (now (a .samples)) (now (a .out)) (spanned d) (sped-line c) (entered d .loop .taken + c .at-once .result) (d .write-due .result .written)
 mid c =
-    let a = begun (entered c) .args in
-    let v = entered c .loop in
-    after-at-once (lent (begun (entered c))) (now (a .samples)) (now (a .out)) (v .out) (a .f) (v .n) (v .integrators) (v .combs) (now (a .taps)) (v .fir-delay) (v .delays) (v .held) (v .counts) (v .delay) (now (a .prototype)) (v .taken) (v .written) (v .inv)
+    let d = emptied c in
+    let a = begun (entered d) .args in
+    let v = entered d .loop in
+    after-at-once (lent (begun (entered d))) (now (a .samples)) (now (a .out)) (spanned d) (a .f) (numbers d) (v .integrators) (v .combs) (now (a .taps)) (v .fir-delay) (v .delays) (v .held) (v .counts) (v .delay) (now (a .prototype)) (v .taken) (d .write-due .result .written) (due d .mid)
     (c .at-once .result) (c .at-once .last .1 .1 .0) (count c) (c .at-once .ensures .1)
 
 -- what a step did, and the line put together after it
-abbrev stepped : (c : tie.After-step-on Inv-loop μ-loop) → Stepped Line Float
+abbrev stepped : (c : tie.After-take-on Inv-loop μ-loop) → Stepped Line Float
 stepped c =
-    let a = begun (entered (sped c)) .args in
-    let t = c .step-on .last in
-    steppedAt (a .f) (c .step-on .result) (t .1 .1 .0) (t .1 .1 .1 .0) (now (a .taps)) (t .1 .1 .1 .1 .1 .0) (t .1 .1 .1 .1 .1 .1 .0) (t .1 .1 .1 .1 .1 .1 .1 .0) (t .1 .1 .1 .1 .1 .1 .1 .1 .0) (t .1 .1 .1 .1 .1 .1 .1 .1 .1 .0) (now (a .prototype))
+    let a = begun (entered (emptied (sped c))) .args in
+    let t = c .take-on .last in
+    steppedAt (a .f) (c .take-on .result) (t .1 .1 .0) (t .1 .1 .1 .0) (now (a .taps)) (t .1 .1 .1 .1 .1 .0) (t .1 .1 .1 .1 .1 .1 .0) (t .1 .1 .1 .1 .1 .1 .1 .0) (t .1 .1 .1 .1 .1 .1 .1 .1 .0) (t .1 .1 .1 .1 .1 .1 .1 .1 .1 .0) (now (a .prototype))
 
-module _ (k : tie.After-step-on Inv-loop μ-loop) where
+module _ (k : tie.After-take-on Inv-loop μ-loop) where
   abbrev arg : tie.Start Inv-loop μ-loop
-  arg = begun (entered (sped k))
+  arg = begun (entered (emptied (sped k)))
 
   abbrev at : ℕ
-  at = entered (sped k) .loop .taken + sped k .at-once .result
+  at = entered (emptied (sped k)) .loop .taken + sped k .at-once .result
 
   abbrev was : ℕ
-  was = entered (sped k) .loop .written
+  was = emptied (sped k) .write-due .result .written
 
   abbrev span : List Float
-  span = entered (sped k) .loop .out
+  span = spanned (emptied (sped k))
+
+  -- no place was given back
+  more : entered (emptied (sped k)) .loop .written ≤ was
+  more = due (emptied (sped k)) .more
 
   abbrev Mid : List Float → ℕ → ℕ → Type 0
   Mid out t w = Midway line 64 Good line-lawful (lent arg) (now (arg .args .samples)) (now (arg .args .out)) out (stepped k .line) t w
 
   took : stepped k .event ≡ F.took → (at < length (now (arg .args .samples))) × Mid span (at + 1) was
-  took e = after-took line 64 Good line-lawful (lent arg) (now (arg .args .samples)) (now (arg .args .out)) span (sped-line (sped k)) at was (mid (sped k)) (stepped k) (k .step-on .ensures) e
+  took e = after-took line 64 Good line-lawful (lent arg) (now (arg .args .samples)) (now (arg .args .out)) span (sped-line (sped k)) at was (mid (sped k)) (stepped k) (k .take-on .ensures (now (arg .args .prototype))) e
 
   wrote : (y : Float) → stepped k .event ≡ F.wrote y → (was < length (now (arg .args .out))) × Mid (set span was y) at (was + 1)
-  wrote y e = after-wrote line 64 Good line-lawful (lent arg) (now (arg .args .samples)) (now (arg .args .out)) span (sped-line (sped k)) at was (mid (sped k)) (stepped k) (k .step-on .ensures) y e
+  wrote y e = after-wrote line 64 Good line-lawful (lent arg) (now (arg .args .samples)) (now (arg .args .out)) span (sped-line (sped k)) at was (mid (sped k)) (stepped k) (k .take-on .ensures (now (arg .args .prototype))) y e
 
   both : (y : Float) → stepped k .event ≡ F.both y → (at < length (now (arg .args .samples))) × (was < length (now (arg .args .out))) × Mid (set span was y) (at + 1) (was + 1)
-  both y e = after-both line 64 Good line-lawful (lent arg) (now (arg .args .samples)) (now (arg .args .out)) span (sped-line (sped k)) at was (mid (sped k)) (stepped k) (k .step-on .ensures) y e
+  both y e = after-both line 64 Good line-lawful (lent arg) (now (arg .args .samples)) (now (arg .args .out)) span (sped-line (sped k)) at was (mid (sped k)) (stepped k) (k .take-on .ensures (now (arg .args .prototype))) y e
 
   stopped : stepped k .event ≡ F.stopped → RanTo (lent arg) (now (arg .args .samples)) (now (arg .args .out)) span at was (stepped k .line)
   unfolding fedLine
   stopped v =
-      let e = after-stopped line 64 Good line-lawful (lent arg) (now (arg .args .samples)) (now (arg .args .out)) span (sped-line (sped k)) at was (mid (sped k)) (stepped k) (k .step-on .ensures) v in
+      let e = after-stopped line 64 Good line-lawful (lent arg) (now (arg .args .samples)) (now (arg .args .out)) span (sped-line (sped k)) at was (mid (sped k)) (stepped k) (k .take-on .ensures (now (arg .args .prototype))) v in
       let q = e .is-fed in
       record {
         took = sym (ap (λ (f : F.Fed Line Float). f .taken) q);
@@ -120,26 +147,29 @@ module _ (k : tie.After-step-on Inv-loop μ-loop) where
 loop-holds : tie.Need-loop-holds Inv-loop μ-loop
 loop-holds c = start line 64 Good line-lawful _ _ _ (c .before .pre .1)
 
+write-due-requires : tie.Need-write-due-requires Inv-loop μ-loop
+write-due-requires c κs = search needs
+
 at-once-requires : tie.Need-at-once-requires Inv-loop μ-loop
-at-once-requires c κs = let v = c .before .loop in (below (c .before), v .inv .some-taken)
+at-once-requires c κs = let d = c .before .before .before in (below d, due d .mid .some-taken, due d .quiet)
 
 add-n : tie.Need-add-n Inv-loop μ-loop
-add-n c = omega (arith, count (c .before) .short, begun (entered (c .before)) .good)
+add-n c = omega (arith, count (c .before) .short, begun (entered (emptied (c .before))) .good)
 
 add-taken : tie.Need-add-taken Inv-loop μ-loop
-add-taken c = omega (arith, mid (c .before) .some-taken, begun (entered (c .before)) .good)
+add-taken c = omega (arith, mid (c .before) .some-taken, begun (entered (emptied (c .before))) .good)
 
-step-on-requires : tie.Need-step-on-requires Inv-loop μ-loop
-step-on-requires c κs = let k = c .before .before .before .before .before .before .before .before in (begun (entered k) .pre .0, due-limits _ _ _ _ _ _ _ _ _ _ _ (mid k .good))
+take-on-requires : tie.Need-take-on-requires Inv-loop μ-loop
+take-on-requires c κs = let k = c .before .before .before .before .before .before .before .before in (begun (entered (emptied k)) .pre .0, due (emptied k) .quiet)
 
 enum-told : tie.Need-enum-told Inv-loop μ-loop
 enum-told c = search needs
 
 add-taken-2 : tie.Need-add-taken-2 Inv-loop μ-loop
-add-taken-2 c = omega (arith, took (c .before .before .before) (ap didOf (c .enum-told .given .1)) .0, begun (entered (sped (c .before .before .before))) .good)
+add-taken-2 c = omega (arith, took (c .before .before .before) (ap didOf (c .enum-told .given .1)) .0, begun (entered (emptied (sped (c .before .before .before)))) .good)
 
 loop-less : tie.Need-loop-less Inv-loop μ-loop
-loop-less c = omega (arith, took (c .before .before .before) (ap didOf (c .enum-told .given .1)) .0)
+loop-less c = omega (arith, more (c .before .before .before), took (c .before .before .before) (ap didOf (c .enum-told .given .1)) .0)
 
 loop-again : tie.Need-loop-again Inv-loop μ-loop
 loop-again c = took (c .before .before .before) (ap didOf (c .enum-told .given .1)) .1
@@ -148,16 +178,16 @@ enum-known-step : tie.Need-enum-known-step Inv-loop μ-loop
 enum-known-step c = search needs
 
 mul-out : tie.Need-mul-out Inv-loop μ-loop
-mul-out c = omega (arith, wrote (c .before .before .before .before) _ (ap didOf (c .before .step .given .1)) .0, begun (entered (sped (c .before .before .before .before))) .good)
+mul-out c = omega (arith, wrote (c .before .before .before .before) _ (ap didOf (c .before .step .given .1)) .0, begun (entered (emptied (sped (c .before .before .before .before)))) .good)
 
 slice-write-out : tie.Need-slice-write-out Inv-loop μ-loop
-slice-write-out c = omega (arith, wrote (c .before .before .before .before) _ (ap didOf (c .before .step .given .1)) .0, entered (sped (c .before .before .before .before)) .loop .inv .same)
+slice-write-out c = omega (arith, wrote (c .before .before .before .before) _ (ap didOf (c .before .step .given .1)) .0, mid (sped (c .before .before .before .before)) .same)
 
 add-written : tie.Need-add-written Inv-loop μ-loop
-add-written c = omega (arith, wrote (c .before .before .before .before) _ (ap didOf (c .before .step .given .1)) .0, begun (entered (sped (c .before .before .before .before))) .good)
+add-written c = omega (arith, wrote (c .before .before .before .before) _ (ap didOf (c .before .step .given .1)) .0, begun (entered (emptied (sped (c .before .before .before .before)))) .good)
 
 loop-less-2 : tie.Need-loop-less-2 Inv-loop μ-loop
-loop-less-2 c = omega (arith, wrote (c .before .before .before .before) _ (ap didOf (c .before .step .given .1)) .0, mid (sped (c .before .before .before .before)) .some-taken)
+loop-less-2 c = omega (arith, more (c .before .before .before .before), wrote (c .before .before .before .before) _ (ap didOf (c .before .step .given .1)) .0, mid (sped (c .before .before .before .before)) .some-taken)
 
 loop-again-2 : tie.Need-loop-again-2 Inv-loop μ-loop
 loop-again-2 c = wrote (c .before .before .before .before) _ (ap didOf (c .before .step .given .1)) .1
@@ -166,19 +196,19 @@ enum-known-step-2 : tie.Need-enum-known-step-2 Inv-loop μ-loop
 enum-known-step-2 c = search needs
 
 mul-out-2 : tie.Need-mul-out-2 Inv-loop μ-loop
-mul-out-2 c = omega (arith, both (c .before .before .before .before) _ (ap didOf (c .before .step2 .given .1)) .1, begun (entered (sped (c .before .before .before .before))) .good)
+mul-out-2 c = omega (arith, both (c .before .before .before .before) _ (ap didOf (c .before .step2 .given .1)) .1, begun (entered (emptied (sped (c .before .before .before .before)))) .good)
 
 slice-write-out-2 : tie.Need-slice-write-out-2 Inv-loop μ-loop
-slice-write-out-2 c = omega (arith, both (c .before .before .before .before) _ (ap didOf (c .before .step2 .given .1)) .1, entered (sped (c .before .before .before .before)) .loop .inv .same)
+slice-write-out-2 c = omega (arith, both (c .before .before .before .before) _ (ap didOf (c .before .step2 .given .1)) .1, mid (sped (c .before .before .before .before)) .same)
 
 add-taken-3 : tie.Need-add-taken-3 Inv-loop μ-loop
-add-taken-3 c = omega (arith, both (c .before .before .before .before) _ (ap didOf (c .before .step2 .given .1)) .0, begun (entered (sped (c .before .before .before .before))) .good)
+add-taken-3 c = omega (arith, both (c .before .before .before .before) _ (ap didOf (c .before .step2 .given .1)) .0, begun (entered (emptied (sped (c .before .before .before .before)))) .good)
 
 add-written-2 : tie.Need-add-written-2 Inv-loop μ-loop
-add-written-2 c = omega (arith, both (c .before .before .before .before) _ (ap didOf (c .before .step2 .given .1)) .1, begun (entered (sped (c .before .before .before .before))) .good)
+add-written-2 c = omega (arith, both (c .before .before .before .before) _ (ap didOf (c .before .step2 .given .1)) .1, begun (entered (emptied (sped (c .before .before .before .before)))) .good)
 
 loop-less-3 : tie.Need-loop-less-3 Inv-loop μ-loop
-loop-less-3 c = omega (arith, both (c .before .before .before .before) _ (ap didOf (c .before .step2 .given .1)) .0, both (c .before .before .before .before) _ (ap didOf (c .before .step2 .given .1)) .1)
+loop-less-3 c = omega (arith, more (c .before .before .before .before), both (c .before .before .before .before) _ (ap didOf (c .before .step2 .given .1)) .0, both (c .before .before .before .before) _ (ap didOf (c .before .step2 .given .1)) .1)
 
 loop-again-3 : tie.Need-loop-again-3 Inv-loop μ-loop
 loop-again-3 c = both (c .before .before .before .before) _ (ap didOf (c .before .step2 .given .1)) .2
@@ -187,7 +217,7 @@ enum-told-2 : tie.Need-enum-told-2 Inv-loop μ-loop
 enum-told-2 c = search needs
 
 same-length : tie.Need-same-length Inv-loop μ-loop
-same-length c = entered (sped (c .before .before .before)) .loop .inv .same
+same-length c = mid (sped (c .before .before .before)) .same
 
 returns : tie.Need-returns Inv-loop μ-loop
 returns c = stopped (c .before .before .before) (ap didOf (c .enum-told2 .given .1))
@@ -199,10 +229,11 @@ feed-on-spec =
     Inv-loop
     μ-loop
     loop-holds
+    write-due-requires
     at-once-requires
     add-n
     add-taken
-    step-on-requires
+    take-on-requires
     enum-told
     add-taken-2
     loop-less

@@ -1,4 +1,4 @@
--- `push` meets its contract: the sample goes in first, then `emit` makes the feed of no samples, and the claims follow from the two equations
+-- `push` meets its contract: the sample goes in first, then `write_due` makes the feed of no samples, and the claims follow from the two equations
 -- (`push-kept`).
 use mathlib.Core.Path.{_≡_, sym, _∙_}
 use mathlib.Core.Bool.{true}
@@ -7,7 +7,7 @@ use borrow.Author.Tests.{not-true, not-false}
 use denote.Ref.{now}
 use Rattle.float.specs.PolyphaseResamp.{valid}
 use Rattle.float.proofs.PolyphaseRange.{valid-in-limits}
-use Rattle.float.proofs.PolyphaseCalls.{push-refused, push-ran}
+use Rattle.float.proofs.PolyphaseCalls.{emitted-ran, push-refused, push-ran}
 use Rattle.float.proofs.polyphase_resamp.PolyphaseResampF32.push.Statement.{statement}
 use Rattle.float.proofs.polyphase_resamp.PolyphaseResampF32.push.Tie as tie
 
@@ -28,8 +28,8 @@ is-so c = sym (c .before .is-valid .ensures) ∙ not-false (c .before .is-valid 
 shift-in-requires : tie.Need-shift-in-requires
 shift-in-requires c κs = search needs
 
-emit-requires : tie.Need-emit-requires
-emit-requires c κs = valid-in-limits _ (is-so (c .before .before .before .before .before .before .before))
+write-due-requires : tie.Need-write-due-requires
+write-due-requires c κs = search needs
 
 same-length : tie.Need-same-length
 same-length c = search needs
@@ -37,8 +37,9 @@ same-length c = search needs
 returns-2 : tie.Need-returns-2
 returns-2 c =
     let a = c .before .before .before .before .before .before .before .before .before .before .before .before .before .args in
-    push-ran (a .t1) (a .x) (now (a .out)) _ _ _ _ (is-so (c .before .before .before .before .before .before .before .before .before .before))
-    (c .before .before .before .before .before .before .before .shift-in .ensures) (c .before .before .emit .ensures)
+    let v = is-so (c .before .before .before .before .before .before .before .before .before .before) in
+    push-ran (a .t1) (a .x) (now (a .out)) _ _ _ _ v
+    (c .before .before .before .before .before .before .before .shift-in .ensures) (emitted-ran _ _ _ _ _ _ _ _ (valid-in-limits _ v) (c .before .before .write-due .ensures))
 
 pub push-spec : {M : Type 1} → statement M
 push-spec =
@@ -47,6 +48,6 @@ push-spec =
     is-valid-requires
     returns
     shift-in-requires
-    emit-requires
+    write-due-requires
     same-length
     returns-2)
