@@ -5,6 +5,8 @@ use crate::answers::count_number;
 use crate::answers::count_written;
 use crate::answers::opening_number;
 use float::PolyphaseResampF32;
+use float::polyphase_resamp::block_at;
+use float::polyphase_resamp::push_at;
 
 #[no_mangle]
 pub extern "C" fn gauge_polyphase_resamp_from_taps(
@@ -91,28 +93,10 @@ pub extern "C" fn gauge_polyphase_resamp_process_block(
     ensures answer { λ n. ⌜ record { number = n; value = record { written = now (written .exit); taken = now (taken .exit) }; state = R.together (now (phases .exit)) (now (taps .exit)) (now (mu .exit)) (now (step .exit)) (now (delay .exit)) (now (prototype .exit)) } ≡ R.blockOutcome (R.together (now (phases .entry)) (now (taps .entry)) (now (mu .entry)) (now (step .entry)) (now (delay .entry)) (now (prototype .entry))) (now (src .entry)) (now (dst .entry)) ⌝ }
     ensures span { λ n. ⌜ now (dst .exit) ≡ R.blockSpan (R.together (now (phases .entry)) (now (taps .entry)) (now (mu .entry)) (now (step .entry)) (now (delay .entry)) (now (prototype .entry))) (now (src .entry)) (now (dst .entry)) ⌝ }
 {
-    let lent_delay = *delay;
-    let lent_prototype = *prototype;
-    let state = PolyphaseResampF32 {
-        phases: *phases,
-        taps: *taps,
-        mu: *mu,
-        step: *step,
-        delay: lent_delay,
-        prototype: lent_prototype,
-    };
-    let done = state.process_block(src, dst);
-    let next = done.state;
-    let next_delay = next.delay;
-    let next_prototype = next.prototype;
-    *phases = next.phases;
-    *taps = next.taps;
-    *mu = next.mu;
-    *step = next.step;
-    *delay = next_delay;
-    *prototype = next_prototype;
-    *taken = done.taken;
-    let answer = done.answer;
+    let moved = block_at(*phases, *taps, *step, *mu, delay, prototype, src, dst);
+    *mu = moved.mu;
+    *taken = moved.taken;
+    let answer = moved.answer;
     *written = count_written(answer);
     count_number(answer)
 }
@@ -132,27 +116,9 @@ pub extern "C" fn gauge_polyphase_resamp_push(
     ensures answer { λ n. ⌜ record { number = n; value = now (written .exit); state = R.together (now (phases .exit)) (now (taps .exit)) (now (mu .exit)) (now (step .exit)) (now (delay .exit)) (now (prototype .exit)) } ≡ R.pushOutcome (R.together (now (phases .entry)) (now (taps .entry)) (now (mu .entry)) (now (step .entry)) (now (delay .entry)) (now (prototype .entry))) x (now (out .entry)) ⌝ }
     ensures span { λ n. ⌜ now (out .exit) ≡ R.pushSpan (R.together (now (phases .entry)) (now (taps .entry)) (now (mu .entry)) (now (step .entry)) (now (delay .entry)) (now (prototype .entry))) x (now (out .entry)) ⌝ }
 {
-    let lent_delay = *delay;
-    let lent_prototype = *prototype;
-    let state = PolyphaseResampF32 {
-        phases: *phases,
-        taps: *taps,
-        mu: *mu,
-        step: *step,
-        delay: lent_delay,
-        prototype: lent_prototype,
-    };
-    let done = state.push(x, out);
-    let next = done.state;
-    let next_delay = next.delay;
-    let next_prototype = next.prototype;
-    *phases = next.phases;
-    *taps = next.taps;
-    *mu = next.mu;
-    *step = next.step;
-    *delay = next_delay;
-    *prototype = next_prototype;
-    let answer = done.answer;
+    let pushed = push_at(*phases, *taps, *step, *mu, delay, prototype, x, out);
+    *mu = pushed.mu;
+    let answer = pushed.answer;
     *written = count_written(answer);
     count_number(answer)
 }

@@ -140,24 +140,20 @@ block-kept s xs before after r er ea =
       drained = λ v. rw (er, v) (feed-short resampler s xs (length before));
     }
 
--- the three clauses of `process_block`
-abbrev pub BlockClauses : PolyphaseResampF32 → List Float → List Float → List Float → Outcome Counts PolyphaseResampF32 → Type 0
-BlockClauses s xs before after r = (r ≡ blockOutcome s xs before) × ((after ≡ blockSpan s xs before) × BlockKept s xs before after r)
+-- the answer and the span of a block, refused or run
+abbrev pub BlockMade : PolyphaseResampF32 → List Float → List Float → List Float → Outcome Counts PolyphaseResampF32 → Type 0
+BlockMade s xs before after r = (r ≡ blockOutcome s xs before) × (after ≡ blockSpan s xs before)
 
-block-clauses : (s : PolyphaseResampF32) (xs before after : List Float) (r : Outcome Counts PolyphaseResampF32) → r ≡ blockOutcome s xs before → after ≡ blockSpan s xs before → BlockClauses s xs before after r
-block-clauses s xs before after r er ea = (er, (ea, block-kept s xs before after r er ea))
-
-pub block-refused : (s : PolyphaseResampF32) (xs before : List Float) → valid s ≡ false → BlockClauses s xs before before (record { number = 15; value = record { written = 0; taken = 0 }; state = s })
+pub block-refused : (s : PolyphaseResampF32) (xs before : List Float) → valid s ≡ false → BlockMade s xs before before (record { number = 15; value = record { written = 0; taken = 0 }; state = s })
 unfolding blockOutcome blockSpan
-block-refused s xs before v = block-clauses s xs before before _ (rw v) (rw v)
+block-refused s xs before v = (rw v, rw v)
 
 pub block-ran :
     (s : PolyphaseResampF32) (xs before : List Float) (r : Ran) (d after : List Float) → valid s ≡ true
     → RanTo (s .phases) (s .taps) (s .step) (s .mu) (s .prototype) (s .delay) xs before r d after
-    → BlockClauses s xs before after (record { number = 0; value = record { written = r .written; taken = r .taken }; state = together (s .phases) (s .taps) (r .mu) (s .step) d (s .prototype) })
+    → BlockMade s xs before after (record { number = 0; value = record { written = r .written; taken = r .taken }; state = together (s .phases) (s .taps) (r .mu) (s .step) d (s .prototype) })
 unfolding blockOutcome blockSpan block
-block-ran s xs before r d after v e =
-    block-clauses s xs before after _ (rw (v, e .written, e .taken, e .state)) (rw v (e .span))
+block-ran s xs before r d after v e = (rw (v, e .written, e .taken, e .state), rw v (e .span))
 
 pub push-kept :
     (s : PolyphaseResampF32) (x : Float) (before after : List Float) (r : Outcome ℕ PolyphaseResampF32) → r ≡ pushOutcome s x before → after ≡ pushSpan s x before
@@ -171,22 +167,19 @@ push-kept s x before after r er ea =
       drained = λ v. rw (er, v) (λ h. feed-short resampler (consumed s x) [] (length before) h .1);
     }
 
--- the three clauses of `push`
-abbrev pub PushClauses : PolyphaseResampF32 → Float → List Float → List Float → Outcome ℕ PolyphaseResampF32 → Type 0
-PushClauses s x before after r = (r ≡ pushOutcome s x before) × ((after ≡ pushSpan s x before) × PushKept s x before after r)
+-- the answer and the span of a push
+abbrev pub PushMade : PolyphaseResampF32 → Float → List Float → List Float → Outcome ℕ PolyphaseResampF32 → Type 0
+PushMade s x before after r = (r ≡ pushOutcome s x before) × (after ≡ pushSpan s x before)
 
-push-clauses : (s : PolyphaseResampF32) (x : Float) (before after : List Float) (r : Outcome ℕ PolyphaseResampF32) → r ≡ pushOutcome s x before → after ≡ pushSpan s x before → PushClauses s x before after r
-push-clauses s x before after r er ea = (er, (ea, push-kept s x before after r er ea))
-
-pub push-refused : (s : PolyphaseResampF32) (x : Float) (before : List Float) → valid s ≡ false → PushClauses s x before before (record { number = 15; value = 0; state = s })
+pub push-refused : (s : PolyphaseResampF32) (x : Float) (before : List Float) → valid s ≡ false → PushMade s x before before (record { number = 15; value = 0; state = s })
 unfolding pushOutcome pushSpan
-push-refused s x before v = push-clauses s x before before _ (rw v) (rw v)
+push-refused s x before v = (rw v, rw v)
 
 pub push-ran :
     (s : PolyphaseResampF32) (x : Float) (before : List Float) (r : Ran) (d₀ d after : List Float) → valid s ≡ true → d₀ ≡ shiftedIn (s .taps) x (s .delay)
     → RanTo (s .phases) (s .taps) (s .step) (sub binary32 (s .mu) one32) (s .prototype) d₀ [] before r d after
-    → PushClauses s x before after (record { number = 0; value = r .written; state = together (s .phases) (s .taps) (r .mu) (s .step) d (s .prototype) })
+    → PushMade s x before after (record { number = 0; value = r .written; state = together (s .phases) (s .taps) (r .mu) (s .step) d (s .prototype) })
 unfolding pushOutcome pushSpan push
 push-ran s x before r d₀ d after v k e =
     let c : together (s .phases) (s .taps) (sub binary32 (s .mu) one32) (s .step) d₀ (s .prototype) ≡ consumed s x = unfold consumed in rw k in
-    push-clauses s x before after _ (rw (v, e .written, e .state, c)) (rw v (e .span ∙ rw c))
+    (rw (v, e .written, e .state, c), rw v (e .span ∙ rw c))

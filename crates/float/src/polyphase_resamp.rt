@@ -69,6 +69,19 @@ pub struct PolyphasePush {
     pub state: PolyphaseResampF32,
 }
 
+// The same of a call with the arrays lent: what it answers, how many samples it took, and where the next output lies.
+pub struct PolyphaseMoved {
+    pub answer: Count,
+    pub taken: usize,
+    pub mu: f32,
+}
+
+// And of a pushed sample.
+pub struct PolyphasePushed {
+    pub answer: Count,
+    pub mu: f32,
+}
+
 // How far a run came.
 struct Ran {
     mu: f32,
@@ -343,6 +356,64 @@ pub fn write_due(
     Due { mu: next, written }
 }
 
+// A block, the numbers by value and the arrays lent. Refused by 15.
+pub fn block_at(
+    phases: usize,
+    taps: usize,
+    step: f32,
+    mu: f32,
+    delay: &mut [f32; MOST_TAPS],
+    prototype: &[f32; MOST_CELLS],
+    src: &[f32],
+    dst: &mut [f32],
+) -> PolyphaseMoved
+    ensures answer { λ r. ⌜ R.toldBlock (record { answer = r .answer; taken = r .taken; state = R.together phases taps (r .mu) step (now (delay .exit)) (now (prototype .entry)) }) ≡ R.blockOutcome (R.together phases taps mu step (now (delay .entry)) (now (prototype .entry))) (now (src .entry)) (now (dst .entry)) ⌝ }
+    ensures span { λ _. ⌜ now (dst .exit) ≡ R.blockSpan (R.together phases taps mu step (now (delay .entry)) (now (prototype .entry))) (now (src .entry)) (now (dst .entry)) ⌝ }
+{
+    if !is_valid(phases, taps, step, mu) {
+        return PolyphaseMoved {
+            answer: Count::Refused(Refusal::State),
+            taken: 0,
+            mu,
+        };
+    }
+    lent_whole(*delay);
+    let ran = run(prototype, delay, phases, taps, step, mu, src, dst);
+    PolyphaseMoved {
+        answer: Count::Written(ran.written),
+        taken: ran.taken,
+        mu: ran.mu,
+    }
+}
+
+// A pushed sample, the numbers by value and the arrays lent. Refused by 15.
+pub fn push_at(
+    phases: usize,
+    taps: usize,
+    step: f32,
+    mu: f32,
+    delay: &mut [f32; MOST_TAPS],
+    prototype: &[f32; MOST_CELLS],
+    x: f32,
+    out: &mut [f32],
+) -> PolyphasePushed
+    ensures answer { λ r. ⌜ R.toldPush (record { answer = r .answer; state = R.together phases taps (r .mu) step (now (delay .exit)) (now (prototype .entry)) }) ≡ R.pushOutcome (R.together phases taps mu step (now (delay .entry)) (now (prototype .entry))) x (now (out .entry)) ⌝ }
+    ensures span { λ _. ⌜ now (out .exit) ≡ R.pushSpan (R.together phases taps mu step (now (delay .entry)) (now (prototype .entry))) x (now (out .entry)) ⌝ }
+{
+    if !is_valid(phases, taps, step, mu) {
+        return PolyphasePushed {
+            answer: Count::Refused(Refusal::State),
+            mu,
+        };
+    }
+    shift_in(delay, taps, x);
+    let due = write_due(prototype, delay, phases, taps, step, mu - 1.0, out, 0);
+    PolyphasePushed {
+        answer: Count::Written(due.written),
+        mu: due.mu,
+    }
+}
+
 // The prototype in front, zeros behind; what is past the last place is not read.
 fn packed(prototype: &[f32]) -> [f32; MOST_CELLS]
     ensures { λ r. ⌜ r ≡ R.packed (now (prototype .entry)) ⌝ }
@@ -411,29 +482,23 @@ impl PolyphaseResampF32 {
         ensures span { λ r. ⌜ now (dst .exit) ≡ R.blockSpan self (now (src .entry)) (now (dst .entry)) ⌝ }
         ensures kept { λ r. ⌜ W.BlockKept self (now (src .entry)) (now (dst .entry)) (now (dst .exit)) (R.toldBlock r) ⌝ }
     {
-        if !is_valid(self.phases, self.taps, self.step, self.mu) {
-            return PolyphaseBlock {
-                answer: Count::Refused(Refusal::State),
-                taken: 0,
-                state: self,
-            };
-        }
         let mut delay = self.delay;
-        let ran = run(
-            &self.prototype,
-            &mut delay,
+        let moved = block_at(
             self.phases,
             self.taps,
             self.step,
             self.mu,
+            &mut delay,
+            &self.prototype,
             src,
             dst,
         );
-        self.mu = ran.mu;
+        self.mu = moved.mu;
         self.delay = delay;
+        let answer = moved.answer;
         PolyphaseBlock {
-            answer: Count::Written(ran.written),
-            taken: ran.taken,
+            answer,
+            taken: moved.taken,
             state: self,
         }
     }
@@ -444,28 +509,22 @@ impl PolyphaseResampF32 {
         ensures span { λ r. ⌜ now (out .exit) ≡ R.pushSpan self x (now (out .entry)) ⌝ }
         ensures kept { λ r. ⌜ W.PushKept self x (now (out .entry)) (now (out .exit)) (R.toldPush r) ⌝ }
     {
-        if !is_valid(self.phases, self.taps, self.step, self.mu) {
-            return PolyphasePush {
-                answer: Count::Refused(Refusal::State),
-                state: self,
-            };
-        }
         let mut delay = self.delay;
-        shift_in(&mut delay, self.taps, x);
-        let ran = write_due(
-            &self.prototype,
-            &delay,
+        let pushed = push_at(
             self.phases,
             self.taps,
             self.step,
-            self.mu - 1.0,
+            self.mu,
+            &mut delay,
+            &self.prototype,
+            x,
             out,
-            0,
         );
-        self.mu = ran.mu;
+        self.mu = pushed.mu;
         self.delay = delay;
+        let answer = pushed.answer;
         PolyphasePush {
-            answer: Count::Written(ran.written),
+            answer,
             state: self,
         }
     }
