@@ -1,4 +1,4 @@
--- `gauge_polyphase_resamp_process_block` meets its contract: it hands over what the layer's `process_block` answers, field by field.
+-- `gauge_polyphase_resamp_process_block` meets its contract: it hands over what the layer's `block_at` answers on the lent state.
 use mathlib.Core.Path.{_≡_}
 use borrow.Author.Needs.{needs}
 use Rattle.ffi.proofs.polyphase_resamp.gauge_polyphase_resamp_process_block.Statement.{
@@ -6,8 +6,8 @@ use Rattle.ffi.proofs.polyphase_resamp.gauge_polyphase_resamp_process_b
 }
 use Rattle.ffi.proofs.polyphase_resamp.gauge_polyphase_resamp_process_block.Tie as tie
 
-process-block-requires : tie.Need-process-block-requires
-process-block-requires c κs = search needs
+block-at-requires : tie.Need-block-at-requires
+block-at-requires c κs = search needs
 
 count-written-requires : tie.Need-count-written-requires
 count-written-requires c κs = search needs
@@ -19,13 +19,13 @@ same-length : tie.Need-same-length
 same-length c = search needs
 
 returns : tie.Need-returns
-returns c = rw (c .count-number .ensures, c .before .count-written .ensures) (c .before .before .before .before .before .before .before .process-block .ensures .0, c .before .before .before .before .before .before .before .process-block .ensures .1 .0)
+returns c = let e = c .before .before .before .before .block-at .ensures in rw (c .count-number .ensures, c .before .count-written .ensures) (e .0, e .1)
 
 pub gauge-polyphase-resamp-process-block-spec : {M : Type 1} → statement M
 gauge-polyphase-resamp-process-block-spec =
     tie.close
     (tie.spec
-    process-block-requires
+    block-at-requires
     count-written-requires
     count-number-requires
     same-length

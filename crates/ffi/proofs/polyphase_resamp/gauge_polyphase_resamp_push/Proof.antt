@@ -1,11 +1,11 @@
--- `gauge_polyphase_resamp_push` meets its contract: it hands over what the layer's `push` answers, field by field.
+-- `gauge_polyphase_resamp_push` meets its contract: it hands over what the layer's `push_at` answers on the lent state.
 use mathlib.Core.Path.{_≡_}
 use borrow.Author.Needs.{needs}
 use Rattle.ffi.proofs.polyphase_resamp.gauge_polyphase_resamp_push.Statement.{statement}
 use Rattle.ffi.proofs.polyphase_resamp.gauge_polyphase_resamp_push.Tie as tie
 
-push-requires : tie.Need-push-requires
-push-requires c κs = search needs
+push-at-requires : tie.Need-push-at-requires
+push-at-requires c κs = search needs
 
 count-written-requires : tie.Need-count-written-requires
 count-written-requires c κs = search needs
@@ -17,9 +17,9 @@ same-length : tie.Need-same-length
 same-length c = search needs
 
 returns : tie.Need-returns
-returns c = rw (c .count-number .ensures, c .before .count-written .ensures) (c .before .before .before .before .before .before .before .push .ensures .0, c .before .before .before .before .before .before .before .push .ensures .1 .0)
+returns c = let e = c .before .before .before .before .push-at .ensures in rw (c .count-number .ensures, c .before .count-written .ensures) (e .0, e .1)
 
 pub gauge-polyphase-resamp-push-spec : {M : Type 1} → statement M
 gauge-polyphase-resamp-push-spec =
     tie.close
-    (tie.spec push-requires count-written-requires count-number-requires same-length returns)
+    (tie.spec push-at-requires count-written-requires count-number-requires same-length returns)
