@@ -1,5 +1,5 @@
 -- `sample_at` meets its contract: 15, then 4, and else the combs take the sample and the integrators fill the span.
-use mathlib.Core.Path.{_≡_, refl, sym, ap, _∙_}
+use mathlib.Core.Path.{_≡_, sym, _∙_}
 use mathlib.Core.Bool.{true, false}
 use borrow.Author.Needs.{needs}
 use borrow.Author.Tests.{not-true, not-false, le-leb, lt-leb}
