@@ -1,14 +1,14 @@
 -- The outputs that are due, written one after the other: what a write keeps they keep, and after them the span is full or nothing is due.
-use mathlib.Core.Path.{_≡_, refl, sym, ap, _∙_, subst⁻¹}
-use mathlib.Core.Bool.{Bool, true, false, cond}
+use mathlib.Core.Path.{_≡_, refl}
+use mathlib.Core.Bool.{Bool, true, false}
 use mathlib.Core.List.{List}
-use Prim.Native.Nat.{ℕ, zero, suc, _+_, _-_, _≤_, _<_}
+use Prim.Native.Nat.{ℕ, zero, suc, _+_, _-_, _<_}
 use native.Mathlib.Omega.{arith}
 use lib.ListN.{length, set, length-set}
 use lib.Ieee.{Float, binary32, add, lt}
 use Rattle.float.specs.F32.{one32}
 use Rattle.float.specs.PolyphaseOutput.{output}
-use Rattle.float.specs.PolyphaseResamp.{Emitted, emitted}
+use Rattle.float.specs.PolyphaseResamp.{emitted}
 
 module _ (P T : ℕ) (step : Float) (d h : List Float) where
   abbrev made : Float → Float

@@ -1,7 +1,7 @@
 // 01, section 5: the polyphase resampler of f32 samples.
 ghost use mathlib.Core.Path.{_≡_};
 ghost use mathlib.Core.Bool.{true, false, cond};
-ghost use mathlib.Core.List.{[], _∷_};
+ghost use mathlib.Core.List.{_∷_};
 ghost use Prim.Native.Nat.{_+_, _≤_, _<_};
 ghost use lib.ListN.{length, take, drop};
 ghost use lib.Ieee.{binary32, ofBits, le, toUnsigned};

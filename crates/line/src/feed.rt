@@ -1,4 +1,5 @@
-// 01, section 6: "A feed steps until stopped". The arrays are lent, and the samples that complete no sum go through the integrators at once.
+// 01, section 6: "A feed steps until stopped". The arrays are lent, the outputs that are due are written in one loop, and the samples that complete no sum go through
+// the integrators at once.
 ghost use mathlib.Core.Path.{_≡_};
 ghost use mathlib.Core.Bool.{true, false};
 ghost use Prim.Native.Nat.{_-_, _<_, _≤_, min};
