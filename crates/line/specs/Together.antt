@@ -27,7 +27,8 @@ use Rattle.line.specs.declared.sample.Fixed.{Fixed}
 use Rattle.line.specs.declared.sample.Numbers.{Numbers}
 use Rattle.line.specs.declared.step.Did.{Did}
 use Rattle.line.specs.declared.step.Did.the-variants as did
-use Rattle.line.specs.declared.step.NumberStep.{NumberStep}
+use Rattle.line.specs.declared.step.Taken.{Taken}
+use Rattle.line.specs.declared.step.Taken.the-variants as taken
 
 -- m at the state p takes a: `out` is what it makes at once, and q its next state
 abbrev pub Takes : {S A C : Type 0} → Machine S A C → S → A → Option C → S → Type 0
@@ -62,9 +63,14 @@ didOf (did.Wrote y) = F.wrote y
 didOf (did.TookAndWrote y) = F.both y
 didOf did.Stopped = F.stopped
 
-abbrev pub steppedAt : Fixed → NumberStep → List ℤ → List ℤ → List ℤ → List ℤ → List Float → List Float → List ℕ → List Float → List Float → F.Stepped Line Float
-steppedAt f r integrators combs taps firDelay delays held counts delay prototype =
-    record { event = didOf (r .step); line = together f (r .numbers) integrators combs taps firDelay delays held counts delay prototype }
+abbrev pub takenOf : Taken → F.Event Float
+takenOf taken.Took = F.took
+takenOf (taken.TookAndWrote y) = F.both y
+takenOf taken.Stopped = F.stopped
+
+abbrev pub steppedAt : Fixed → F.Event Float → Numbers → List ℤ → List ℤ → List ℤ → List ℤ → List Float → List Float → List ℕ → List Float → List Float → F.Stepped Line Float
+steppedAt f event numbers integrators combs taps firDelay delays held counts delay prototype =
+    record { event = event; line = together f numbers integrators combs taps firDelay delays held counts delay prototype }
 
 -- "An output is due when the resampler is on and mu < 1."
 unfoldable pub dueAt : Fixed → Float → Bool

@@ -11,7 +11,7 @@ ghost use Rattle.line.specs.Line as L;
 ghost use Rattle.line.specs.Together as T;
 use crate::sample::Fixed;
 use crate::sample::Numbers;
-use crate::step::Did;
+use crate::step::Taken;
 use crate::step::take_on;
 use float::polyphase_resamp::write_due;
 use integer::stages::run;
@@ -109,19 +109,15 @@ pub(crate) fn feed_on(
         n = next;
         let step = on.step;
         match step {
-            Did::Took => {
+            Taken::Took => {
                 taken += 1;
             }
-            Did::Wrote(y) => {
-                out[written] = y;
-                written += 1;
-            }
-            Did::TookAndWrote(y) => {
+            Taken::TookAndWrote(y) => {
                 out[written] = y;
                 taken += 1;
                 written += 1;
             }
-            Did::Stopped => {
+            Taken::Stopped => {
                 return Ran {
                     numbers: n,
                     taken,

@@ -24,9 +24,21 @@ pub enum Did {
     Stopped,
 }
 
-// The same, and the numbers after it.
+// The same of a step at which no output was due.
+pub enum Taken {
+    Took,
+    TookAndWrote(f32),
+    Stopped,
+}
+
+// What a step did, and the numbers after it.
 pub struct NumberStep {
     pub step: Did,
+    pub numbers: Numbers,
+}
+
+pub struct NumberTaken {
+    pub step: Taken,
     pub numbers: Numbers,
 }
 
@@ -40,12 +52,22 @@ pub(crate) fn due(f: Fixed, mu: f32) -> bool
     mu < 1.0
 }
 
-fn taking(out: HbfOut) -> Did
-    ensures { λ e. ⌜ T.didOf e ≡ taking (valueOf out) ⌝ }
+fn taking(out: HbfOut) -> Taken
+    ensures { λ e. ⌜ T.takenOf e ≡ taking (valueOf out) ⌝ }
 {
     match out {
-        HbfOut::Nothing => Did::Took,
-        HbfOut::Value(y) => Did::TookAndWrote(y),
+        HbfOut::Nothing => Taken::Took,
+        HbfOut::Value(y) => Taken::TookAndWrote(y),
+    }
+}
+
+fn step_of(step: Taken) -> Did
+    ensures { λ e. ⌜ T.didOf e ≡ T.takenOf step ⌝ }
+{
+    match step {
+        Taken::Took => Did::Took,
+        Taken::TookAndWrote(y) => Did::TookAndWrote(y),
+        Taken::Stopped => Did::Stopped,
     }
 }
 
@@ -64,19 +86,19 @@ pub(crate) fn take_on(
     samples: &[i32],
     at: usize,
     place: bool,
-) -> NumberStep
+) -> NumberTaken
     requires { ⌜ (f .bits ≡ gainBits (f .stages) (f .r)) × (place ≡ true → T.dueAt f (s .mu) ≡ false) ⌝ }
-    ensures steps { λ r. ⌜ ((h : List Float) → T.steppedAt f r (now (integrators .exit)) (now (combs .exit)) (now (taps .entry)) (now («fir_delay» .exit)) (now (delays .exit)) (now (held .exit)) (now (counts .exit)) (now (delay .exit)) h ≡ step L.line place (T.together f s (now (integrators .entry)) (now (combs .entry)) (now (taps .entry)) (now («fir_delay» .entry)) (now (delays .entry)) (now (held .entry)) (now (counts .entry)) (now (delay .entry)) h) (headOf (drop at (now (samples .entry))))) ⌝ }
+    ensures steps { λ r. ⌜ ((h : List Float) → T.steppedAt f (T.takenOf (r .step)) (r .numbers) (now (integrators .exit)) (now (combs .exit)) (now (taps .entry)) (now («fir_delay» .exit)) (now (delays .exit)) (now (held .exit)) (now (counts .exit)) (now (delay .exit)) h ≡ step L.line place (T.together f s (now (integrators .entry)) (now (combs .entry)) (now (taps .entry)) (now («fir_delay» .entry)) (now (delays .entry)) (now (held .entry)) (now (counts .entry)) (now (delay .entry)) h) (headOf (drop at (now (samples .entry))))) ⌝ }
 {
     if !place {
-        return NumberStep {
-            step: Did::Stopped,
+        return NumberTaken {
+            step: Taken::Stopped,
             numbers: s,
         };
     }
     if samples.len() <= at {
-        return NumberStep {
-            step: Did::Stopped,
+        return NumberTaken {
+            step: Taken::Stopped,
             numbers: s,
         };
     }
@@ -96,7 +118,7 @@ pub(crate) fn take_on(
     );
     let out = on.out;
     let numbers = on.numbers;
-    NumberStep {
+    NumberTaken {
         step: taking(out),
         numbers,
     }
@@ -120,7 +142,7 @@ pub(crate) fn step_on(
     place: bool,
 ) -> NumberStep
     requires { ⌜ (f .bits ≡ gainBits (f .stages) (f .r)) × (T.dueAt f (s .mu) ≡ true → inLimits (f .phases) (f .taps) ≡ true) ⌝ }
-    ensures steps { λ r. ⌜ T.steppedAt f r (now (integrators .exit)) (now (combs .exit)) (now (taps .entry)) (now («fir_delay» .exit)) (now (delays .exit)) (now (held .exit)) (now (counts .exit)) (now (delay .exit)) (now (prototype .entry)) ≡ step L.line place (T.together f s (now (integrators .entry)) (now (combs .entry)) (now (taps .entry)) (now («fir_delay» .entry)) (now (delays .entry)) (now (held .entry)) (now (counts .entry)) (now (delay .entry)) (now (prototype .entry))) (headOf (drop at (now (samples .entry)))) ⌝ }
+    ensures steps { λ r. ⌜ T.steppedAt f (T.didOf (r .step)) (r .numbers) (now (integrators .exit)) (now (combs .exit)) (now (taps .entry)) (now («fir_delay» .exit)) (now (delays .exit)) (now (held .exit)) (now (counts .exit)) (now (delay .exit)) (now (prototype .entry)) ≡ step L.line place (T.together f s (now (integrators .entry)) (now (combs .entry)) (now (taps .entry)) (now («fir_delay» .entry)) (now (delays .entry)) (now (held .entry)) (now (counts .entry)) (now (delay .entry)) (now (prototype .entry))) (headOf (drop at (now (samples .entry)))) ⌝ }
 {
     if !place {
         return NumberStep {
@@ -139,7 +161,7 @@ pub(crate) fn step_on(
             },
         };
     }
-    take_on(
+    let on = take_on(
         f,
         s,
         integrators,
@@ -153,5 +175,11 @@ pub(crate) fn step_on(
         samples,
         at,
         place,
-    )
+    );
+    let numbers = on.numbers;
+    let step = on.step;
+    NumberStep {
+        step: step_of(step),
+        numbers,
+    }
 }

@@ -11,10 +11,10 @@ use lib.ListN.{length, drop, set}
 use lib.Ieee.{Float}
 use Rattle.theory.specs.Feeds.{Stepped}
 use Rattle.theory.specs.Feeds as F
-use Rattle.theory.proofs.FeedLoop.{Midway, start, after-took, after-wrote, after-both, after-stopped}
+use Rattle.theory.proofs.FeedLoop.{Midway, start, after-took, after-both, after-stopped}
 use Rattle.float.specs.PolyphaseResamp.{toldDue}
 use Rattle.line.specs.Line.{line, valid, fedLine}
-use Rattle.line.specs.Together.{together, didOf, steppedAt, counted, RanTo}
+use Rattle.line.specs.Together.{together, takenOf, steppedAt, counted, RanTo}
 use Rattle.line.specs.declared.gauge_line.Line.{Line}
 use Rattle.line.specs.declared.sample.Numbers.{Numbers}
 use Rattle.line.proofs.Lawful.{Good, line-lawful}
@@ -101,7 +101,7 @@ abbrev stepped : (c : tie.After-take-on Inv-loop μ-loop) → Stepped Line Float
 stepped c =
     let a = begun (entered (emptied (sped c))) .args in
     let t = c .take-on .last in
-    steppedAt (a .f) (c .take-on .result) (t .1 .1 .0) (t .1 .1 .1 .0) (now (a .taps)) (t .1 .1 .1 .1 .1 .0) (t .1 .1 .1 .1 .1 .1 .0) (t .1 .1 .1 .1 .1 .1 .1 .0) (t .1 .1 .1 .1 .1 .1 .1 .1 .0) (t .1 .1 .1 .1 .1 .1 .1 .1 .1 .0) (now (a .prototype))
+    steppedAt (a .f) (takenOf (c .take-on .result .step)) (c .take-on .result .numbers) (t .1 .1 .0) (t .1 .1 .1 .0) (now (a .taps)) (t .1 .1 .1 .1 .1 .0) (t .1 .1 .1 .1 .1 .1 .0) (t .1 .1 .1 .1 .1 .1 .1 .0) (t .1 .1 .1 .1 .1 .1 .1 .1 .0) (t .1 .1 .1 .1 .1 .1 .1 .1 .1 .0) (now (a .prototype))
 
 module _ (k : tie.After-take-on Inv-loop μ-loop) where
   abbrev arg : tie.Start Inv-loop μ-loop
@@ -125,9 +125,6 @@ module _ (k : tie.After-take-on Inv-loop μ-loop) where
 
   took : stepped k .event ≡ F.took → (at < length (now (arg .args .samples))) × Mid span (at + 1) was
   took e = after-took line 64 Good line-lawful (lent arg) (now (arg .args .samples)) (now (arg .args .out)) span (sped-line (sped k)) at was (mid (sped k)) (stepped k) (k .take-on .ensures (now (arg .args .prototype))) e
-
-  wrote : (y : Float) → stepped k .event ≡ F.wrote y → (was < length (now (arg .args .out))) × Mid (set span was y) at (was + 1)
-  wrote y e = after-wrote line 64 Good line-lawful (lent arg) (now (arg .args .samples)) (now (arg .args .out)) span (sped-line (sped k)) at was (mid (sped k)) (stepped k) (k .take-on .ensures (now (arg .args .prototype))) y e
 
   both : (y : Float) → stepped k .event ≡ F.both y → (at < length (now (arg .args .samples))) × (was < length (now (arg .args .out))) × Mid (set span was y) (at + 1) (was + 1)
   both y e = after-both line 64 Good line-lawful (lent arg) (now (arg .args .samples)) (now (arg .args .out)) span (sped-line (sped k)) at was (mid (sped k)) (stepped k) (k .take-on .ensures (now (arg .args .prototype))) y e
@@ -166,52 +163,34 @@ enum-told : tie.Need-enum-told Inv-loop μ-loop
 enum-told c = search needs
 
 add-taken-2 : tie.Need-add-taken-2 Inv-loop μ-loop
-add-taken-2 c = omega (arith, took (c .before .before .before) (ap didOf (c .enum-told .given .1)) .0, begun (entered (emptied (sped (c .before .before .before)))) .good)
+add-taken-2 c = omega (arith, took (c .before .before .before) (ap takenOf (c .enum-told .given .1)) .0, begun (entered (emptied (sped (c .before .before .before)))) .good)
 
 loop-less : tie.Need-loop-less Inv-loop μ-loop
-loop-less c = omega (arith, more (c .before .before .before), took (c .before .before .before) (ap didOf (c .enum-told .given .1)) .0)
+loop-less c = omega (arith, more (c .before .before .before), took (c .before .before .before) (ap takenOf (c .enum-told .given .1)) .0)
 
 loop-again : tie.Need-loop-again Inv-loop μ-loop
-loop-again c = took (c .before .before .before) (ap didOf (c .enum-told .given .1)) .1
+loop-again c = took (c .before .before .before) (ap takenOf (c .enum-told .given .1)) .1
 
 enum-known-step : tie.Need-enum-known-step Inv-loop μ-loop
 enum-known-step c = search needs
 
 mul-out : tie.Need-mul-out Inv-loop μ-loop
-mul-out c = omega (arith, wrote (c .before .before .before .before) _ (ap didOf (c .before .step .given .1)) .0, begun (entered (emptied (sped (c .before .before .before .before)))) .good)
+mul-out c = omega (arith, both (c .before .before .before .before) _ (ap takenOf (c .before .step .given .1)) .1, begun (entered (emptied (sped (c .before .before .before .before)))) .good)
 
 slice-write-out : tie.Need-slice-write-out Inv-loop μ-loop
-slice-write-out c = omega (arith, wrote (c .before .before .before .before) _ (ap didOf (c .before .step .given .1)) .0, mid (sped (c .before .before .before .before)) .same)
-
-add-written : tie.Need-add-written Inv-loop μ-loop
-add-written c = omega (arith, wrote (c .before .before .before .before) _ (ap didOf (c .before .step .given .1)) .0, begun (entered (emptied (sped (c .before .before .before .before)))) .good)
-
-loop-less-2 : tie.Need-loop-less-2 Inv-loop μ-loop
-loop-less-2 c = omega (arith, more (c .before .before .before .before), wrote (c .before .before .before .before) _ (ap didOf (c .before .step .given .1)) .0, mid (sped (c .before .before .before .before)) .some-taken)
-
-loop-again-2 : tie.Need-loop-again-2 Inv-loop μ-loop
-loop-again-2 c = wrote (c .before .before .before .before) _ (ap didOf (c .before .step .given .1)) .1
-
-enum-known-step-2 : tie.Need-enum-known-step-2 Inv-loop μ-loop
-enum-known-step-2 c = search needs
-
-mul-out-2 : tie.Need-mul-out-2 Inv-loop μ-loop
-mul-out-2 c = omega (arith, both (c .before .before .before .before) _ (ap didOf (c .before .step2 .given .1)) .1, begun (entered (emptied (sped (c .before .before .before .before)))) .good)
-
-slice-write-out-2 : tie.Need-slice-write-out-2 Inv-loop μ-loop
-slice-write-out-2 c = omega (arith, both (c .before .before .before .before) _ (ap didOf (c .before .step2 .given .1)) .1, mid (sped (c .before .before .before .before)) .same)
+slice-write-out c = omega (arith, both (c .before .before .before .before) _ (ap takenOf (c .before .step .given .1)) .1, mid (sped (c .before .before .before .before)) .same)
 
 add-taken-3 : tie.Need-add-taken-3 Inv-loop μ-loop
-add-taken-3 c = omega (arith, both (c .before .before .before .before) _ (ap didOf (c .before .step2 .given .1)) .0, begun (entered (emptied (sped (c .before .before .before .before)))) .good)
+add-taken-3 c = omega (arith, both (c .before .before .before .before) _ (ap takenOf (c .before .step .given .1)) .0, begun (entered (emptied (sped (c .before .before .before .before)))) .good)
 
-add-written-2 : tie.Need-add-written-2 Inv-loop μ-loop
-add-written-2 c = omega (arith, both (c .before .before .before .before) _ (ap didOf (c .before .step2 .given .1)) .1, begun (entered (emptied (sped (c .before .before .before .before)))) .good)
+add-written : tie.Need-add-written Inv-loop μ-loop
+add-written c = omega (arith, both (c .before .before .before .before) _ (ap takenOf (c .before .step .given .1)) .1, begun (entered (emptied (sped (c .before .before .before .before)))) .good)
 
-loop-less-3 : tie.Need-loop-less-3 Inv-loop μ-loop
-loop-less-3 c = omega (arith, more (c .before .before .before .before), both (c .before .before .before .before) _ (ap didOf (c .before .step2 .given .1)) .0, both (c .before .before .before .before) _ (ap didOf (c .before .step2 .given .1)) .1)
+loop-less-2 : tie.Need-loop-less-2 Inv-loop μ-loop
+loop-less-2 c = omega (arith, more (c .before .before .before .before), both (c .before .before .before .before) _ (ap takenOf (c .before .step .given .1)) .0, both (c .before .before .before .before) _ (ap takenOf (c .before .step .given .1)) .1)
 
-loop-again-3 : tie.Need-loop-again-3 Inv-loop μ-loop
-loop-again-3 c = both (c .before .before .before .before) _ (ap didOf (c .before .step2 .given .1)) .2
+loop-again-2 : tie.Need-loop-again-2 Inv-loop μ-loop
+loop-again-2 c = both (c .before .before .before .before) _ (ap takenOf (c .before .step .given .1)) .2
 
 enum-told-2 : tie.Need-enum-told-2 Inv-loop μ-loop
 enum-told-2 c = search needs
@@ -220,7 +199,7 @@ same-length : tie.Need-same-length Inv-loop μ-loop
 same-length c = mid (sped (c .before .before .before)) .same
 
 returns : tie.Need-returns Inv-loop μ-loop
-returns c = stopped (c .before .before .before) (ap didOf (c .enum-told2 .given .1))
+returns c = stopped (c .before .before .before) (ap takenOf (c .enum-told2 .given .1))
 
 pub feed-on-spec : {M : Type 1} → statement M
 feed-on-spec =
@@ -241,16 +220,10 @@ feed-on-spec =
     enum-known-step
     mul-out
     slice-write-out
+    add-taken-3
     add-written
     loop-less-2
     loop-again-2
-    enum-known-step-2
-    mul-out-2
-    slice-write-out-2
-    add-taken-3
-    add-written-2
-    loop-less-3
-    loop-again-3
     enum-told-2
     same-length
     returns)

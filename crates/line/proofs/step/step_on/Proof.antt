@@ -42,8 +42,11 @@ returns-2 c =
 take-on-requires : tie.Need-take-on-requires
 take-on-requires c κs = (c .before .before .before .before .before .before .before .before .before .before .pre .0, λ here. sym (c .before .before .before .before .before .before .before .before .due .ensures) ∙ c .before .before .before .before .before .before .before .if2 .left)
 
+step-of-requires : tie.Need-step-of-requires
+step-of-requires c κs = search needs
+
 returns-3 : tie.Need-returns-3
-returns-3 c = let s = c .before .before .before .before .before .before .before .before .before .before .before in c .take-on .ensures (now (s .args .prototype))
+returns-3 c = let s = c .before .before .before .before .before .before .before .before .before .before .before .before .before in rw (c .step-of .ensures) (c .before .before .take-on .ensures (now (s .args .prototype)))
 
 pub step-on-spec : {M : Type 1} → statement M
-step-on-spec = tie.close (tie.spec returns due-requires interpolate-requires returns-2 take-on-requires returns-3)
+step-on-spec = tie.close (tie.spec returns due-requires interpolate-requires returns-2 take-on-requires step-of-requires returns-3)
