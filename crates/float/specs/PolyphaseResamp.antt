@@ -248,5 +248,6 @@ emitted P T step d h (suc n) mu w o =
 unfoldable pub emittedFrom : ℕ → ℕ → Float → List Float → List Float → Float → ℕ → List Float → Emitted
 emittedFrom P T step d h mu w o = cond (inLimits P T) (emitted P T step d h (length o - w) mu w o) (record { mu = mu; written = w; span = o })
 
+-- what `write_due` answered, and the span it left
 abbrev pub toldDue : Due → List Float → Emitted
 toldDue r o = record { mu = r .mu; written = r .written; span = o }

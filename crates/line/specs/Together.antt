@@ -57,6 +57,7 @@ together f s integrators combs taps firDelay delays held counts delay prototype 
       resampler = resamplerOf f (s .mu) delay prototype;
     }
 
+-- what the code says a step did, as an event of the machine
 abbrev pub didOf : Did → F.Event Float
 didOf did.Took = F.took
 didOf (did.Wrote y) = F.wrote y
@@ -68,6 +69,7 @@ takenOf taken.Took = F.took
 takenOf (taken.TookAndWrote y) = F.both y
 takenOf taken.Stopped = F.stopped
 
+-- a step: its event, and the line put together after it
 abbrev pub steppedAt : Fixed → F.Event Float → Numbers → List ℤ → List ℤ → List ℤ → List ℤ → List Float → List Float → List ℕ → List Float → List Float → F.Stepped Line Float
 steppedAt f event numbers integrators combs taps firDelay delays held counts delay prototype =
     record { event = event; line = together f numbers integrators combs taps firDelay delays held counts delay prototype }

@@ -1,3 +1,4 @@
+-- `half_band::half_band::folded_sum` meets its contract: after t turns the sum is that of the first t taps, and every place read is inside (`Folding`).
 use mathlib.Core.Path.{_≡_, refl, ap, _∙_}
 use Prim.Native.Nat.{ℕ, _-_, _≤_}
 use native.Mathlib.Nat.{le-antisymm}
