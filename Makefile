@@ -13,9 +13,9 @@ SEED = 20261116
 BENCH =
 MACHINES =
 
-archive = target/staticlib/libffi.a
+archive = target/staticlib/libgauge_line.a
 # The archive's crates, as crates.txt has them.
-proved := ffi $(shell sed -n 's/^ffi: //p' crates.txt)
+proved := gauge_line $(shell sed -n 's/^gauge_line: //p' crates.txt)
 # Folders too: a file that is gone has no date of its own.
 sources := $(shell find $(proved:%=crates/%) -not -path '*/must-fail*')
 

@@ -4,7 +4,7 @@ set -euo pipefail
 cd "$(dirname "$0")/.."
 
 if [[ -z ${GAUGE_ARCHIVE:-} ]]; then
-    GAUGE_ARCHIVE=target/staticlib/libffi.a
+    GAUGE_ARCHIVE=target/staticlib/libgauge_line.a
     # The caller may be a recipe itself; its flags are not meant for this rule.
     MAKEFLAGS='' make --silent "$GAUGE_ARCHIVE" >&2
 fi

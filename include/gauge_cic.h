@@ -27,13 +27,13 @@ typedef struct {
 // Opens a decimator of 1 to GAUGE_MOST_STAGES stages by a factor r of 1 to GAUGE_MOST_FACTOR.
 // Refusals: 1, 2; the state is then all zeros.
 static inline uint64_t GaugeCicDecimator_new(GaugeCicDecimator *state, uint64_t stages, uint64_t r) {
-    return gauge_cic_decimator_new(stages, r, GAUGE_CIC_DECIMATOR_FIELDS(state));
+    return gauge_raw_cic_decimator_new(stages, r, GAUGE_CIC_DECIMATOR_FIELDS(state));
 }
 
 // r^stages, held at 2^64 - 1.
 // Refusals: 15.
 static inline uint64_t GaugeCicDecimator_gain(const GaugeCicDecimator *state, uint64_t *gain) {
-    return gauge_cic_decimator_gain(
+    return gauge_raw_cic_decimator_gain(
         state->stages, state->r, state->integrators, state->combs, state->sample_counter, gain
     );
 }
@@ -41,7 +41,7 @@ static inline uint64_t GaugeCicDecimator_gain(const GaugeCicDecimator *state, ui
 // The least g with 2^g not below the gain.
 // Refusals: 15.
 static inline uint64_t GaugeCicDecimator_gain_bits(const GaugeCicDecimator *state, uint32_t *bits) {
-    return gauge_cic_decimator_gain_bits(
+    return gauge_raw_cic_decimator_gain_bits(
         state->stages, state->r, state->integrators, state->combs, state->sample_counter, bits
     );
 }
@@ -51,14 +51,14 @@ static inline uint64_t GaugeCicDecimator_gain_bits(const GaugeCicDecimator *stat
 // Refusals: 15.
 static inline uint64_t
 GaugeCicDecimator_process_sample(GaugeCicDecimator *state, int32_t input, uint64_t *made, int32_t *sum) {
-    return gauge_cic_decimator_process_sample(GAUGE_CIC_DECIMATOR_FIELDS(state), input, made, sum);
+    return gauge_raw_cic_decimator_process_sample(GAUGE_CIC_DECIMATOR_FIELDS(state), input, made, sum);
 }
 
 // The same, the sum divided by 2 to the gain bits and rounded down.
 // Refusals: 15, then 3 where the gain bits are over GAUGE_MOST_GAIN_BITS.
 static inline uint64_t
 GaugeCicDecimator_process_sample_scaled(GaugeCicDecimator *state, int32_t input, uint64_t *made, int32_t *sum) {
-    return gauge_cic_decimator_process_sample_scaled(GAUGE_CIC_DECIMATOR_FIELDS(state), input, made, sum);
+    return gauge_raw_cic_decimator_process_sample_scaled(GAUGE_CIC_DECIMATOR_FIELDS(state), input, made, sum);
 }
 
 // Takes samples from the front of `src` while `dst` has a place, and writes their sums to the front of dst. Continue
@@ -68,7 +68,7 @@ static inline uint64_t GaugeCicDecimator_process_block(
     GaugeCicDecimator *state, const int32_t *src, uint64_t src_len, int32_t *dst, uint64_t dst_len, uint64_t *taken,
     uint64_t *written
 ) {
-    return gauge_cic_decimator_process_block(
+    return gauge_raw_cic_decimator_process_block(
         GAUGE_CIC_DECIMATOR_FIELDS(state), src, src_len, dst, dst_len, taken, written
     );
 }
@@ -87,19 +87,19 @@ typedef struct {
 // Opens an interpolator of 1 to GAUGE_MOST_STAGES stages by a factor r of 1 to GAUGE_MOST_FACTOR.
 // Refusals: 1, 2; the state is then all zeros.
 static inline uint64_t GaugeCicInterpolator_new(GaugeCicInterpolator *state, uint64_t stages, uint64_t r) {
-    return gauge_cic_interpolator_new(stages, r, GAUGE_CIC_INTERPOLATOR_FIELDS(state));
+    return gauge_raw_cic_interpolator_new(stages, r, GAUGE_CIC_INTERPOLATOR_FIELDS(state));
 }
 
 // r^(stages - 1), held at 2^64 - 1.
 // Refusals: 15.
 static inline uint64_t GaugeCicInterpolator_gain(const GaugeCicInterpolator *state, uint64_t *gain) {
-    return gauge_cic_interpolator_gain(state->stages, state->r, state->combs, state->integrators, gain);
+    return gauge_raw_cic_interpolator_gain(state->stages, state->r, state->combs, state->integrators, gain);
 }
 
 // The least g with 2^g not below the gain.
 // Refusals: 15.
 static inline uint64_t GaugeCicInterpolator_gain_bits(const GaugeCicInterpolator *state, uint32_t *bits) {
-    return gauge_cic_interpolator_gain_bits(state->stages, state->r, state->combs, state->integrators, bits);
+    return gauge_raw_cic_interpolator_gain_bits(state->stages, state->r, state->combs, state->integrators, bits);
 }
 
 // Takes one sample and writes r outputs to the front of `out_buf`: the moving sums of length r, taken `stages` times
@@ -108,7 +108,7 @@ static inline uint64_t GaugeCicInterpolator_gain_bits(const GaugeCicInterpolator
 static inline uint64_t GaugeCicInterpolator_process_sample(
     GaugeCicInterpolator *state, int32_t input, int32_t *out_buf, uint64_t out_buf_len, uint64_t *written
 ) {
-    return gauge_cic_interpolator_process_sample(
+    return gauge_raw_cic_interpolator_process_sample(
         GAUGE_CIC_INTERPOLATOR_FIELDS(state), input, out_buf, out_buf_len, written
     );
 }

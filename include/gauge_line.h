@@ -1,12 +1,12 @@
 // The gauge line: cell samples in, float levels out, through a CIC decimator, a 16-bit FIR, a cascade of half-band
-// stages and a polyphase resampler. The archive is proved, in crates/ffi/src, to do what the comments below say; the
+// stages and a polyphase resampler. The archive is proved, in crates/gauge_line/src, to do what the comments below say; the
 // inline functions only lend it the members of a struct.
 //
 // The caller owns the line and every buffer; nothing is allocated and there is no global state, so two threads may use
 // two lines at once. What no proof covers is the caller: a pointer must point to as many elements as its length says,
 // and what a call writes must not overlap what else is lent to it. A pointer whose length is 0 is not used.
 //
-// Link with libffi.a.
+// Link with libgauge_line.a.
 #ifndef GAUGE_LINE_H
 #define GAUGE_LINE_H
 
@@ -88,7 +88,7 @@ static inline uint64_t GaugeLine_open(
     GaugeLine *line, const GaugeSettings *settings, const int16_t *taps, uint64_t taps_len, const float *prototype,
     uint64_t prototype_len
 ) {
-    return gauge_line_open(
+    return gauge_raw_line_open(
         settings->stages, settings->r, settings->factor, settings->depth, settings->phases, settings->phase_taps,
         settings->step, taps, taps_len, prototype, prototype_len, GAUGE_LINE_FIELDS(line)
     );
@@ -105,7 +105,7 @@ static inline uint64_t GaugeLine_feed(
     GaugeLine *line, const int32_t *samples, uint64_t samples_len, float *out, uint64_t out_len, uint64_t *taken,
     uint64_t *written
 ) {
-    return gauge_line_feed(GAUGE_LINE_FIELDS(line), samples, samples_len, out, out_len, taken, written);
+    return gauge_raw_line_feed(GAUGE_LINE_FIELDS(line), samples, samples_len, out, out_len, taken, written);
 }
 
 // One step of a feed. With `places` 0 it stops. Else a level that is due is written; else the sample at `at` is taken
@@ -116,13 +116,13 @@ static inline uint64_t GaugeLine_step(
     GaugeLine *line, const int32_t *samples, uint64_t samples_len, uint64_t at, uint64_t places, uint64_t *taken,
     uint64_t *written, float *value
 ) {
-    return gauge_line_step(GAUGE_LINE_FIELDS(line), samples, samples_len, at, places, taken, written, value);
+    return gauge_raw_line_step(GAUGE_LINE_FIELDS(line), samples, samples_len, at, places, taken, written, value);
 }
 
 // Makes the line what its opening made it.
 // Refusals: 15; the line then stays as it was.
 static inline uint64_t GaugeLine_reset(GaugeLine *line) {
-    return gauge_line_reset(GAUGE_LINE_FIELDS(line));
+    return gauge_raw_line_reset(GAUGE_LINE_FIELDS(line));
 }
 
 #undef GAUGE_LINE_FIELDS

@@ -15,15 +15,15 @@ extern "C" {
 #endif
 
 // The sum held at -32768 and 32767.
-void gauge_cut_q15(int64_t sum, int16_t *value);
+void gauge_raw_cut_q15(int64_t sum, int16_t *value);
 
 // The bits divided by 32768, exactly.
-void gauge_q15_to_f32(int16_t bits, float *value);
+void gauge_raw_q15_to_f32(int16_t bits, float *value);
 
 // A decimating FIR over one block: output i is the cut of the sum over t of src[i * factor + t] * coeffs[t] / 32768,
 // each product rounded down by itself. As many outputs as whole windows in src and places in dst.
 // Refusals: 5, 6, 7.
-uint64_t gauge_polyphase_decimate_q15(
+uint64_t gauge_raw_polyphase_decimate_q15(
     const int16_t *src, uint64_t src_len, const int16_t *coeffs, uint64_t coeffs_len, uint64_t decimation_factor,
     int16_t *dst, uint64_t dst_len, uint64_t *written
 );
@@ -32,14 +32,14 @@ uint64_t gauge_polyphase_decimate_q15(
 // the sum over t < K of src[i + t] * coeffs[t * L + p] / 32768, each product rounded down by itself. As many outputs as
 // (src_len - K + 1) * L and places in dst.
 // Refusals: 5, 6, 7, 8.
-uint64_t gauge_polyphase_interpolate_q15(
+uint64_t gauge_raw_polyphase_interpolate_q15(
     const int16_t *src, uint64_t src_len, const int16_t *coeffs, uint64_t coeffs_len, uint64_t interpolation_factor,
     int16_t *dst, uint64_t dst_len, uint64_t *written
 );
 
 // Fills dst: output i is between the two samples at i * ratio_q16 / 65536, rounded down; past the end the last sample.
 // Refusals: 7, 9.
-uint64_t gauge_resample_linear_q15(
+uint64_t gauge_raw_resample_linear_q15(
     const int16_t *src, uint64_t src_len, int16_t *dst, uint64_t dst_len, int32_t ratio_q16, uint64_t *written
 );
 
@@ -60,21 +60,21 @@ typedef struct {
 // Refusals: 5, 6; the state is then all zeros.
 static inline uint64_t
 GaugeFirDecimator_new(GaugeFirDecimator *state, const int16_t *taps, uint64_t taps_len, uint64_t factor) {
-    return gauge_fir_decimator_new(taps, taps_len, factor, GAUGE_FIR_DECIMATOR_FIELDS(state));
+    return gauge_raw_fir_decimator_new(taps, taps_len, factor, GAUGE_FIR_DECIMATOR_FIELDS(state));
 }
 
 // Makes the state what its opening made it.
 // Refusals: 15.
 static inline uint64_t GaugeFirDecimator_reset(GaugeFirDecimator *state) {
-    return gauge_fir_decimator_reset(GAUGE_FIR_DECIMATOR_FIELDS(state));
+    return gauge_raw_fir_decimator_reset(GAUGE_FIR_DECIMATOR_FIELDS(state));
 }
 
 // Takes one sample. The sample that fills the first window makes an output, and every factor-th after it: `made` is 1
-// and `value` is what gauge_polyphase_decimate_q15 gives for the whole list. Else both are 0.
+// and `value` is what gauge_raw_polyphase_decimate_q15 gives for the whole list. Else both are 0.
 // Refusals: 15, where the settings are refused or `wait` is 0 or above both tap_count and factor.
 static inline uint64_t
 GaugeFirDecimator_process_sample(GaugeFirDecimator *state, int16_t sample, uint64_t *made, int16_t *value) {
-    return gauge_fir_decimator_process_sample(GAUGE_FIR_DECIMATOR_FIELDS(state), sample, made, value);
+    return gauge_raw_fir_decimator_process_sample(GAUGE_FIR_DECIMATOR_FIELDS(state), sample, made, value);
 }
 
 #undef GAUGE_FIR_DECIMATOR_FIELDS

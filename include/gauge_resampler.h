@@ -13,7 +13,7 @@ extern "C" {
 
 // Fills dst: output i is at i * ratio, rounded to a float, between the two samples there; past the end the last sample.
 // Refusals: 7, 9.
-uint64_t gauge_resample_linear_f32(
+uint64_t gauge_raw_resample_linear_f32(
     const float *src, uint64_t src_len, float *dst, uint64_t dst_len, float ratio, uint64_t *written
 );
 
@@ -37,7 +37,7 @@ static inline uint64_t GaugePolyphaseResamp_from_taps(
     GaugePolyphaseResamp *state, uint64_t phases, uint64_t taps, const float *prototype, uint64_t prototype_len,
     float step
 ) {
-    return gauge_polyphase_resamp_from_taps(
+    return gauge_raw_polyphase_resamp_from_taps(
         phases, taps, prototype, prototype_len, step, GAUGE_POLYPHASE_RESAMP_FIELDS(state)
     );
 }
@@ -45,7 +45,7 @@ static inline uint64_t GaugePolyphaseResamp_from_taps(
 // Makes the state what its opening made it.
 // Refusals: 15.
 static inline uint64_t GaugePolyphaseResamp_reset(GaugePolyphaseResamp *state) {
-    return gauge_polyphase_resamp_reset(GAUGE_POLYPHASE_RESAMP_FIELDS(state));
+    return gauge_raw_polyphase_resamp_reset(GAUGE_POLYPHASE_RESAMP_FIELDS(state));
 }
 
 // While `dst` has a place: writes an output that is due, else consumes the next sample of `src`, else stops. Continue
@@ -55,7 +55,7 @@ static inline uint64_t GaugePolyphaseResamp_process_block(
     GaugePolyphaseResamp *state, const float *src, uint64_t src_len, float *dst, uint64_t dst_len, uint64_t *taken,
     uint64_t *written
 ) {
-    return gauge_polyphase_resamp_process_block(
+    return gauge_raw_polyphase_resamp_process_block(
         GAUGE_POLYPHASE_RESAMP_FIELDS(state), src, src_len, dst, dst_len, taken, written
     );
 }
@@ -65,7 +65,7 @@ static inline uint64_t GaugePolyphaseResamp_process_block(
 // Refusals: 15, as there.
 static inline uint64_t
 GaugePolyphaseResamp_push(GaugePolyphaseResamp *state, float x, float *out, uint64_t out_len, uint64_t *written) {
-    return gauge_polyphase_resamp_push(GAUGE_POLYPHASE_RESAMP_FIELDS(state), x, out, out_len, written);
+    return gauge_raw_polyphase_resamp_push(GAUGE_POLYPHASE_RESAMP_FIELDS(state), x, out, out_len, written);
 }
 
 #undef GAUGE_POLYPHASE_RESAMP_FIELDS

@@ -1,5 +1,5 @@
 #!/bin/sh
-# Proves crate ffi, unless it did so of the same sources before, and leaves in target/targets: libffi.a, its archive for x86-64; module.ll, the proved LLVM module of which the kit made this archive;
+# Proves crate gauge_line, unless it did so of the same sources before, and leaves in target/targets: libgauge_line.a, its archive for x86-64; module.ll, the proved LLVM module of which the kit made this archive;
 # bin/, the compiler, linker and archiver of the kit.
 set -eu
 cd "$(dirname "$0")/.."
@@ -36,12 +36,12 @@ exec "$kit/$machine/toolchain/bin/clang" "\$@"
 END
 chmod +x "$like/$machine/toolchain/bin/clang"
 
-echo "targets: proving crate ffi" >&2
-if ! RATTLE_HOME=$like rt staticlib ffi >"$to/staticlib.log" 2>&1; then
+echo "targets: proving crate gauge_line" >&2
+if ! RATTLE_HOME=$like rt staticlib gauge_line >"$to/staticlib.log" 2>&1; then
     tail -n 20 "$to/staticlib.log" >&2
     exit 1
 fi
-cp target/staticlib/libffi.a "$to/libffi.a"
+cp target/staticlib/libgauge_line.a "$to/libgauge_line.a"
 
 # One program, which is each of these by its name.
 mkdir "$to/bin"

@@ -15,7 +15,7 @@ for machine; do
 done
 
 targets/module.sh
-gcc $strict $program targets/stdio.c "$to/libffi.a" -o "$to/x86_64"
+gcc $strict $program targets/stdio.c "$to/libgauge_line.a" -o "$to/x86_64"
 "$to/x86_64" >"$to/x86_64.txt"
 echo "x86_64: $(wc -l <"$to/x86_64.txt") lines"
 

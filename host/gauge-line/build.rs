@@ -7,7 +7,7 @@ fn main() {
     println!("cargo::rerun-if-env-changed=GAUGE_ARCHIVE");
     let archive = match env::var_os("GAUGE_ARCHIVE") {
         Some(named) => PathBuf::from(named),
-        None => Path::new(env!("CARGO_MANIFEST_DIR")).join("../../target/staticlib/libffi.a"),
+        None => Path::new(env!("CARGO_MANIFEST_DIR")).join("../../target/staticlib/libgauge_line.a"),
     };
     println!("cargo::rerun-if-changed={}", archive.display());
     let archive = archive.canonicalize().unwrap_or_else(|why| {

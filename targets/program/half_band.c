@@ -153,11 +153,11 @@ static void limits(void) {
 static void values(void) {
     float table[45];
     uint64_t lengths[4];
-    gauge_hbf_tap_table(table);
+    gauge_raw_hbf_tap_table(table);
     put_values("hbf_tap_table", F32, table, 45);
     for (uint64_t depth = 0; depth <= 6; depth++) {
-        lengths[0] = gauge_hbf_dec_response_length(depth, &lengths[1]);
-        lengths[2] = gauge_hbf_int_response_length(depth, &lengths[3]);
+        lengths[0] = gauge_raw_hbf_dec_response_length(depth, &lengths[1]);
+        lengths[2] = gauge_raw_hbf_int_response_length(depth, &lengths[3]);
         put_values("response_length", U64, lengths, 4);
     }
 }

@@ -20,10 +20,10 @@ static void put_block(const char *name, uint64_t refused, uint64_t len, uint64_t
 static void fir_blocks(uint64_t len, uint64_t taps, uint64_t factor, uint64_t places) {
     uint64_t refused, written;
     fill_i16(dst, PLACES);
-    refused = gauge_polyphase_decimate_q15(samples, len, coeffs, taps, factor, dst, places, &written);
+    refused = gauge_raw_polyphase_decimate_q15(samples, len, coeffs, taps, factor, dst, places, &written);
     put_block("polyphase_decimate_q15", refused, len, written);
     fill_i16(dst, PLACES);
-    refused = gauge_polyphase_interpolate_q15(samples, len, coeffs, taps, factor, dst, places, &written);
+    refused = gauge_raw_polyphase_interpolate_q15(samples, len, coeffs, taps, factor, dst, places, &written);
     put_block("polyphase_interpolate_q15", refused, len, written);
 }
 
@@ -47,7 +47,7 @@ static void linear_blocks(void) {
     for (uint64_t i = 0; i < COUNT(ratios) * COUNT(lens); i++) {
         uint64_t len = lens[i % COUNT(lens)];
         fill_i16(dst, PLACES);
-        refused = gauge_resample_linear_q15(samples, len, dst, PLACES - 2, ratios[i / COUNT(lens)], &written);
+        refused = gauge_raw_resample_linear_q15(samples, len, dst, PLACES - 2, ratios[i / COUNT(lens)], &written);
         put_block("resample_linear_q15", refused, len, written);
     }
 }
@@ -90,11 +90,11 @@ static void values(void) {
     int16_t value;
     float level;
     for (uint64_t i = 0; i < COUNT(sums); i++) {
-        gauge_cut_q15(sums[i], &value);
-        gauge_q15_to_f32(value, &level);
+        gauge_raw_cut_q15(sums[i], &value);
+        gauge_raw_q15_to_f32(value, &level);
         put_values("cut", I16, &value, 1);
         put_values("level", F32, &level, 1);
-        gauge_q15_to_f32(sample_i16(), &level);
+        gauge_raw_q15_to_f32(sample_i16(), &level);
         put_values("level", F32, &level, 1);
     }
 }

@@ -75,7 +75,7 @@ static void linear_block(Stream stream, uint64_t len, uint64_t places, float rat
     uint64_t written;
     fill_f32(stream, src, len);
     fill_f32(ORDINARY, dst, PLACES);
-    uint64_t refused = gauge_resample_linear_f32(src, len, dst, places, ratio, &written);
+    uint64_t refused = gauge_raw_resample_linear_f32(src, len, dst, places, ratio, &written);
     put_counts("resample_linear_f32", refused, len, written);
     put_values("dst", F32, dst, PLACES);
 }

@@ -48,7 +48,7 @@ done
 command=$(sed -n 's/^    \(gcc .*\)/\1/p' docs/c.md)
 mkdir -p "$page/by_command/target/staticlib"
 cp -r include "$page/by_command/"
-cp "$GAUGE_ARCHIVE" "$page/by_command/target/staticlib/libffi.a"
+cp "$GAUGE_ARCHIVE" "$page/by_command/target/staticlib/libgauge_line.a"
 cp "$page/1.c" "$page/by_command/program.c"
 (cd "$page/by_command" && bash -c "$command" && ./program) | diff "$page/1.txt" -
 echo "c: docs/c.md by its own command"

@@ -1,5 +1,5 @@
 #!/usr/bin/env bash
-# Compares what crates/ffi/src exports with the headers and with raw.rs: every function, parameter, type and result, the states' members, the refusals' numbers and names; and the limits of C with those of Rust.
+# Compares what crates/gauge_line/src exports with the headers and with raw.rs: every function, parameter, type and result, the states' members, the refusals' numbers and names; and the limits of C with those of Rust.
 # Fails where any differs. An argument names another tree to look at.
 set -euo pipefail
 here=$(cd "$(dirname "$0")" && pwd)
@@ -21,7 +21,7 @@ same() {
     fi
 }
 
-exported=("$root"/crates/ffi/src/*.rt)
+exported=("$root"/crates/gauge_line/src/*.rt)
 headers=("$root"/include/*.h)
 rust=$root/host/gauge-line/src
 

@@ -10,7 +10,7 @@ tried=0
 differs() {
     rm -rf "$scratch/tree"
     mkdir -p "$scratch/tree"
-    cp -r --parents crates/ffi/src crates/refusal/src include host/gauge-line/src "$scratch/tree"
+    cp -r --parents crates/gauge_line/src crates/refusal/src include host/gauge-line/src "$scratch/tree"
     sed -i -e "$2" "$scratch/tree/$1"
     if cmp -s "$1" "$scratch/tree/$1"; then
         echo "differences: $2 changes nothing in $1" >&2
@@ -27,8 +27,8 @@ differs include/gauge_raw.h 's/uint64_t \*taken, uint64_t \*written/uint64_t *wr
 differs include/gauge_raw.h 's/const float \*src/float *src/'
 differs include/gauge_raw.h 's/int32_t combs\[8\]/int32_t combs[7]/'
 differs include/gauge_raw.h 's/int32_t input/int64_t input/'
-differs include/gauge_raw.h 's/uint64_t gauge_hbf_dec_reset/void gauge_hbf_dec_reset/'
-differs include/gauge_raw.h '/^uint64_t gauge_hbf_stream_reset/d'
+differs include/gauge_raw.h 's/uint64_t gauge_raw_hbf_dec_reset/void gauge_raw_hbf_dec_reset/'
+differs include/gauge_raw.h '/^uint64_t gauge_raw_hbf_stream_reset/d'
 differs include/gauge_q15.h 's/uint64_t coeffs_len, //'
 differs include/gauge_line.h 's/^    uint64_t wait;/    uint32_t wait;/'
 differs include/gauge_line.h 's/&(l)->factor, (l)->fir_delay, &(l)->wait/\&(l)->wait, (l)->fir_delay, \&(l)->factor/'
@@ -39,6 +39,6 @@ differs host/gauge-line/src/limits.rs 's/= 4096/= 4095/'
 differs host/gauge-line/src/raw.rs 's/wanted_depth: u64/wanted_depth: usize/'
 differs host/gauge-line/src/raw.rs 's/sum: &mut i32/sum: \&mut i64/'
 differs host/gauge-line/src/raw.rs 's/ratio: f32,//'
-differs crates/ffi/src/values.rt 's/fn gauge_cut_q15/fn gauge_cut/'
-differs crates/ffi/src/gauge_line.rt 's/wanted_r: usize/wanted_r: u32/'
+differs crates/gauge_line/src/values.rt 's/fn gauge_raw_cut_q15/fn gauge_cut/'
+differs crates/gauge_line/src/gauge_line.rt 's/wanted_r: usize/wanted_r: u32/'
 echo "differences: $tried edits found"

@@ -65,16 +65,16 @@ static void q15_blocks(void) {
     uint64_t written;
     int16_t value;
     float level;
-    CHECK(gauge_polyphase_decimate_q15(minus, 2, ones, 2, 1, dst, 4, &written) == GAUGE_NOT_REFUSED);
+    CHECK(gauge_raw_polyphase_decimate_q15(minus, 2, ones, 2, 1, dst, 4, &written) == GAUGE_NOT_REFUSED);
     CHECK(written == 1 && dst[0] == -2);
-    CHECK(gauge_polyphase_decimate_q15(minus, 2, ones, 2, 0, dst, 4, &written) == GAUGE_REFUSED_FIR_FACTOR);
-    CHECK(gauge_polyphase_interpolate_q15(sample, 1, up, 2, 2, dst, 4, &written) == GAUGE_NOT_REFUSED);
+    CHECK(gauge_raw_polyphase_decimate_q15(minus, 2, ones, 2, 0, dst, 4, &written) == GAUGE_REFUSED_FIR_FACTOR);
+    CHECK(gauge_raw_polyphase_interpolate_q15(sample, 1, up, 2, 2, dst, 4, &written) == GAUGE_NOT_REFUSED);
     CHECK(written == 2 && dst[0] == 16384 && dst[1] == 8192);
-    CHECK(gauge_resample_linear_q15(ramp, 2, dst, 4, 32768, &written) == GAUGE_NOT_REFUSED);
+    CHECK(gauge_raw_resample_linear_q15(ramp, 2, dst, 4, 32768, &written) == GAUGE_NOT_REFUSED);
     CHECK(written == 4 && dst[0] == 0 && dst[1] == 50 && dst[2] == 100 && dst[3] == 100);
-    gauge_cut_q15(40000, &value);
+    gauge_raw_cut_q15(40000, &value);
     CHECK(value == 32767);
-    gauge_q15_to_f32(-16384, &level);
+    gauge_raw_q15_to_f32(-16384, &level);
     CHECK(level == -0.5f);
 }
 
@@ -144,11 +144,11 @@ static void half_band_cascades(void) {
 static void half_band_values(void) {
     float taps[45];
     uint64_t length;
-    gauge_hbf_tap_table(taps);
+    gauge_raw_hbf_tap_table(taps);
     CHECK(taps[42] == 0.01186105f && taps[44] == 0.58622005f);
-    CHECK(gauge_hbf_dec_response_length(5, &length) == GAUGE_NOT_REFUSED && length == 29);
-    CHECK(gauge_hbf_int_response_length(5, &length) == GAUGE_NOT_REFUSED && length == 958);
-    CHECK(gauge_hbf_int_response_length(6, &length) == GAUGE_REFUSED_DEPTH && length == 0);
+    CHECK(gauge_raw_hbf_dec_response_length(5, &length) == GAUGE_NOT_REFUSED && length == 29);
+    CHECK(gauge_raw_hbf_int_response_length(5, &length) == GAUGE_NOT_REFUSED && length == 958);
+    CHECK(gauge_raw_hbf_int_response_length(6, &length) == GAUGE_REFUSED_DEPTH && length == 0);
 }
 
 static void resamplers(void) {
@@ -164,7 +164,7 @@ static void resamplers(void) {
     CHECK(GaugePolyphaseResamp_push(&state, 0.5f, dst, 3, &written) == GAUGE_NOT_REFUSED);
     CHECK(written == 2 && dst[0] == -0.5f && dst[1] == 0.0f);
     CHECK(GaugePolyphaseResamp_from_taps(&state, 2, 1, prototype, 1, 0.5f) == GAUGE_REFUSED_PROTOTYPE);
-    CHECK(gauge_resample_linear_f32(src, 2, dst, 3, 0.5f, &written) == GAUGE_NOT_REFUSED);
+    CHECK(gauge_raw_resample_linear_f32(src, 2, dst, 3, 0.5f, &written) == GAUGE_NOT_REFUSED);
     CHECK(written == 3 && dst[0] == 0.5f && dst[1] == 0.25f && dst[2] == 0.0f);
 }
 

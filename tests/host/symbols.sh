@@ -1,10 +1,10 @@
 #!/usr/bin/env bash
-# The archive that GAUGE_ARCHIVE names has the functions that crates/ffi/src exports and no others, wants three functions of the C library at most, and has no data that can be written.
+# The archive that GAUGE_ARCHIVE names has the functions that crates/gauge_line/src exports and no others, wants three functions of the C library at most, and has no data that can be written.
 set -euo pipefail
 cd "$(dirname "$0")/../.."
 
 exported() {
-    awk -v language=rattle -f tests/host/text.awk -f tests/host/functions.awk crates/ffi/src/*.rt | sed 's/(.*//' | sort
+    awk -v language=rattle -f tests/host/text.awk -f tests/host/functions.awk crates/gauge_line/src/*.rt | sed 's/(.*//' | sort
 }
 
 archived() {

@@ -32,7 +32,7 @@ impl Converter for CicDecimator {
     fn restart(&mut self) {
         // SAFETY: every pointer is a field of this state.
         accept(unsafe {
-            gauge_raw::gauge_cic_decimator_new(
+            gauge_raw::gauge_raw_cic_decimator_new(
                 self.stages,
                 self.r,
                 &mut self.stages,
@@ -48,7 +48,7 @@ impl Converter for CicDecimator {
         let (mut taken, mut written) = (0, 0);
         // SAFETY: each pointer is lent with the length of its own slice.
         accept(unsafe {
-            gauge_raw::gauge_cic_decimator_process_block(
+            gauge_raw::gauge_raw_cic_decimator_process_block(
                 &mut self.stages,
                 &mut self.r,
                 &mut self.integrators,
@@ -90,7 +90,7 @@ impl CicInterpolator {
         let mut written = 0;
         // SAFETY: each pointer is lent with the length of its own slice.
         accept(unsafe {
-            gauge_raw::gauge_cic_interpolator_process_sample(
+            gauge_raw::gauge_raw_cic_interpolator_process_sample(
                 &mut self.stages,
                 &mut self.r,
                 &mut self.combs,
@@ -112,7 +112,7 @@ impl Converter for CicInterpolator {
     fn restart(&mut self) {
         // SAFETY: every pointer is a field of this state.
         accept(unsafe {
-            gauge_raw::gauge_cic_interpolator_new(
+            gauge_raw::gauge_raw_cic_interpolator_new(
                 self.stages,
                 self.r,
                 &mut self.stages,

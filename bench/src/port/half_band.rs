@@ -42,8 +42,8 @@ pub struct HbfDec {
 
 half_band!(
     HbfDec,
-    gauge_hbf_dec_reset,
-    gauge_hbf_dec_process,
+    gauge_raw_hbf_dec_reset,
+    gauge_raw_hbf_dec_process,
     m,
     coeffs,
     delay
@@ -55,7 +55,7 @@ impl HbfDec {
         // SAFETY: the taps are lent with their own length.
         accept(unsafe {
             let count = taps.len() as u64;
-            gauge_raw::gauge_hbf_dec_new(taps.as_ptr(), count, &mut m, &mut coeffs, &mut delay)
+            gauge_raw::gauge_raw_hbf_dec_new(taps.as_ptr(), count, &mut m, &mut coeffs, &mut delay)
         });
         HbfDec { m, coeffs, delay }
     }
@@ -69,8 +69,8 @@ pub struct HbfInt {
 
 half_band!(
     HbfInt,
-    gauge_hbf_int_reset,
-    gauge_hbf_int_process,
+    gauge_raw_hbf_int_reset,
+    gauge_raw_hbf_int_process,
     m,
     coeffs,
     delay
@@ -82,7 +82,7 @@ impl HbfInt {
         // SAFETY: the taps are lent with their own length.
         accept(unsafe {
             let count = taps.len() as u64;
-            gauge_raw::gauge_hbf_int_new(taps.as_ptr(), count, &mut m, &mut coeffs, &mut delay)
+            gauge_raw::gauge_raw_hbf_int_new(taps.as_ptr(), count, &mut m, &mut coeffs, &mut delay)
         });
         HbfInt { m, coeffs, delay }
     }
@@ -95,8 +95,8 @@ pub struct HbfDecCascade {
 
 half_band!(
     HbfDecCascade,
-    gauge_hbf_dec_cascade_reset,
-    gauge_hbf_dec_cascade_process,
+    gauge_raw_hbf_dec_cascade_reset,
+    gauge_raw_hbf_dec_cascade_process,
     depth,
     delays
 );
@@ -106,7 +106,7 @@ impl HbfDecCascade {
         let (mut depth, mut delays) = (0, [0.0; 480]);
         // SAFETY: every pointer is of a state that lives here.
         accept(unsafe {
-            gauge_raw::gauge_hbf_dec_cascade_new(wanted_depth as u64, &mut depth, &mut delays)
+            gauge_raw::gauge_raw_hbf_dec_cascade_new(wanted_depth as u64, &mut depth, &mut delays)
         });
         HbfDecCascade { depth, delays }
     }
@@ -119,8 +119,8 @@ pub struct HbfIntCascade {
 
 half_band!(
     HbfIntCascade,
-    gauge_hbf_int_cascade_reset,
-    gauge_hbf_int_cascade_process,
+    gauge_raw_hbf_int_cascade_reset,
+    gauge_raw_hbf_int_cascade_process,
     depth,
     delays
 );
@@ -130,7 +130,7 @@ impl HbfIntCascade {
         let (mut depth, mut delays) = (0, [0.0; 240]);
         // SAFETY: every pointer is of a state that lives here.
         accept(unsafe {
-            gauge_raw::gauge_hbf_int_cascade_new(wanted_depth as u64, &mut depth, &mut delays)
+            gauge_raw::gauge_raw_hbf_int_cascade_new(wanted_depth as u64, &mut depth, &mut delays)
         });
         HbfIntCascade { depth, delays }
     }

@@ -63,7 +63,7 @@ impl Line {
         // SAFETY: each pointer is lent with the length of its own slice.
         accept(unsafe {
             on_line!(
-                gauge_line_open,
+                gauge_raw_line_open,
                 line,
                 [
                     wanted.stages as u64,
@@ -116,7 +116,7 @@ impl Converter for Line {
 
     fn restart(&mut self) {
         // SAFETY: every pointer is a field of this state.
-        accept(unsafe { on_line!(gauge_line_reset, self, [], []) });
+        accept(unsafe { on_line!(gauge_raw_line_reset, self, [], []) });
     }
 
     fn convert(&mut self, src: &[i32], dst: &mut [f32]) -> usize {
@@ -124,7 +124,7 @@ impl Converter for Line {
         // SAFETY: each pointer is lent with the length of its own slice.
         accept(unsafe {
             on_line!(
-                gauge_line_feed,
+                gauge_raw_line_feed,
                 self,
                 [],
                 [

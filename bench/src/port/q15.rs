@@ -24,7 +24,7 @@ impl Converter for PolyphaseDecimate {
         let mut written = 0;
         // SAFETY: each pointer is lent with the length of its own slice.
         accept(unsafe {
-            gauge_raw::gauge_polyphase_decimate_q15(
+            gauge_raw::gauge_raw_polyphase_decimate_q15(
                 src.as_ptr(),
                 src.len() as u64,
                 self.taps.as_ptr(),
@@ -60,7 +60,7 @@ impl Converter for PolyphaseInterpolate {
         let mut written = 0;
         // SAFETY: each pointer is lent with the length of its own slice.
         accept(unsafe {
-            gauge_raw::gauge_polyphase_interpolate_q15(
+            gauge_raw::gauge_raw_polyphase_interpolate_q15(
                 src.as_ptr(),
                 src.len() as u64,
                 self.taps.as_ptr(),
@@ -88,7 +88,7 @@ impl Converter for LinearQ15 {
         let mut written = 0;
         // SAFETY: each pointer is lent with the length of its own slice.
         accept(unsafe {
-            gauge_raw::gauge_resample_linear_q15(
+            gauge_raw::gauge_raw_resample_linear_q15(
                 src.as_ptr(),
                 src.len() as u64,
                 dst.as_mut_ptr(),

@@ -24,7 +24,7 @@ impl Resampler {
         };
         // SAFETY: the prototype is lent with its own length.
         accept(unsafe {
-            gauge_raw::gauge_polyphase_resamp_from_taps(
+            gauge_raw::gauge_raw_polyphase_resamp_from_taps(
                 phases as u64,
                 taps as u64,
                 prototype.as_ptr(),
@@ -49,7 +49,7 @@ impl Converter for Resampler {
     fn restart(&mut self) {
         // SAFETY: every pointer is a field of this state.
         accept(unsafe {
-            gauge_raw::gauge_polyphase_resamp_reset(
+            gauge_raw::gauge_raw_polyphase_resamp_reset(
                 &mut self.phases,
                 &mut self.taps,
                 &mut self.mu,
@@ -64,7 +64,7 @@ impl Converter for Resampler {
         let (mut taken, mut written) = (0, 0);
         // SAFETY: each pointer is lent with the length of its own slice.
         accept(unsafe {
-            gauge_raw::gauge_polyphase_resamp_process_block(
+            gauge_raw::gauge_raw_polyphase_resamp_process_block(
                 &mut self.phases,
                 &mut self.taps,
                 &mut self.mu,
@@ -96,7 +96,7 @@ impl Converter for LinearF32 {
         let mut written = 0;
         // SAFETY: each pointer is lent with the length of its own slice.
         accept(unsafe {
-            gauge_raw::gauge_resample_linear_f32(
+            gauge_raw::gauge_raw_resample_linear_f32(
                 src.as_ptr(),
                 src.len() as u64,
                 dst.as_mut_ptr(),

@@ -42,7 +42,7 @@ impl CicDecimator {
         };
         // SAFETY: the fields are this function's own.
         let number = unsafe {
-            raw::gauge_cic_decimator_new(
+            raw::gauge_raw_cic_decimator_new(
                 stages as u64,
                 r as u64,
                 &mut state.stages,
@@ -62,7 +62,7 @@ impl CicDecimator {
         let mut gain = 0;
         // SAFETY: every place is borrowed for this call alone.
         let number = unsafe {
-            raw::gauge_cic_decimator_gain(
+            raw::gauge_raw_cic_decimator_gain(
                 self.stages,
                 self.r,
                 &self.integrators,
@@ -87,7 +87,7 @@ impl CicDecimator {
         let mut bits = 0;
         // SAFETY: every place is borrowed for this call alone.
         let number = unsafe {
-            raw::gauge_cic_decimator_gain_bits(
+            raw::gauge_raw_cic_decimator_gain_bits(
                 self.stages,
                 self.r,
                 &self.integrators,
@@ -114,7 +114,7 @@ impl CicDecimator {
         // SAFETY: every place is borrowed for this call alone.
         let number = unsafe {
             on_decimator!(
-                gauge_cic_decimator_process_sample,
+                gauge_raw_cic_decimator_process_sample,
                 self,
                 [input, &mut made, &mut sum]
             )
@@ -137,7 +137,7 @@ impl CicDecimator {
         // SAFETY: every place is borrowed for this call alone.
         let number = unsafe {
             on_decimator!(
-                gauge_cic_decimator_process_sample_scaled,
+                gauge_raw_cic_decimator_process_sample_scaled,
                 self,
                 [input, &mut made, &mut sum]
             )
@@ -163,7 +163,7 @@ impl CicDecimator {
         // SAFETY: each pointer is lent with the length of its own slice, and the fields are borrowed for this call alone.
         let number = unsafe {
             on_decimator!(
-                gauge_cic_decimator_process_block,
+                gauge_raw_cic_decimator_process_block,
                 self,
                 [
                     src.as_ptr(),

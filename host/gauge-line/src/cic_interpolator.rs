@@ -25,7 +25,7 @@ impl CicInterpolator {
         };
         // SAFETY: the fields are this function's own.
         let number = unsafe {
-            raw::gauge_cic_interpolator_new(
+            raw::gauge_raw_cic_interpolator_new(
                 stages as u64,
                 r as u64,
                 &mut state.stages,
@@ -44,7 +44,7 @@ impl CicInterpolator {
         let mut gain = 0;
         // SAFETY: every place is borrowed for this call alone.
         let number = unsafe {
-            raw::gauge_cic_interpolator_gain(
+            raw::gauge_raw_cic_interpolator_gain(
                 self.stages,
                 self.r,
                 &self.combs,
@@ -68,7 +68,7 @@ impl CicInterpolator {
         let mut bits = 0;
         // SAFETY: every place is borrowed for this call alone.
         let number = unsafe {
-            raw::gauge_cic_interpolator_gain_bits(
+            raw::gauge_raw_cic_interpolator_gain_bits(
                 self.stages,
                 self.r,
                 &self.combs,
@@ -95,7 +95,7 @@ impl CicInterpolator {
         let mut written = 0;
         // SAFETY: the pointer is lent with the length of its own slice, and the fields are borrowed for this call alone.
         let number = unsafe {
-            raw::gauge_cic_interpolator_process_sample(
+            raw::gauge_raw_cic_interpolator_process_sample(
                 &mut self.stages,
                 &mut self.r,
                 &mut self.combs,

@@ -27,7 +27,7 @@ impl FirDecimator {
         };
         // SAFETY: the pointer is lent with the length of its own slice, and the fields are this function's own.
         let number = unsafe {
-            raw::gauge_fir_decimator_new(
+            raw::gauge_raw_fir_decimator_new(
                 taps.as_ptr(),
                 taps.len() as u64,
                 factor as u64,
@@ -47,7 +47,7 @@ impl FirDecimator {
     pub fn reset(&mut self) -> Result<(), Refusal> {
         // SAFETY: the fields are borrowed for this call alone.
         let number = unsafe {
-            raw::gauge_fir_decimator_reset(
+            raw::gauge_raw_fir_decimator_reset(
                 &mut self.taps,
                 &mut self.tap_count,
                 &mut self.factor,
@@ -73,7 +73,7 @@ impl FirDecimator {
         let (mut made, mut value) = (0, 0);
         // SAFETY: every place is borrowed for this call alone.
         let number = unsafe {
-            raw::gauge_fir_decimator_process_sample(
+            raw::gauge_raw_fir_decimator_process_sample(
                 &mut self.taps,
                 &mut self.tap_count,
                 &mut self.factor,

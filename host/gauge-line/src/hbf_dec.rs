@@ -23,7 +23,7 @@ impl HbfDec {
         };
         // SAFETY: the pointer is lent with the length of its own slice, and the fields are this function's own.
         let number = unsafe {
-            raw::gauge_hbf_dec_new(
+            raw::gauge_raw_hbf_dec_new(
                 taps.as_ptr(),
                 taps.len() as u64,
                 &mut state.m,
@@ -40,7 +40,7 @@ impl HbfDec {
     pub fn reset(&mut self) -> Result<(), Refusal> {
         // SAFETY: the fields are borrowed for this call alone.
         let number =
-            unsafe { raw::gauge_hbf_dec_reset(&mut self.m, &mut self.coeffs, &mut self.delay) };
+            unsafe { raw::gauge_raw_hbf_dec_reset(&mut self.m, &mut self.coeffs, &mut self.delay) };
         answered(number, ())
     }
 
@@ -58,7 +58,7 @@ impl HbfDec {
         let mut value = 0.0;
         // SAFETY: every place is borrowed for this call alone.
         let number = unsafe {
-            raw::gauge_hbf_dec_process_pair(
+            raw::gauge_raw_hbf_dec_process_pair(
                 &mut self.m,
                 &mut self.coeffs,
                 &mut self.delay,
@@ -85,7 +85,7 @@ impl HbfDec {
         let mut written = 0;
         // SAFETY: each pointer is lent with the length of its own slice, and the fields are borrowed for this call alone.
         let number = unsafe {
-            raw::gauge_hbf_dec_process(
+            raw::gauge_raw_hbf_dec_process(
                 &mut self.m,
                 &mut self.coeffs,
                 &mut self.delay,

@@ -23,7 +23,7 @@ impl HbfInt {
         };
         // SAFETY: the pointer is lent with the length of its own slice, and the fields are this function's own.
         let number = unsafe {
-            raw::gauge_hbf_int_new(
+            raw::gauge_raw_hbf_int_new(
                 taps.as_ptr(),
                 taps.len() as u64,
                 &mut state.m,
@@ -40,7 +40,7 @@ impl HbfInt {
     pub fn reset(&mut self) -> Result<(), Refusal> {
         // SAFETY: the fields are borrowed for this call alone.
         let number =
-            unsafe { raw::gauge_hbf_int_reset(&mut self.m, &mut self.coeffs, &mut self.delay) };
+            unsafe { raw::gauge_raw_hbf_int_reset(&mut self.m, &mut self.coeffs, &mut self.delay) };
         answered(number, ())
     }
 
@@ -57,7 +57,7 @@ impl HbfInt {
         let (mut even, mut odd) = (0.0, 0.0);
         // SAFETY: every place is borrowed for this call alone.
         let number = unsafe {
-            raw::gauge_hbf_int_process_sample(
+            raw::gauge_raw_hbf_int_process_sample(
                 &mut self.m,
                 &mut self.coeffs,
                 &mut self.delay,
@@ -84,7 +84,7 @@ impl HbfInt {
         let mut written = 0;
         // SAFETY: each pointer is lent with the length of its own slice, and the fields are borrowed for this call alone.
         let number = unsafe {
-            raw::gauge_hbf_int_process(
+            raw::gauge_raw_hbf_int_process(
                 &mut self.m,
                 &mut self.coeffs,
                 &mut self.delay,

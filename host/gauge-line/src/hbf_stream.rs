@@ -25,7 +25,7 @@ impl HbfStream {
         };
         // SAFETY: the fields are this function's own.
         let number = unsafe {
-            raw::gauge_hbf_stream_new(
+            raw::gauge_raw_hbf_stream_new(
                 depth as u64,
                 &mut state.depth,
                 &mut state.delays,
@@ -42,7 +42,7 @@ impl HbfStream {
     pub fn reset(&mut self) -> Result<(), Refusal> {
         // SAFETY: the fields are borrowed for this call alone.
         let number = unsafe {
-            raw::gauge_hbf_stream_reset(
+            raw::gauge_raw_hbf_stream_reset(
                 &mut self.depth,
                 &mut self.delays,
                 &mut self.held,
@@ -66,7 +66,7 @@ impl HbfStream {
         let (mut made, mut value) = (0, 0.0);
         // SAFETY: every place is borrowed for this call alone.
         let number = unsafe {
-            raw::gauge_hbf_stream_process_sample(
+            raw::gauge_raw_hbf_stream_process_sample(
                 &mut self.depth,
                 &mut self.delays,
                 &mut self.held,

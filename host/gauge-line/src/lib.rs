@@ -1,4 +1,4 @@
-//! The gauge line and its rate converters for Rust: safe types over the archive that `make` makes. The archive is proved, in crates/ffi/src, to do what the
+//! The gauge line and its rate converters for Rust: safe types over the archive that `make` makes. The archive is proved, in crates/gauge_line/src, to do what the
 //! comments here say; this crate only lends it places. No allocation, no global state, no dependency.
 //!
 //! [`Line`] takes cell samples and gives levels; the other types are its parts and their inverses. docs/rust.md is the page for a user.

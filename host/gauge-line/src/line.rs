@@ -143,7 +143,7 @@ impl Line {
         // SAFETY: each pointer is lent with the length of its own slice, and the fields are this function's own.
         let number = unsafe {
             on_line!(
-                gauge_line_open,
+                gauge_raw_line_open,
                 [
                     settings.stages as u64,
                     settings.r as u64,
@@ -187,7 +187,7 @@ impl Line {
         // SAFETY: each pointer is lent with the length of its own slice, and the fields are borrowed for this call alone.
         let number = unsafe {
             on_line!(
-                gauge_line_feed,
+                gauge_raw_line_feed,
                 [],
                 self,
                 [
@@ -222,7 +222,7 @@ impl Line {
         // SAFETY: the pointer is lent with the length of its own slice, and the fields are borrowed for this call alone.
         let number = unsafe {
             on_line!(
-                gauge_line_step,
+                gauge_raw_line_step,
                 [],
                 self,
                 [
@@ -260,7 +260,7 @@ impl Line {
     /// ```
     pub fn reset(&mut self) -> Result<(), Refusal> {
         // SAFETY: the fields are borrowed for this call alone.
-        let number = unsafe { on_line!(gauge_line_reset, [], self, []) };
+        let number = unsafe { on_line!(gauge_raw_line_reset, [], self, []) };
         answered(number, ())
     }
 }

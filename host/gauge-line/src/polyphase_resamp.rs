@@ -52,7 +52,7 @@ impl PolyphaseResampF32 {
         // SAFETY: the pointer is lent with the length of its own slice, and the fields are this function's own.
         let number = unsafe {
             on_resampler!(
-                gauge_polyphase_resamp_from_taps,
+                gauge_raw_polyphase_resamp_from_taps,
                 [
                     phases as u64,
                     taps as u64,
@@ -72,7 +72,7 @@ impl PolyphaseResampF32 {
     /// Refused: `State`.
     pub fn reset(&mut self) -> Result<(), Refusal> {
         // SAFETY: the fields are borrowed for this call alone.
-        let number = unsafe { on_resampler!(gauge_polyphase_resamp_reset, [], self, []) };
+        let number = unsafe { on_resampler!(gauge_raw_polyphase_resamp_reset, [], self, []) };
         answered(number, ())
     }
 
@@ -95,7 +95,7 @@ impl PolyphaseResampF32 {
         // SAFETY: each pointer is lent with the length of its own slice, and the fields are borrowed for this call alone.
         let number = unsafe {
             on_resampler!(
-                gauge_polyphase_resamp_process_block,
+                gauge_raw_polyphase_resamp_process_block,
                 [],
                 self,
                 [
@@ -128,7 +128,7 @@ impl PolyphaseResampF32 {
         // SAFETY: the pointer is lent with the length of its own slice, and the fields are borrowed for this call alone.
         let number = unsafe {
             on_resampler!(
-                gauge_polyphase_resamp_push,
+                gauge_raw_polyphase_resamp_push,
                 [],
                 self,
                 [x, out.as_mut_ptr(), out.len() as u64, &mut written]

@@ -23,7 +23,7 @@ pub fn polyphase_decimate_q15(
     let mut written = 0;
     // SAFETY: each pointer is lent with the length of its own slice.
     let number = unsafe {
-        raw::gauge_polyphase_decimate_q15(
+        raw::gauge_raw_polyphase_decimate_q15(
             src.as_ptr(),
             src.len() as u64,
             coeffs.as_ptr(),
@@ -57,7 +57,7 @@ pub fn polyphase_interpolate_q15(
     let mut written = 0;
     // SAFETY: each pointer is lent with the length of its own slice.
     let number = unsafe {
-        raw::gauge_polyphase_interpolate_q15(
+        raw::gauge_raw_polyphase_interpolate_q15(
             src.as_ptr(),
             src.len() as u64,
             coeffs.as_ptr(),

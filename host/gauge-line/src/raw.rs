@@ -1,7 +1,7 @@
-//! The archive's functions as they are exported: crates/ffi/src has their contracts. A slice is a pointer and a length; a state is its fields, each lent.
+//! The archive's functions as they are exported: crates/gauge_line/src has their contracts. A slice is a pointer and a length; a state is its fields, each lent.
 
 unsafe extern "C" {
-    pub fn gauge_cic_decimator_new(
+    pub fn gauge_raw_cic_decimator_new(
         wanted_stages: u64,
         wanted_r: u64,
         stages: &mut u64,
@@ -10,7 +10,7 @@ unsafe extern "C" {
         combs: &mut [i32; 8],
         sample_counter: &mut u64,
     ) -> u64;
-    pub fn gauge_cic_decimator_gain(
+    pub fn gauge_raw_cic_decimator_gain(
         stages: u64,
         r: u64,
         integrators: &[i32; 8],
@@ -18,7 +18,7 @@ unsafe extern "C" {
         sample_counter: u64,
         gain: &mut u64,
     ) -> u64;
-    pub fn gauge_cic_decimator_gain_bits(
+    pub fn gauge_raw_cic_decimator_gain_bits(
         stages: u64,
         r: u64,
         integrators: &[i32; 8],
@@ -26,7 +26,7 @@ unsafe extern "C" {
         sample_counter: u64,
         bits: &mut u32,
     ) -> u64;
-    pub fn gauge_cic_decimator_process_sample(
+    pub fn gauge_raw_cic_decimator_process_sample(
         stages: &mut u64,
         r: &mut u64,
         integrators: &mut [i32; 8],
@@ -36,7 +36,7 @@ unsafe extern "C" {
         made: &mut u64,
         sum: &mut i32,
     ) -> u64;
-    pub fn gauge_cic_decimator_process_sample_scaled(
+    pub fn gauge_raw_cic_decimator_process_sample_scaled(
         stages: &mut u64,
         r: &mut u64,
         integrators: &mut [i32; 8],
@@ -46,7 +46,7 @@ unsafe extern "C" {
         made: &mut u64,
         sum: &mut i32,
     ) -> u64;
-    pub fn gauge_cic_decimator_process_block(
+    pub fn gauge_raw_cic_decimator_process_block(
         stages: &mut u64,
         r: &mut u64,
         integrators: &mut [i32; 8],
@@ -59,7 +59,7 @@ unsafe extern "C" {
         taken: &mut u64,
         written: &mut u64,
     ) -> u64;
-    pub fn gauge_cic_interpolator_new(
+    pub fn gauge_raw_cic_interpolator_new(
         wanted_stages: u64,
         wanted_r: u64,
         stages: &mut u64,
@@ -67,21 +67,21 @@ unsafe extern "C" {
         combs: &mut [i32; 8],
         integrators: &mut [i32; 8],
     ) -> u64;
-    pub fn gauge_cic_interpolator_gain(
+    pub fn gauge_raw_cic_interpolator_gain(
         stages: u64,
         r: u64,
         combs: &[i32; 8],
         integrators: &[i32; 8],
         gain: &mut u64,
     ) -> u64;
-    pub fn gauge_cic_interpolator_gain_bits(
+    pub fn gauge_raw_cic_interpolator_gain_bits(
         stages: u64,
         r: u64,
         combs: &[i32; 8],
         integrators: &[i32; 8],
         bits: &mut u32,
     ) -> u64;
-    pub fn gauge_cic_interpolator_process_sample(
+    pub fn gauge_raw_cic_interpolator_process_sample(
         stages: &mut u64,
         r: &mut u64,
         combs: &mut [i32; 8],
@@ -91,7 +91,7 @@ unsafe extern "C" {
         out_buf_len: u64,
         written: &mut u64,
     ) -> u64;
-    pub fn gauge_fir_decimator_new(
+    pub fn gauge_raw_fir_decimator_new(
         wanted_taps: *const i16,
         wanted_taps_len: u64,
         wanted_factor: u64,
@@ -101,14 +101,14 @@ unsafe extern "C" {
         delay: &mut [i16; 64],
         wait: &mut u64,
     ) -> u64;
-    pub fn gauge_fir_decimator_reset(
+    pub fn gauge_raw_fir_decimator_reset(
         taps: &mut [i16; 64],
         tap_count: &mut u64,
         factor: &mut u64,
         delay: &mut [i16; 64],
         wait: &mut u64,
     ) -> u64;
-    pub fn gauge_fir_decimator_process_sample(
+    pub fn gauge_raw_fir_decimator_process_sample(
         taps: &mut [i16; 64],
         tap_count: &mut u64,
         factor: &mut u64,
@@ -118,7 +118,7 @@ unsafe extern "C" {
         made: &mut u64,
         value: &mut i16,
     ) -> u64;
-    pub fn gauge_line_open(
+    pub fn gauge_raw_line_open(
         wanted_stages: u64,
         wanted_r: u64,
         wanted_factor: u64,
@@ -151,7 +151,7 @@ unsafe extern "C" {
         delay: &mut [f32; 16],
         prototype: &mut [f32; 1024],
     ) -> u64;
-    pub fn gauge_line_reset(
+    pub fn gauge_raw_line_reset(
         stages: &mut u64,
         r: &mut u64,
         integrators: &mut [i32; 8],
@@ -173,7 +173,7 @@ unsafe extern "C" {
         delay: &mut [f32; 16],
         prototype: &mut [f32; 1024],
     ) -> u64;
-    pub fn gauge_line_step(
+    pub fn gauge_raw_line_step(
         stages: &mut u64,
         r: &mut u64,
         integrators: &mut [i32; 8],
@@ -202,7 +202,7 @@ unsafe extern "C" {
         written: &mut u64,
         value: &mut f32,
     ) -> u64;
-    pub fn gauge_line_feed(
+    pub fn gauge_raw_line_feed(
         stages: &mut u64,
         r: &mut u64,
         integrators: &mut [i32; 8],
@@ -230,15 +230,15 @@ unsafe extern "C" {
         taken: &mut u64,
         written: &mut u64,
     ) -> u64;
-    pub fn gauge_hbf_dec_new(
+    pub fn gauge_raw_hbf_dec_new(
         taps: *const f32,
         taps_len: u64,
         m: &mut u64,
         coeffs: &mut [f32; 23],
         delay: &mut [f32; 96],
     ) -> u64;
-    pub fn gauge_hbf_dec_reset(m: &mut u64, coeffs: &mut [f32; 23], delay: &mut [f32; 96]) -> u64;
-    pub fn gauge_hbf_dec_process_pair(
+    pub fn gauge_raw_hbf_dec_reset(m: &mut u64, coeffs: &mut [f32; 23], delay: &mut [f32; 96]) -> u64;
+    pub fn gauge_raw_hbf_dec_process_pair(
         m: &mut u64,
         coeffs: &mut [f32; 23],
         delay: &mut [f32; 96],
@@ -246,7 +246,7 @@ unsafe extern "C" {
         b: f32,
         value: &mut f32,
     ) -> u64;
-    pub fn gauge_hbf_dec_process(
+    pub fn gauge_raw_hbf_dec_process(
         m: &mut u64,
         coeffs: &mut [f32; 23],
         delay: &mut [f32; 96],
@@ -256,13 +256,13 @@ unsafe extern "C" {
         dst_len: u64,
         written: &mut u64,
     ) -> u64;
-    pub fn gauge_hbf_dec_cascade_new(
+    pub fn gauge_raw_hbf_dec_cascade_new(
         wanted_depth: u64,
         depth: &mut u64,
         delays: &mut [f32; 480],
     ) -> u64;
-    pub fn gauge_hbf_dec_cascade_reset(depth: &mut u64, delays: &mut [f32; 480]) -> u64;
-    pub fn gauge_hbf_dec_cascade_process(
+    pub fn gauge_raw_hbf_dec_cascade_reset(depth: &mut u64, delays: &mut [f32; 480]) -> u64;
+    pub fn gauge_raw_hbf_dec_cascade_process(
         depth: &mut u64,
         delays: &mut [f32; 480],
         src: *const f32,
@@ -271,15 +271,15 @@ unsafe extern "C" {
         dst_len: u64,
         written: &mut u64,
     ) -> u64;
-    pub fn gauge_hbf_int_new(
+    pub fn gauge_raw_hbf_int_new(
         taps: *const f32,
         taps_len: u64,
         m: &mut u64,
         coeffs: &mut [f32; 23],
         delay: &mut [f32; 48],
     ) -> u64;
-    pub fn gauge_hbf_int_reset(m: &mut u64, coeffs: &mut [f32; 23], delay: &mut [f32; 48]) -> u64;
-    pub fn gauge_hbf_int_process_sample(
+    pub fn gauge_raw_hbf_int_reset(m: &mut u64, coeffs: &mut [f32; 23], delay: &mut [f32; 48]) -> u64;
+    pub fn gauge_raw_hbf_int_process_sample(
         m: &mut u64,
         coeffs: &mut [f32; 23],
         delay: &mut [f32; 48],
@@ -287,7 +287,7 @@ unsafe extern "C" {
         even: &mut f32,
         odd: &mut f32,
     ) -> u64;
-    pub fn gauge_hbf_int_process(
+    pub fn gauge_raw_hbf_int_process(
         m: &mut u64,
         coeffs: &mut [f32; 23],
         delay: &mut [f32; 48],
@@ -297,13 +297,13 @@ unsafe extern "C" {
         dst_len: u64,
         written: &mut u64,
     ) -> u64;
-    pub fn gauge_hbf_int_cascade_new(
+    pub fn gauge_raw_hbf_int_cascade_new(
         wanted_depth: u64,
         depth: &mut u64,
         delays: &mut [f32; 240],
     ) -> u64;
-    pub fn gauge_hbf_int_cascade_reset(depth: &mut u64, delays: &mut [f32; 240]) -> u64;
-    pub fn gauge_hbf_int_cascade_process(
+    pub fn gauge_raw_hbf_int_cascade_reset(depth: &mut u64, delays: &mut [f32; 240]) -> u64;
+    pub fn gauge_raw_hbf_int_cascade_process(
         depth: &mut u64,
         delays: &mut [f32; 240],
         src: *const f32,
@@ -312,20 +312,20 @@ unsafe extern "C" {
         dst_len: u64,
         written: &mut u64,
     ) -> u64;
-    pub fn gauge_hbf_stream_new(
+    pub fn gauge_raw_hbf_stream_new(
         wanted_depth: u64,
         depth: &mut u64,
         delays: &mut [f32; 480],
         held: &mut [f32; 5],
         counts: &mut [u64; 5],
     ) -> u64;
-    pub fn gauge_hbf_stream_reset(
+    pub fn gauge_raw_hbf_stream_reset(
         depth: &mut u64,
         delays: &mut [f32; 480],
         held: &mut [f32; 5],
         counts: &mut [u64; 5],
     ) -> u64;
-    pub fn gauge_hbf_stream_process_sample(
+    pub fn gauge_raw_hbf_stream_process_sample(
         depth: &mut u64,
         delays: &mut [f32; 480],
         held: &mut [f32; 5],
@@ -334,7 +334,7 @@ unsafe extern "C" {
         made: &mut u64,
         value: &mut f32,
     ) -> u64;
-    pub fn gauge_polyphase_resamp_from_taps(
+    pub fn gauge_raw_polyphase_resamp_from_taps(
         wanted_phases: u64,
         wanted_taps: u64,
         wanted_prototype: *const f32,
@@ -347,7 +347,7 @@ unsafe extern "C" {
         delay: &mut [f32; 16],
         prototype: &mut [f32; 1024],
     ) -> u64;
-    pub fn gauge_polyphase_resamp_reset(
+    pub fn gauge_raw_polyphase_resamp_reset(
         phases: &mut u64,
         taps: &mut u64,
         mu: &mut f32,
@@ -355,7 +355,7 @@ unsafe extern "C" {
         delay: &mut [f32; 16],
         prototype: &mut [f32; 1024],
     ) -> u64;
-    pub fn gauge_polyphase_resamp_process_block(
+    pub fn gauge_raw_polyphase_resamp_process_block(
         phases: &mut u64,
         taps: &mut u64,
         mu: &mut f32,
@@ -369,7 +369,7 @@ unsafe extern "C" {
         taken: &mut u64,
         written: &mut u64,
     ) -> u64;
-    pub fn gauge_polyphase_resamp_push(
+    pub fn gauge_raw_polyphase_resamp_push(
         phases: &mut u64,
         taps: &mut u64,
         mu: &mut f32,
@@ -381,7 +381,7 @@ unsafe extern "C" {
         out_len: u64,
         written: &mut u64,
     ) -> u64;
-    pub fn gauge_polyphase_decimate_q15(
+    pub fn gauge_raw_polyphase_decimate_q15(
         src: *const i16,
         src_len: u64,
         coeffs: *const i16,
@@ -391,7 +391,7 @@ unsafe extern "C" {
         dst_len: u64,
         written: &mut u64,
     ) -> u64;
-    pub fn gauge_polyphase_interpolate_q15(
+    pub fn gauge_raw_polyphase_interpolate_q15(
         src: *const i16,
         src_len: u64,
         coeffs: *const i16,
@@ -401,7 +401,7 @@ unsafe extern "C" {
         dst_len: u64,
         written: &mut u64,
     ) -> u64;
-    pub fn gauge_resample_linear_q15(
+    pub fn gauge_raw_resample_linear_q15(
         src: *const i16,
         src_len: u64,
         dst: *mut i16,
@@ -409,7 +409,7 @@ unsafe extern "C" {
         ratio_q16: i32,
         written: &mut u64,
     ) -> u64;
-    pub fn gauge_resample_linear_f32(
+    pub fn gauge_raw_resample_linear_f32(
         src: *const f32,
         src_len: u64,
         dst: *mut f32,
@@ -417,9 +417,9 @@ unsafe extern "C" {
         ratio: f32,
         written: &mut u64,
     ) -> u64;
-    pub fn gauge_cut_q15(sum: i64, value: &mut i16);
-    pub fn gauge_q15_to_f32(bits: i16, value: &mut f32);
-    pub fn gauge_hbf_dec_response_length(depth: u64, length: &mut u64) -> u64;
-    pub fn gauge_hbf_int_response_length(depth: u64, length: &mut u64) -> u64;
-    pub fn gauge_hbf_tap_table(taps: &mut [f32; 45]);
+    pub fn gauge_raw_cut_q15(sum: i64, value: &mut i16);
+    pub fn gauge_raw_q15_to_f32(bits: i16, value: &mut f32);
+    pub fn gauge_raw_hbf_dec_response_length(depth: u64, length: &mut u64) -> u64;
+    pub fn gauge_raw_hbf_int_response_length(depth: u64, length: &mut u64) -> u64;
+    pub fn gauge_raw_hbf_tap_table(taps: &mut [f32; 45]);
 }

@@ -17,7 +17,7 @@ pub fn resample_linear_q15(src: &[i16], dst: &mut [i16], ratio_q16: i32) -> Resu
     let mut written = 0;
     // SAFETY: each pointer is lent with the length of its own slice.
     let number = unsafe {
-        raw::gauge_resample_linear_q15(
+        raw::gauge_raw_resample_linear_q15(
             src.as_ptr(),
             src.len() as u64,
             dst.as_mut_ptr(),
@@ -43,7 +43,7 @@ pub fn resample_linear_f32(src: &[f32], dst: &mut [f32], ratio: f32) -> Result<u
     let mut written = 0;
     // SAFETY: each pointer is lent with the length of its own slice.
     let number = unsafe {
-        raw::gauge_resample_linear_f32(
+        raw::gauge_raw_resample_linear_f32(
             src.as_ptr(),
             src.len() as u64,
             dst.as_mut_ptr(),

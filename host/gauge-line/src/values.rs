@@ -11,7 +11,7 @@ use crate::refusal::{Refusal, answered};
 pub fn cut_q15(sum: i64) -> i16 {
     let mut value = 0;
     // SAFETY: the place is this function's own.
-    unsafe { raw::gauge_cut_q15(sum, &mut value) };
+    unsafe { raw::gauge_raw_cut_q15(sum, &mut value) };
     value
 }
 
@@ -23,7 +23,7 @@ pub fn cut_q15(sum: i64) -> i16 {
 pub fn q15_to_f32(bits: i16) -> f32 {
     let mut value = 0.0;
     // SAFETY: the place is this function's own.
-    unsafe { raw::gauge_q15_to_f32(bits, &mut value) };
+    unsafe { raw::gauge_raw_q15_to_f32(bits, &mut value) };
     value
 }
 
@@ -38,7 +38,7 @@ pub fn q15_to_f32(bits: i16) -> f32 {
 pub fn hbf_dec_response_length(depth: usize) -> Result<usize, Refusal> {
     let mut length = 0;
     // SAFETY: the place is this function's own.
-    let number = unsafe { raw::gauge_hbf_dec_response_length(depth as u64, &mut length) };
+    let number = unsafe { raw::gauge_raw_hbf_dec_response_length(depth as u64, &mut length) };
     answered(number, length as usize)
 }
 
@@ -53,7 +53,7 @@ pub fn hbf_dec_response_length(depth: usize) -> Result<usize, Refusal> {
 pub fn hbf_int_response_length(depth: usize) -> Result<usize, Refusal> {
     let mut length = 0;
     // SAFETY: the place is this function's own.
-    let number = unsafe { raw::gauge_hbf_int_response_length(depth as u64, &mut length) };
+    let number = unsafe { raw::gauge_raw_hbf_int_response_length(depth as u64, &mut length) };
     answered(number, length as usize)
 }
 
@@ -65,6 +65,6 @@ pub fn hbf_int_response_length(depth: usize) -> Result<usize, Refusal> {
 pub fn hbf_tap_table() -> [f32; 45] {
     let mut taps = [0.0; 45];
     // SAFETY: the place is this function's own.
-    unsafe { raw::gauge_hbf_tap_table(&mut taps) };
+    unsafe { raw::gauge_raw_hbf_tap_table(&mut taps) };
     taps
 }

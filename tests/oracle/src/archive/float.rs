@@ -6,25 +6,25 @@ use crate::{linear, polyphase_resamp, values};
 use gauge_raw::*;
 
 pub fn q15_to_f32(call: &mut values::ToF32) -> u64 {
-    unsafe { gauge_q15_to_f32(call.lent.sample, &mut call.answer.value) }
+    unsafe { gauge_raw_q15_to_f32(call.lent.sample, &mut call.answer.value) }
     0
 }
 
 pub fn hbf_dec_response_length(call: &mut values::Length) -> u64 {
-    unsafe { gauge_hbf_dec_response_length(call.lent.depth, &mut call.answer.value) }
+    unsafe { gauge_raw_hbf_dec_response_length(call.lent.depth, &mut call.answer.value) }
 }
 
 pub fn hbf_int_response_length(call: &mut values::Length) -> u64 {
-    unsafe { gauge_hbf_int_response_length(call.lent.depth, &mut call.answer.value) }
+    unsafe { gauge_raw_hbf_int_response_length(call.lent.depth, &mut call.answer.value) }
 }
 
 pub fn hbf_tap_table(call: &mut values::TapTable) -> u64 {
-    unsafe { gauge_hbf_tap_table(&mut call.answer.taps) }
+    unsafe { gauge_raw_hbf_tap_table(&mut call.answer.taps) }
     0
 }
 
 pub fn resample_linear_f32(call: &mut linear::Block<f32, f32>) -> u64 {
-    super::linear(gauge_resample_linear_f32, call)
+    super::linear(gauge_raw_resample_linear_f32, call)
 }
 
 macro_rules! with_half_band {
@@ -41,33 +41,33 @@ macro_rules! half_band_new {
 }
 
 pub fn hbf_dec_new(call: &mut half_band::New<96>) -> u64 {
-    half_band_new!(gauge_hbf_dec_new, call)
+    half_band_new!(gauge_raw_hbf_dec_new, call)
 }
 
 pub fn hbf_int_new(call: &mut half_band::New<48>) -> u64 {
-    half_band_new!(gauge_hbf_int_new, call)
+    half_band_new!(gauge_raw_hbf_int_new, call)
 }
 
 pub fn hbf_dec_process(call: &mut half_band::Block<96>) -> u64 {
-    with_buffers!(with_half_band, gauge_hbf_dec_process, call, [written])
+    with_buffers!(with_half_band, gauge_raw_hbf_dec_process, call, [written])
 }
 
 pub fn hbf_int_process(call: &mut half_band::Block<48>) -> u64 {
-    with_buffers!(with_half_band, gauge_hbf_int_process, call, [written])
+    with_buffers!(with_half_band, gauge_raw_hbf_int_process, call, [written])
 }
 
 pub fn hbf_dec_reset(call: &mut half_band::Reset<96>) -> u64 {
-    with_half_band!(gauge_hbf_dec_reset, [], call.state, [])
+    with_half_band!(gauge_raw_hbf_dec_reset, [], call.state, [])
 }
 
 pub fn hbf_int_reset(call: &mut half_band::Reset<48>) -> u64 {
-    with_half_band!(gauge_hbf_int_reset, [], call.state, [])
+    with_half_band!(gauge_raw_hbf_int_reset, [], call.state, [])
 }
 
 pub fn hbf_dec_process_pair(call: &mut hbf_dec::Step) -> u64 {
     let (lent, value) = (&call.lent, &mut call.answer.value);
     with_half_band!(
-        gauge_hbf_dec_process_pair,
+        gauge_raw_hbf_dec_process_pair,
         [],
         call.state,
         [lent.a, lent.b, value]
@@ -77,7 +77,7 @@ pub fn hbf_dec_process_pair(call: &mut hbf_dec::Step) -> u64 {
 pub fn hbf_int_process_sample(call: &mut hbf_int::Step) -> u64 {
     let (sample, answer) = (call.lent.sample, &mut call.answer);
     with_half_band!(
-        gauge_hbf_int_process_sample,
+        gauge_raw_hbf_int_process_sample,
         [],
         call.state,
         [sample, &mut answer.even, &mut answer.odd]
@@ -92,28 +92,28 @@ macro_rules! with_cascade {
 
 pub fn hbf_dec_cascade_new(call: &mut cascade::New<480>) -> u64 {
     let depth = call.lent.depth;
-    with_cascade!(gauge_hbf_dec_cascade_new, [depth], call.answer, [])
+    with_cascade!(gauge_raw_hbf_dec_cascade_new, [depth], call.answer, [])
 }
 
 pub fn hbf_int_cascade_new(call: &mut cascade::New<240>) -> u64 {
     let depth = call.lent.depth;
-    with_cascade!(gauge_hbf_int_cascade_new, [depth], call.answer, [])
+    with_cascade!(gauge_raw_hbf_int_cascade_new, [depth], call.answer, [])
 }
 
 pub fn hbf_dec_cascade_process(call: &mut cascade::Block<480>) -> u64 {
-    with_buffers!(with_cascade, gauge_hbf_dec_cascade_process, call, [written])
+    with_buffers!(with_cascade, gauge_raw_hbf_dec_cascade_process, call, [written])
 }
 
 pub fn hbf_int_cascade_process(call: &mut cascade::Block<240>) -> u64 {
-    with_buffers!(with_cascade, gauge_hbf_int_cascade_process, call, [written])
+    with_buffers!(with_cascade, gauge_raw_hbf_int_cascade_process, call, [written])
 }
 
 pub fn hbf_dec_cascade_reset(call: &mut cascade::Reset<480>) -> u64 {
-    with_cascade!(gauge_hbf_dec_cascade_reset, [], call.state, [])
+    with_cascade!(gauge_raw_hbf_dec_cascade_reset, [], call.state, [])
 }
 
 pub fn hbf_int_cascade_reset(call: &mut cascade::Reset<240>) -> u64 {
-    with_cascade!(gauge_hbf_int_cascade_reset, [], call.state, [])
+    with_cascade!(gauge_raw_hbf_int_cascade_reset, [], call.state, [])
 }
 
 macro_rules! with_stream {
@@ -130,13 +130,13 @@ macro_rules! with_stream {
 
 pub fn hbf_stream_new(call: &mut hbf_stream::New) -> u64 {
     let depth = call.lent.depth;
-    with_stream!(gauge_hbf_stream_new, [depth], call.answer, [])
+    with_stream!(gauge_raw_hbf_stream_new, [depth], call.answer, [])
 }
 
 pub fn hbf_stream_process_sample(call: &mut hbf_stream::Step) -> u64 {
     let mut made = u64::MAX;
     let refusal = with_stream!(
-        gauge_hbf_stream_process_sample,
+        gauge_raw_hbf_stream_process_sample,
         [],
         call.state,
         [call.lent.sample, &mut made, &mut call.answer.output]
@@ -146,7 +146,7 @@ pub fn hbf_stream_process_sample(call: &mut hbf_stream::Step) -> u64 {
 }
 
 pub fn hbf_stream_reset(call: &mut hbf_stream::Reset) -> u64 {
-    with_stream!(gauge_hbf_stream_reset, [], call.state, [])
+    with_stream!(gauge_raw_hbf_stream_reset, [], call.state, [])
 }
 
 macro_rules! with_resampler {
@@ -164,7 +164,7 @@ macro_rules! with_resampler {
 pub fn polyphase_resamp_from_taps(call: &mut polyphase_resamp::New) -> u64 {
     let (lent, state) = (&call.lent, &mut call.answer);
     with_resampler!(
-        gauge_polyphase_resamp_from_taps,
+        gauge_raw_polyphase_resamp_from_taps,
         [
             lent.phases,
             lent.taps,
@@ -180,7 +180,7 @@ pub fn polyphase_resamp_from_taps(call: &mut polyphase_resamp::New) -> u64 {
 pub fn polyphase_resamp_process_block(call: &mut polyphase_resamp::Block) -> u64 {
     with_buffers!(
         with_resampler,
-        gauge_polyphase_resamp_process_block,
+        gauge_raw_polyphase_resamp_process_block,
         call,
         [taken, written]
     )
@@ -189,7 +189,7 @@ pub fn polyphase_resamp_process_block(call: &mut polyphase_resamp::Block) -> u64
 pub fn polyphase_resamp_push(call: &mut polyphase_resamp::Step) -> u64 {
     let span = &mut call.lent.span.elements;
     with_resampler!(
-        gauge_polyphase_resamp_push,
+        gauge_raw_polyphase_resamp_push,
         [],
         call.state,
         [
@@ -202,5 +202,5 @@ pub fn polyphase_resamp_push(call: &mut polyphase_resamp::Step) -> u64 {
 }
 
 pub fn polyphase_resamp_reset(call: &mut polyphase_resamp::Reset) -> u64 {
-    with_resampler!(gauge_polyphase_resamp_reset, [], call.state, [])
+    with_resampler!(gauge_raw_polyphase_resamp_reset, [], call.state, [])
 }

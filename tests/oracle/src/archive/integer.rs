@@ -31,7 +31,7 @@ macro_rules! with_interpolator {
 
 pub fn cic_decimator_new(call: &mut cic_decimator::New) -> u64 {
     let (lent, state) = (&call.lent, &mut call.answer);
-    with_decimator!(gauge_cic_decimator_new, [lent.stages, lent.r], state, [])
+    with_decimator!(gauge_raw_cic_decimator_new, [lent.stages, lent.r], state, [])
 }
 
 type DecimatorStep = unsafe extern "C" fn(
@@ -55,17 +55,17 @@ fn decimator_step(function: DecimatorStep, call: &mut cic_decimator::Step) -> u6
 }
 
 pub fn cic_decimator_process_sample(call: &mut cic_decimator::Step) -> u64 {
-    decimator_step(gauge_cic_decimator_process_sample, call)
+    decimator_step(gauge_raw_cic_decimator_process_sample, call)
 }
 
 pub fn cic_decimator_process_sample_scaled(call: &mut cic_decimator::Step) -> u64 {
-    decimator_step(gauge_cic_decimator_process_sample_scaled, call)
+    decimator_step(gauge_raw_cic_decimator_process_sample_scaled, call)
 }
 
 pub fn cic_decimator_process_block(call: &mut cic_decimator::Block) -> u64 {
     with_buffers!(
         with_decimator,
-        gauge_cic_decimator_process_block,
+        gauge_raw_cic_decimator_process_block,
         call,
         [taken, written]
     )
@@ -91,22 +91,22 @@ fn decimator_reading<T: Element>(
 }
 
 pub fn cic_decimator_gain(call: &mut cic_decimator::Reading<u64>) -> u64 {
-    decimator_reading(gauge_cic_decimator_gain, call)
+    decimator_reading(gauge_raw_cic_decimator_gain, call)
 }
 
 pub fn cic_decimator_gain_bits(call: &mut cic_decimator::Reading<u32>) -> u64 {
-    decimator_reading(gauge_cic_decimator_gain_bits, call)
+    decimator_reading(gauge_raw_cic_decimator_gain_bits, call)
 }
 
 pub fn cic_interpolator_new(call: &mut cic_interpolator::New) -> u64 {
     let (lent, state) = (&call.lent, &mut call.answer);
-    with_interpolator!(gauge_cic_interpolator_new, [lent.stages, lent.r], state, [])
+    with_interpolator!(gauge_raw_cic_interpolator_new, [lent.stages, lent.r], state, [])
 }
 
 pub fn cic_interpolator_process_sample(call: &mut cic_interpolator::Step) -> u64 {
     let span = &mut call.lent.span.elements;
     with_interpolator!(
-        gauge_cic_interpolator_process_sample,
+        gauge_raw_cic_interpolator_process_sample,
         [],
         call.state,
         [
@@ -137,9 +137,9 @@ fn interpolator_reading<T: Element>(
 }
 
 pub fn cic_interpolator_gain(call: &mut cic_interpolator::Reading<u64>) -> u64 {
-    interpolator_reading(gauge_cic_interpolator_gain, call)
+    interpolator_reading(gauge_raw_cic_interpolator_gain, call)
 }
 
 pub fn cic_interpolator_gain_bits(call: &mut cic_interpolator::Reading<u32>) -> u64 {
-    interpolator_reading(gauge_cic_interpolator_gain_bits, call)
+    interpolator_reading(gauge_raw_cic_interpolator_gain_bits, call)
 }

@@ -40,7 +40,7 @@ macro_rules! with_line {
 pub fn open(call: &mut Open) -> u64 {
     let (settings, line) = (&call.lent, &mut call.answer.0);
     with_line!(
-        gauge_line_open,
+        gauge_raw_line_open,
         [
             settings.stages,
             settings.r,
@@ -60,13 +60,13 @@ pub fn open(call: &mut Open) -> u64 {
 }
 
 pub fn feed(call: &mut Feed) -> u64 {
-    with_buffers!(with_line, gauge_line_feed, call, [taken, written])
+    with_buffers!(with_line, gauge_raw_line_feed, call, [taken, written])
 }
 
 pub fn step(call: &mut Step) -> u64 {
     let samples = &call.lent.samples.elements;
     with_line!(
-        gauge_line_step,
+        gauge_raw_line_step,
         [],
         call.state,
         [
@@ -82,5 +82,5 @@ pub fn step(call: &mut Step) -> u64 {
 }
 
 pub fn reset(call: &mut Reset) -> u64 {
-    with_line!(gauge_line_reset, [], call.state, [])
+    with_line!(gauge_raw_line_reset, [], call.state, [])
 }

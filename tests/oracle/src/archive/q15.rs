@@ -20,7 +20,7 @@ pub fn fir_decimator_new(call: &mut fir_decimator::New) -> u64 {
     let (lent, state) = (&call.lent, &mut call.answer);
     let taps = &lent.taps.elements;
     with_fir!(
-        gauge_fir_decimator_new,
+        gauge_raw_fir_decimator_new,
         [taps.as_ptr(), taps.len() as u64, lent.factor],
         state,
         []
@@ -28,13 +28,13 @@ pub fn fir_decimator_new(call: &mut fir_decimator::New) -> u64 {
 }
 
 pub fn fir_decimator_reset(call: &mut fir_decimator::Reset) -> u64 {
-    with_fir!(gauge_fir_decimator_reset, [], call.state, [])
+    with_fir!(gauge_raw_fir_decimator_reset, [], call.state, [])
 }
 
 pub fn fir_decimator_process_sample(call: &mut fir_decimator::Step) -> u64 {
     let mut made = u64::MAX;
     let refusal = with_fir!(
-        gauge_fir_decimator_process_sample,
+        gauge_raw_fir_decimator_process_sample,
         [],
         call.state,
         [call.lent.sample, &mut made, &mut call.answer.output]
@@ -68,18 +68,18 @@ fn block(function: Block, call: &mut polyphase_q15::Block) -> u64 {
 }
 
 pub fn polyphase_decimate_q15(call: &mut polyphase_q15::Block) -> u64 {
-    block(gauge_polyphase_decimate_q15, call)
+    block(gauge_raw_polyphase_decimate_q15, call)
 }
 
 pub fn polyphase_interpolate_q15(call: &mut polyphase_q15::Block) -> u64 {
-    block(gauge_polyphase_interpolate_q15, call)
+    block(gauge_raw_polyphase_interpolate_q15, call)
 }
 
 pub fn resample_linear_q15(call: &mut linear::Block<i16, i32>) -> u64 {
-    super::linear(gauge_resample_linear_q15, call)
+    super::linear(gauge_raw_resample_linear_q15, call)
 }
 
 pub fn cut_q15(call: &mut values::Cut) -> u64 {
-    unsafe { gauge_cut_q15(call.lent.sample, &mut call.answer.value) }
+    unsafe { gauge_raw_cut_q15(call.lent.sample, &mut call.answer.value) }
     0
 }

@@ -1,0 +1,39 @@
+-- `gauge_raw_fir_decimator_process_sample` meets its contract: it hands over what the layer's `process_sample` answers, field by field.
+use mathlib.Core.Path.{_≡_, ap}
+use lib.IntN.{pos}
+use Rattle.gauge_line.specs.Crossing.{crossed}
+use borrow.Author.Needs.{needs}
+use mir.Syntax.{w16}
+use mir.Val.{SFits}
+use mir.Facts.{toZ-ofZ}
+use Rattle.gauge_line.proofs.fir_decimator.gauge_raw_fir_decimator_process_sample.Statement.{
+  statement,
+}
+use Rattle.gauge_line.proofs.fir_decimator.gauge_raw_fir_decimator_process_sample.Tie as tie
+
+process-sample-requires : tie.Need-process-sample-requires
+process-sample-requires c κs = search needs
+
+fir-made-requires : tie.Need-fir-made-requires
+fir-made-requires c κs = search needs
+
+fir-value-requires : tie.Need-fir-value-requires
+fir-value-requires c κs = search needs
+
+fir-number-requires : tie.Need-fir-number-requires
+fir-number-requires c κs = search needs
+
+returns : tie.Need-returns
+returns c =
+    let f : SFits w16 (c .before .fir-value .result) = record { sfits = c .before .fir-value .ok } in
+    rw (toZ-ofZ f, c .fir-number .ensures, c .before .fir-value .ensures, c .before .before .fir-made .ensures) (ap (crossed (pos 0)) (rw (toZ-ofZ (c .before .before .before .before .before .before .before .before .before .before .before .before .fits .sample)) at (c .before .before .before .before .before .before .process-sample .ensures)))
+
+pub gauge-fir-decimator-process-sample-spec : {M : Type 1} → statement M
+gauge-fir-decimator-process-sample-spec =
+    tie.close
+    (tie.spec
+    process-sample-requires
+    fir-made-requires
+    fir-value-requires
+    fir-number-requires
+    returns)

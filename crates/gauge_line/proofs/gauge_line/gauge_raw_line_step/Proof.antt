@@ -1,0 +1,35 @@
+-- `gauge_raw_line_step` meets its contract: it hands over what the layer's `step_lent` answers, field by field.
+use mathlib.Core.Path.{_≡_, ap}
+use Rattle.gauge_line.specs.Crossing.{crossedStep}
+use borrow.Author.Needs.{needs}
+use Rattle.gauge_line.proofs.gauge_line.gauge_raw_line_step.Statement.{statement}
+use Rattle.gauge_line.proofs.gauge_line.gauge_raw_line_step.Tie as tie
+
+step-lent-requires : tie.Need-step-lent-requires
+step-lent-requires c κs = search needs
+
+step-taken-requires : tie.Need-step-taken-requires
+step-taken-requires c κs = search needs
+
+step-written-requires : tie.Need-step-written-requires
+step-written-requires c κs = search needs
+
+step-value-requires : tie.Need-step-value-requires
+step-value-requires c κs = search needs
+
+step-number-requires : tie.Need-step-number-requires
+step-number-requires c κs = search needs
+
+returns : tie.Need-returns
+returns c = rw (c .step-number .ensures, c .before .step-value .ensures, c .before .before .step-written .ensures, c .before .before .before .step-taken .ensures) (ap crossedStep (c .before .before .before .before .before .step-lent .ensures))
+
+pub gauge-line-step-spec : {M : Type 1} → statement M
+gauge-line-step-spec =
+    tie.close
+    (tie.spec
+    step-lent-requires
+    step-taken-requires
+    step-written-requires
+    step-value-requires
+    step-number-requires
+    returns)

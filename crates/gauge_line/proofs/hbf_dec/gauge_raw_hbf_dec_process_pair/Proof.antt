@@ -1,0 +1,22 @@
+-- `gauge_raw_hbf_dec_process_pair` meets its contract: it hands over what the layer's `process_pair` answers, field by field.
+use mathlib.Core.Path.{_≡_, _∙_}
+use borrow.Author.Needs.{needs}
+use Rattle.gauge_line.proofs.Told.{pair-told}
+use Rattle.gauge_line.proofs.hbf_dec.gauge_raw_hbf_dec_process_pair.Statement.{statement}
+use Rattle.gauge_line.proofs.hbf_dec.gauge_raw_hbf_dec_process_pair.Tie as tie
+
+process-pair-requires : tie.Need-process-pair-requires
+process-pair-requires c κs = search needs
+
+pair-value-requires : tie.Need-pair-value-requires
+pair-value-requires c κs = search needs
+
+pair-number-requires : tie.Need-pair-number-requires
+pair-number-requires c κs = search needs
+
+returns : tie.Need-returns
+returns c = rw (c .pair-number .ensures, c .before .pair-value .ensures) (pair-told (c .before .before .before .before .before .process-pair .result .out) (c .before .before .before .before .before .process-pair .result .state) ∙ c .before .before .before .before .before .process-pair .ensures)
+
+pub gauge-hbf-dec-process-pair-spec : {M : Type 1} → statement M
+gauge-hbf-dec-process-pair-spec =
+    tie.close (tie.spec process-pair-requires pair-value-requires pair-number-requires returns)

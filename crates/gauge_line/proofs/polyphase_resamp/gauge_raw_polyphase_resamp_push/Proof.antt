@@ -1,0 +1,25 @@
+-- `gauge_raw_polyphase_resamp_push` meets its contract: it hands over what the layer's `push_at` answers on the lent state.
+use mathlib.Core.Path.{_≡_}
+use borrow.Author.Needs.{needs}
+use Rattle.gauge_line.proofs.polyphase_resamp.gauge_raw_polyphase_resamp_push.Statement.{statement}
+use Rattle.gauge_line.proofs.polyphase_resamp.gauge_raw_polyphase_resamp_push.Tie as tie
+
+push-at-requires : tie.Need-push-at-requires
+push-at-requires c κs = search needs
+
+count-written-requires : tie.Need-count-written-requires
+count-written-requires c κs = search needs
+
+count-number-requires : tie.Need-count-number-requires
+count-number-requires c κs = search needs
+
+same-length : tie.Need-same-length
+same-length c = search needs
+
+returns : tie.Need-returns
+returns c = let e = c .before .before .before .before .push-at .ensures in rw (c .count-number .ensures, c .before .count-written .ensures) (e .0, e .1)
+
+pub gauge-polyphase-resamp-push-spec : {M : Type 1} → statement M
+gauge-polyphase-resamp-push-spec =
+    tie.close
+    (tie.spec push-at-requires count-written-requires count-number-requires same-length returns)

@@ -1,0 +1,193 @@
+// `CicDecimator`: stages, r, integrators, combs, sample_counter.
+ghost use mathlib.Core.Path.{_≡_};
+ghost use lib.IntN.{pos};
+ghost use lib.ListN.{length};
+ghost use Rattle.integer.specs.Opening.{opening, onState};
+ghost use Rattle.integer.specs.Gain.{gainOf, gainBits};
+ghost use Rattle.integer.specs.CicDecimator as D;
+ghost use Rattle.gauge_line.specs.Crossing.{crossed};
+use crate::answers::bits_number;
+use crate::answers::bits_value;
+use crate::answers::counts_number;
+use crate::answers::counts_taken;
+use crate::answers::counts_written;
+use crate::answers::gain_number;
+use crate::answers::gain_value;
+use crate::answers::opening_number;
+use crate::answers::sum_made;
+use crate::answers::sum_number;
+use crate::answers::sum_value;
+use integer::CicDecimator;
+use integer::cic_decimator::block_at;
+
+#[no_mangle]
+pub extern "C" fn gauge_raw_cic_decimator_new(
+    wanted_stages: usize,
+    wanted_r: usize,
+    stages: &mut usize,
+    r: &mut usize,
+    integrators: &mut [i32; 8],
+    combs: &mut [i32; 8],
+    sample_counter: &mut usize,
+) -> usize
+    ensures { λ n. ⌜ record { number = n; state = D.decimatorOf (now (stages .exit)) (now (r .exit)) (now (integrators .exit)) (now (combs .exit)) (now («sample_counter» .exit)) } ≡ opening D.fresh «wanted_stages» «wanted_r» ⌝ }
+{
+    let opened = CicDecimator::new(wanted_stages, wanted_r);
+    let next = opened.state;
+    let next_integrators = next.integrator_state;
+    let next_combs = next.comb_state;
+    *stages = next.stages;
+    *r = next.r;
+    *integrators = next_integrators;
+    *combs = next_combs;
+    *sample_counter = next.sample_counter;
+    let answer = opened.answer;
+    opening_number(answer)
+}
+
+#[no_mangle]
+pub extern "C" fn gauge_raw_cic_decimator_gain(
+    stages: usize,
+    r: usize,
+    integrators: &[i32; 8],
+    combs: &[i32; 8],
+    sample_counter: usize,
+    gain: &mut u64,
+) -> usize
+    ensures { λ n. ⌜ record { number = n; value = now (gain .exit) } ≡ onState (D.validAt stages r «sample_counter») (gainOf stages r) ⌝ }
+{
+    let lent_integrators = *integrators;
+    let lent_combs = *combs;
+    let state = CicDecimator {
+        stages,
+        r,
+        integrator_state: lent_integrators,
+        comb_state: lent_combs,
+        sample_counter,
+    };
+    let answer = state.gain();
+    *gain = gain_value(answer);
+    gain_number(answer)
+}
+
+#[no_mangle]
+pub extern "C" fn gauge_raw_cic_decimator_gain_bits(
+    stages: usize,
+    r: usize,
+    integrators: &[i32; 8],
+    combs: &[i32; 8],
+    sample_counter: usize,
+    bits: &mut u32,
+) -> usize
+    ensures { λ n. ⌜ record { number = n; value = now (bits .exit) } ≡ onState (D.validAt stages r «sample_counter») (gainBits stages r) ⌝ }
+{
+    let lent_integrators = *integrators;
+    let lent_combs = *combs;
+    let state = CicDecimator {
+        stages,
+        r,
+        integrator_state: lent_integrators,
+        comb_state: lent_combs,
+        sample_counter,
+    };
+    let answer = state.gain_bits();
+    *bits = bits_value(answer);
+    bits_number(answer)
+}
+
+#[no_mangle]
+pub extern "C" fn gauge_raw_cic_decimator_process_sample(
+    stages: &mut usize,
+    r: &mut usize,
+    integrators: &mut [i32; 8],
+    combs: &mut [i32; 8],
+    sample_counter: &mut usize,
+    input: i32,
+    made: &mut usize,
+    sum: &mut i32,
+) -> usize
+    ensures { λ n. ⌜ record { number = n; value = (now (made .exit), now (sum .exit)); state = D.decimatorOf (now (stages .exit)) (now (r .exit)) (now (integrators .exit)) (now (combs .exit)) (now («sample_counter» .exit)) } ≡ crossed (pos 0) (D.step (D.decimatorOf (now (stages .entry)) (now (r .entry)) (now (integrators .entry)) (now (combs .entry)) (now («sample_counter» .entry))) input) ⌝ }
+{
+    let lent_integrators = *integrators;
+    let lent_combs = *combs;
+    let state = CicDecimator {
+        stages: *stages,
+        r: *r,
+        integrator_state: lent_integrators,
+        comb_state: lent_combs,
+        sample_counter: *sample_counter,
+    };
+    let done = state.process_sample(input);
+    let next = done.state;
+    let next_integrators = next.integrator_state;
+    let next_combs = next.comb_state;
+    *stages = next.stages;
+    *r = next.r;
+    *integrators = next_integrators;
+    *combs = next_combs;
+    *sample_counter = next.sample_counter;
+    let output = done.output;
+    *made = sum_made(output);
+    *sum = sum_value(output);
+    sum_number(output)
+}
+
+#[no_mangle]
+pub extern "C" fn gauge_raw_cic_decimator_process_sample_scaled(
+    stages: &mut usize,
+    r: &mut usize,
+    integrators: &mut [i32; 8],
+    combs: &mut [i32; 8],
+    sample_counter: &mut usize,
+    input: i32,
+    made: &mut usize,
+    sum: &mut i32,
+) -> usize
+    ensures { λ n. ⌜ record { number = n; value = (now (made .exit), now (sum .exit)); state = D.decimatorOf (now (stages .exit)) (now (r .exit)) (now (integrators .exit)) (now (combs .exit)) (now («sample_counter» .exit)) } ≡ crossed (pos 0) (D.scaledStep (D.decimatorOf (now (stages .entry)) (now (r .entry)) (now (integrators .entry)) (now (combs .entry)) (now («sample_counter» .entry))) input) ⌝ }
+{
+    let lent_integrators = *integrators;
+    let lent_combs = *combs;
+    let state = CicDecimator {
+        stages: *stages,
+        r: *r,
+        integrator_state: lent_integrators,
+        comb_state: lent_combs,
+        sample_counter: *sample_counter,
+    };
+    let done = state.process_sample_scaled(input);
+    let next = done.state;
+    let next_integrators = next.integrator_state;
+    let next_combs = next.comb_state;
+    *stages = next.stages;
+    *r = next.r;
+    *integrators = next_integrators;
+    *combs = next_combs;
+    *sample_counter = next.sample_counter;
+    let output = done.output;
+    *made = sum_made(output);
+    *sum = sum_value(output);
+    sum_number(output)
+}
+
+#[no_mangle]
+pub extern "C" fn gauge_raw_cic_decimator_process_block(
+    stages: &mut usize,
+    r: &mut usize,
+    integrators: &mut [i32; 8],
+    combs: &mut [i32; 8],
+    sample_counter: &mut usize,
+    src: &[i32],
+    dst: &mut [i32],
+    taken: &mut usize,
+    written: &mut usize,
+) -> usize
+    ensures answer { λ n. ⌜ record { number = n; value = record { taken = now (taken .exit); written = now (written .exit) }; state = D.decimatorOf (now (stages .exit)) (now (r .exit)) (now (integrators .exit)) (now (combs .exit)) (now («sample_counter» .exit)) } ≡ D.block (D.decimatorOf (now (stages .entry)) (now (r .entry)) (now (integrators .entry)) (now (combs .entry)) (now («sample_counter» .entry))) (now (src .entry)) (length (now (dst .entry))) ⌝ }
+    ensures span { λ n. ⌜ now (dst .exit) ≡ D.blockSpan (D.decimatorOf (now (stages .entry)) (now (r .entry)) (now (integrators .entry)) (now (combs .entry)) (now («sample_counter» .entry))) (now (src .entry)) (now (dst .entry)) ⌝ }
+{
+    let moved = block_at(*stages, *r, *sample_counter, integrators, combs, src, dst);
+    *sample_counter = moved.sample_counter;
+    let counts = moved.counts;
+    *taken = counts_taken(counts);
+    *written = counts_written(counts);
+    counts_number(counts)
+}

@@ -1,0 +1,105 @@
+// `FirDecimator`: taps, tap_count, factor, delay, wait.
+ghost use mathlib.Core.Path.{_≡_};
+ghost use lib.IntN.{pos};
+ghost use Rattle.q15.specs.FirDecimator.{firState, firOpened, firReset, firStep};
+ghost use Rattle.gauge_line.specs.Crossing.{crossed};
+use crate::answers::fir_made;
+use crate::answers::fir_number;
+use crate::answers::fir_value;
+use crate::answers::opening_number;
+use q15::FirDecimator;
+use q15::Q15;
+
+#[no_mangle]
+pub extern "C" fn gauge_raw_fir_decimator_new(
+    wanted_taps: &[i16],
+    wanted_factor: usize,
+    taps: &mut [i16; 64],
+    tap_count: &mut usize,
+    factor: &mut usize,
+    delay: &mut [i16; 64],
+    wait: &mut usize,
+) -> usize
+    ensures { λ n. ⌜ record { number = n; state = firState (now (taps .exit)) (now («tap_count» .exit)) (now (factor .exit)) (now (delay .exit)) (now (wait .exit)) } ≡ firOpened (now («wanted_taps» .entry)) «wanted_factor» ⌝ }
+{
+    let opened = FirDecimator::new(wanted_taps, wanted_factor);
+    let next = opened.state;
+    let next_taps = next.taps;
+    let next_delay = next.delay;
+    *taps = next_taps;
+    *tap_count = next.tap_count;
+    *factor = next.factor;
+    *delay = next_delay;
+    *wait = next.wait;
+    let answer = opened.answer;
+    opening_number(answer)
+}
+
+#[no_mangle]
+pub extern "C" fn gauge_raw_fir_decimator_reset(
+    taps: &mut [i16; 64],
+    tap_count: &mut usize,
+    factor: &mut usize,
+    delay: &mut [i16; 64],
+    wait: &mut usize,
+) -> usize
+    ensures { λ n. ⌜ record { number = n; state = firState (now (taps .exit)) (now («tap_count» .exit)) (now (factor .exit)) (now (delay .exit)) (now (wait .exit)) } ≡ firReset (firState (now (taps .entry)) (now («tap_count» .entry)) (now (factor .entry)) (now (delay .entry)) (now (wait .entry))) ⌝ }
+{
+    let lent_taps = *taps;
+    let lent_delay = *delay;
+    let state = FirDecimator {
+        taps: lent_taps,
+        tap_count: *tap_count,
+        factor: *factor,
+        delay: lent_delay,
+        wait: *wait,
+    };
+    let opened = state.reset();
+    let next = opened.state;
+    let next_taps = next.taps;
+    let next_delay = next.delay;
+    *taps = next_taps;
+    *tap_count = next.tap_count;
+    *factor = next.factor;
+    *delay = next_delay;
+    *wait = next.wait;
+    let answer = opened.answer;
+    opening_number(answer)
+}
+
+#[no_mangle]
+pub extern "C" fn gauge_raw_fir_decimator_process_sample(
+    taps: &mut [i16; 64],
+    tap_count: &mut usize,
+    factor: &mut usize,
+    delay: &mut [i16; 64],
+    wait: &mut usize,
+    sample: i16,
+    made: &mut usize,
+    value: &mut i16,
+) -> usize
+    ensures { λ n. ⌜ record { number = n; value = (now (made .exit), now (value .exit)); state = firState (now (taps .exit)) (now («tap_count» .exit)) (now (factor .exit)) (now (delay .exit)) (now (wait .exit)) } ≡ crossed (pos 0) (firStep (firState (now (taps .entry)) (now («tap_count» .entry)) (now (factor .entry)) (now (delay .entry)) (now (wait .entry))) sample) ⌝ }
+{
+    let lent_taps = *taps;
+    let lent_delay = *delay;
+    let state = FirDecimator {
+        taps: lent_taps,
+        tap_count: *tap_count,
+        factor: *factor,
+        delay: lent_delay,
+        wait: *wait,
+    };
+    let done = state.process_sample(Q15(sample));
+    let next = done.state;
+    let next_taps = next.taps;
+    let next_delay = next.delay;
+    *taps = next_taps;
+    *tap_count = next.tap_count;
+    *factor = next.factor;
+    *delay = next_delay;
+    *wait = next.wait;
+    let output = done.output;
+    *made = fir_made(output);
+    *value = fir_value(output);
+    fir_number(output)
+}

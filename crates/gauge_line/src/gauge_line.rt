@@ -1,0 +1,371 @@
+// The gauge line: the fields of its decimator, its FIR, its half-band stages and its resampler, in this order.
+ghost use mathlib.Core.Path.{_≡_};
+ghost use lib.Dec.{ltb};
+ghost use lib.ListN.{length, drop};
+ghost use Rattle.theory.specs.Feeds.{headOf};
+ghost use Rattle.line.specs.Line as L;
+ghost use Rattle.line.specs.Lent.{lineOf};
+ghost use Rattle.line.specs.Demand3.{Demand3};
+ghost use Rattle.gauge_line.specs.Crossing.{crossedStep};
+use crate::answers::counts_number;
+use crate::answers::counts_taken;
+use crate::answers::counts_written;
+use crate::answers::opening_number;
+use crate::answers::step_number;
+use crate::answers::step_taken;
+use crate::answers::step_value;
+use crate::answers::step_written;
+use float::PolyphaseResampF32;
+use half_band::HbfStream;
+use integer::CicDecimator;
+use line::Line;
+use line::LineNumbers;
+use line::Settings;
+use line::feed_lent;
+use line::step_lent;
+use q15::FirDecimator;
+
+#[no_mangle]
+pub extern "C" fn gauge_raw_line_open(
+    wanted_stages: usize,
+    wanted_r: usize,
+    wanted_factor: usize,
+    wanted_depth: usize,
+    wanted_phases: usize,
+    wanted_phase_taps: usize,
+    wanted_step: f32,
+    wanted_taps: &[i16],
+    wanted_prototype: &[f32],
+    stages: &mut usize,
+    r: &mut usize,
+    integrators: &mut [i32; 8],
+    combs: &mut [i32; 8],
+    sample_counter: &mut usize,
+    taps: &mut [i16; 64],
+    tap_count: &mut usize,
+    factor: &mut usize,
+    fir_delay: &mut [i16; 64],
+    wait: &mut usize,
+    depth: &mut usize,
+    delays: &mut [f32; 480],
+    held: &mut [f32; 5],
+    counts: &mut [usize; 5],
+    phases: &mut usize,
+    phase_taps: &mut usize,
+    mu: &mut f32,
+    step: &mut f32,
+    delay: &mut [f32; 16],
+    prototype: &mut [f32; 1024],
+) -> usize
+    ensures { λ n. ⌜ record { number = n; state = lineOf (record { stages = now (stages .exit); r = now (r .exit); «sample_counter» = now («sample_counter» .exit); «tap_count» = now («tap_count» .exit); factor = now (factor .exit); wait = now (wait .exit); depth = now (depth .exit); phases = now (phases .exit); taps = now («phase_taps» .exit); mu = now (mu .exit); step = now (step .exit) }) (now (integrators .exit)) (now (combs .exit)) (now (taps .exit)) (now («fir_delay» .exit)) (now (delays .exit)) (now (held .exit)) (now (counts .exit)) (now (delay .exit)) (now (prototype .exit)) } ≡ L.opened (record { settings = record { stages = «wanted_stages»; r = «wanted_r»; factor = «wanted_factor»; depth = «wanted_depth»; phases = «wanted_phases»; taps = «wanted_phase_taps»; step = «wanted_step» }; taps = now («wanted_taps» .entry); prototype = now («wanted_prototype» .entry) }) ⌝ }
+{
+    let settings = Settings {
+        stages: wanted_stages,
+        r: wanted_r,
+        factor: wanted_factor,
+        depth: wanted_depth,
+        phases: wanted_phases,
+        taps: wanted_phase_taps,
+        step: wanted_step,
+    };
+    let opened = Line::open(settings, wanted_taps, wanted_prototype);
+    let next = opened.line;
+    let cic = next.cic;
+    let fir = next.fir;
+    let half_band = next.half_band;
+    let resampler = next.resampler;
+    let next_integrators = cic.integrator_state;
+    let next_combs = cic.comb_state;
+    let next_taps = fir.taps;
+    let next_fir_delay = fir.delay;
+    let next_delays = half_band.delays;
+    let next_held = half_band.held;
+    let next_counts = half_band.counts;
+    let next_delay = resampler.delay;
+    let next_prototype = resampler.prototype;
+    *stages = cic.stages;
+    *r = cic.r;
+    *integrators = next_integrators;
+    *combs = next_combs;
+    *sample_counter = cic.sample_counter;
+    *taps = next_taps;
+    *tap_count = fir.tap_count;
+    *factor = fir.factor;
+    *fir_delay = next_fir_delay;
+    *wait = fir.wait;
+    *depth = half_band.depth;
+    *delays = next_delays;
+    *held = next_held;
+    *counts = next_counts;
+    *phases = resampler.phases;
+    *phase_taps = resampler.taps;
+    *mu = resampler.mu;
+    *step = resampler.step;
+    *delay = next_delay;
+    *prototype = next_prototype;
+    let answer = opened.answer;
+    opening_number(answer)
+}
+
+#[no_mangle]
+pub extern "C" fn gauge_raw_line_reset(
+    stages: &mut usize,
+    r: &mut usize,
+    integrators: &mut [i32; 8],
+    combs: &mut [i32; 8],
+    sample_counter: &mut usize,
+    taps: &mut [i16; 64],
+    tap_count: &mut usize,
+    factor: &mut usize,
+    fir_delay: &mut [i16; 64],
+    wait: &mut usize,
+    depth: &mut usize,
+    delays: &mut [f32; 480],
+    held: &mut [f32; 5],
+    counts: &mut [usize; 5],
+    phases: &mut usize,
+    phase_taps: &mut usize,
+    mu: &mut f32,
+    step: &mut f32,
+    delay: &mut [f32; 16],
+    prototype: &mut [f32; 1024],
+) -> usize
+    ensures { λ n. ⌜ record { number = n; state = lineOf (record { stages = now (stages .exit); r = now (r .exit); «sample_counter» = now («sample_counter» .exit); «tap_count» = now («tap_count» .exit); factor = now (factor .exit); wait = now (wait .exit); depth = now (depth .exit); phases = now (phases .exit); taps = now («phase_taps» .exit); mu = now (mu .exit); step = now (step .exit) }) (now (integrators .exit)) (now (combs .exit)) (now (taps .exit)) (now («fir_delay» .exit)) (now (delays .exit)) (now (held .exit)) (now (counts .exit)) (now (delay .exit)) (now (prototype .exit)) } ≡ L.reset (lineOf (record { stages = now (stages .entry); r = now (r .entry); «sample_counter» = now («sample_counter» .entry); «tap_count» = now («tap_count» .entry); factor = now (factor .entry); wait = now (wait .entry); depth = now (depth .entry); phases = now (phases .entry); taps = now («phase_taps» .entry); mu = now (mu .entry); step = now (step .entry) }) (now (integrators .entry)) (now (combs .entry)) (now (taps .entry)) (now («fir_delay» .entry)) (now (delays .entry)) (now (held .entry)) (now (counts .entry)) (now (delay .entry)) (now (prototype .entry))) ⌝ }
+{
+    let lent_integrators = *integrators;
+    let lent_combs = *combs;
+    let lent_cic = CicDecimator {
+        stages: *stages,
+        r: *r,
+        integrator_state: lent_integrators,
+        comb_state: lent_combs,
+        sample_counter: *sample_counter,
+    };
+    let lent_taps = *taps;
+    let lent_fir_delay = *fir_delay;
+    let lent_fir = FirDecimator {
+        taps: lent_taps,
+        tap_count: *tap_count,
+        factor: *factor,
+        delay: lent_fir_delay,
+        wait: *wait,
+    };
+    let lent_delays = *delays;
+    let lent_held = *held;
+    let lent_counts = *counts;
+    let lent_half_band = HbfStream {
+        depth: *depth,
+        delays: lent_delays,
+        held: lent_held,
+        counts: lent_counts,
+    };
+    let lent_delay = *delay;
+    let lent_prototype = *prototype;
+    let lent_resampler = PolyphaseResampF32 {
+        phases: *phases,
+        taps: *phase_taps,
+        mu: *mu,
+        step: *step,
+        delay: lent_delay,
+        prototype: lent_prototype,
+    };
+    let line = Line {
+        cic: lent_cic,
+        fir: lent_fir,
+        half_band: lent_half_band,
+        resampler: lent_resampler,
+    };
+    let opened = line.reset();
+    let next = opened.line;
+    let cic = next.cic;
+    let fir = next.fir;
+    let half_band = next.half_band;
+    let resampler = next.resampler;
+    let next_integrators = cic.integrator_state;
+    let next_combs = cic.comb_state;
+    let next_taps = fir.taps;
+    let next_fir_delay = fir.delay;
+    let next_delays = half_band.delays;
+    let next_held = half_band.held;
+    let next_counts = half_band.counts;
+    let next_delay = resampler.delay;
+    let next_prototype = resampler.prototype;
+    *stages = cic.stages;
+    *r = cic.r;
+    *integrators = next_integrators;
+    *combs = next_combs;
+    *sample_counter = cic.sample_counter;
+    *taps = next_taps;
+    *tap_count = fir.tap_count;
+    *factor = fir.factor;
+    *fir_delay = next_fir_delay;
+    *wait = fir.wait;
+    *depth = half_band.depth;
+    *delays = next_delays;
+    *held = next_held;
+    *counts = next_counts;
+    *phases = resampler.phases;
+    *phase_taps = resampler.taps;
+    *mu = resampler.mu;
+    *step = resampler.step;
+    *delay = next_delay;
+    *prototype = next_prototype;
+    let answer = opened.answer;
+    opening_number(answer)
+}
+
+// One step, a place of the span left where `places` is above 0, with the sample at `at` of those lent as the next, if there is one.
+#[no_mangle]
+pub extern "C" fn gauge_raw_line_step(
+    stages: &mut usize,
+    r: &mut usize,
+    integrators: &mut [i32; 8],
+    combs: &mut [i32; 8],
+    sample_counter: &mut usize,
+    taps: &mut [i16; 64],
+    tap_count: &mut usize,
+    factor: &mut usize,
+    fir_delay: &mut [i16; 64],
+    wait: &mut usize,
+    depth: &mut usize,
+    delays: &mut [f32; 480],
+    held: &mut [f32; 5],
+    counts: &mut [usize; 5],
+    phases: &mut usize,
+    phase_taps: &mut usize,
+    mu: &mut f32,
+    step: &mut f32,
+    delay: &mut [f32; 16],
+    prototype: &mut [f32; 1024],
+    samples: &[i32],
+    at: usize,
+    places: usize,
+    taken: &mut usize,
+    written: &mut usize,
+    value: &mut f32,
+) -> usize
+    ensures { λ n. ⌜ record { number = n; value = (now (taken .exit), (now (written .exit), now (value .exit))); state = lineOf (record { stages = now (stages .exit); r = now (r .exit); «sample_counter» = now («sample_counter» .exit); «tap_count» = now («tap_count» .exit); factor = now (factor .exit); wait = now (wait .exit); depth = now (depth .exit); phases = now (phases .exit); taps = now («phase_taps» .exit); mu = now (mu .exit); step = now (step .exit) }) (now (integrators .exit)) (now (combs .exit)) (now (taps .exit)) (now («fir_delay» .exit)) (now (delays .exit)) (now (held .exit)) (now (counts .exit)) (now (delay .exit)) (now (prototype .exit)) } ≡ crossedStep (L.stepOutcome (lineOf (record { stages = now (stages .entry); r = now (r .entry); «sample_counter» = now («sample_counter» .entry); «tap_count» = now («tap_count» .entry); factor = now (factor .entry); wait = now (wait .entry); depth = now (depth .entry); phases = now (phases .entry); taps = now («phase_taps» .entry); mu = now (mu .entry); step = now (step .entry) }) (now (integrators .entry)) (now (combs .entry)) (now (taps .entry)) (now («fir_delay» .entry)) (now (delays .entry)) (now (held .entry)) (now (counts .entry)) (now (delay .entry)) (now (prototype .entry))) (ltb 0 places) (headOf (drop at (now (samples .entry))))) ⌝ }
+{
+    let n = LineNumbers {
+        stages: *stages,
+        r: *r,
+        sample_counter: *sample_counter,
+        tap_count: *tap_count,
+        factor: *factor,
+        wait: *wait,
+        depth: *depth,
+        phases: *phases,
+        taps: *phase_taps,
+        mu: *mu,
+        step: *step,
+    };
+    let done = step_lent(
+        n,
+        integrators,
+        combs,
+        taps,
+        fir_delay,
+        delays,
+        held,
+        counts,
+        delay,
+        prototype,
+        samples,
+        at,
+        0 < places,
+    );
+    let m = done.numbers;
+    *stages = m.stages;
+    *r = m.r;
+    *sample_counter = m.sample_counter;
+    *tap_count = m.tap_count;
+    *factor = m.factor;
+    *wait = m.wait;
+    *depth = m.depth;
+    *phases = m.phases;
+    *phase_taps = m.taps;
+    *mu = m.mu;
+    *step = m.step;
+    let did = done.step;
+    *taken = step_taken(did);
+    *written = step_written(did);
+    *value = step_value(did);
+    step_number(did)
+}
+
+// Steps until stopped. The clause `demand3` is the whole claim over every list of feeds.
+#[no_mangle]
+pub extern "C" fn gauge_raw_line_feed(
+    stages: &mut usize,
+    r: &mut usize,
+    integrators: &mut [i32; 8],
+    combs: &mut [i32; 8],
+    sample_counter: &mut usize,
+    taps: &mut [i16; 64],
+    tap_count: &mut usize,
+    factor: &mut usize,
+    fir_delay: &mut [i16; 64],
+    wait: &mut usize,
+    depth: &mut usize,
+    delays: &mut [f32; 480],
+    held: &mut [f32; 5],
+    counts: &mut [usize; 5],
+    phases: &mut usize,
+    phase_taps: &mut usize,
+    mu: &mut f32,
+    step: &mut f32,
+    delay: &mut [f32; 16],
+    prototype: &mut [f32; 1024],
+    samples: &[i32],
+    out: &mut [f32],
+    taken: &mut usize,
+    written: &mut usize,
+) -> usize
+    ensures answer { λ n. ⌜ record { number = n; value = record { taken = now (taken .exit); written = now (written .exit) }; state = lineOf (record { stages = now (stages .exit); r = now (r .exit); «sample_counter» = now («sample_counter» .exit); «tap_count» = now («tap_count» .exit); factor = now (factor .exit); wait = now (wait .exit); depth = now (depth .exit); phases = now (phases .exit); taps = now («phase_taps» .exit); mu = now (mu .exit); step = now (step .exit) }) (now (integrators .exit)) (now (combs .exit)) (now (taps .exit)) (now («fir_delay» .exit)) (now (delays .exit)) (now (held .exit)) (now (counts .exit)) (now (delay .exit)) (now (prototype .exit)) } ≡ L.feedOutcome (lineOf (record { stages = now (stages .entry); r = now (r .entry); «sample_counter» = now («sample_counter» .entry); «tap_count» = now («tap_count» .entry); factor = now (factor .entry); wait = now (wait .entry); depth = now (depth .entry); phases = now (phases .entry); taps = now («phase_taps» .entry); mu = now (mu .entry); step = now (step .entry) }) (now (integrators .entry)) (now (combs .entry)) (now (taps .entry)) (now («fir_delay» .entry)) (now (delays .entry)) (now (held .entry)) (now (counts .entry)) (now (delay .entry)) (now (prototype .entry))) (now (samples .entry)) (length (now (out .entry))) ⌝ }
+    ensures span { λ n. ⌜ now (out .exit) ≡ L.feedSpan (lineOf (record { stages = now (stages .entry); r = now (r .entry); «sample_counter» = now («sample_counter» .entry); «tap_count» = now («tap_count» .entry); factor = now (factor .entry); wait = now (wait .entry); depth = now (depth .entry); phases = now (phases .entry); taps = now («phase_taps» .entry); mu = now (mu .entry); step = now (step .entry) }) (now (integrators .entry)) (now (combs .entry)) (now (taps .entry)) (now («fir_delay» .entry)) (now (delays .entry)) (now (held .entry)) (now (counts .entry)) (now (delay .entry)) (now (prototype .entry))) (now (samples .entry)) (now (out .entry)) ⌝ }
+    ensures demand3 { λ n. ⌜ Demand3 (lineOf (record { stages = now (stages .entry); r = now (r .entry); «sample_counter» = now («sample_counter» .entry); «tap_count» = now («tap_count» .entry); factor = now (factor .entry); wait = now (wait .entry); depth = now (depth .entry); phases = now (phases .entry); taps = now («phase_taps» .entry); mu = now (mu .entry); step = now (step .entry) }) (now (integrators .entry)) (now (combs .entry)) (now (taps .entry)) (now («fir_delay» .entry)) (now (delays .entry)) (now (held .entry)) (now (counts .entry)) (now (delay .entry)) (now (prototype .entry))) (now (samples .entry)) (now (out .entry)) (now (out .exit)) (record { number = n; value = record { taken = now (taken .exit); written = now (written .exit) }; state = lineOf (record { stages = now (stages .exit); r = now (r .exit); «sample_counter» = now («sample_counter» .exit); «tap_count» = now («tap_count» .exit); factor = now (factor .exit); wait = now (wait .exit); depth = now (depth .exit); phases = now (phases .exit); taps = now («phase_taps» .exit); mu = now (mu .exit); step = now (step .exit) }) (now (integrators .exit)) (now (combs .exit)) (now (taps .exit)) (now («fir_delay» .exit)) (now (delays .exit)) (now (held .exit)) (now (counts .exit)) (now (delay .exit)) (now (prototype .exit)) }) ⌝ }
+{
+    let n = LineNumbers {
+        stages: *stages,
+        r: *r,
+        sample_counter: *sample_counter,
+        tap_count: *tap_count,
+        factor: *factor,
+        wait: *wait,
+        depth: *depth,
+        phases: *phases,
+        taps: *phase_taps,
+        mu: *mu,
+        step: *step,
+    };
+    let done = feed_lent(
+        n,
+        integrators,
+        combs,
+        taps,
+        fir_delay,
+        delays,
+        held,
+        counts,
+        delay,
+        prototype,
+        samples,
+        out,
+    );
+    let m = done.numbers;
+    *stages = m.stages;
+    *r = m.r;
+    *sample_counter = m.sample_counter;
+    *tap_count = m.tap_count;
+    *factor = m.factor;
+    *wait = m.wait;
+    *depth = m.depth;
+    *phases = m.phases;
+    *phase_taps = m.taps;
+    *mu = m.mu;
+    *step = m.step;
+    let moved = done.moved;
+    *taken = counts_taken(moved);
+    *written = counts_written(moved);
+    counts_number(moved)
+}

@@ -1,0 +1,118 @@
+// `HbfDec`: m, coeffs, delay.
+ghost use mathlib.Core.Path.{_≡_};
+ghost use lib.ListN.{length};
+ghost use Rattle.half_band.specs.HbfDec.{decOpening, decReset, decStep, decBlock, decSpan};
+ghost use Rattle.gauge_line.specs.States.{decOf};
+use crate::answers::count_number;
+use crate::answers::count_written;
+use crate::answers::opening_number;
+use crate::answers::pair_number;
+use crate::answers::pair_value;
+use half_band::HbfDec;
+
+#[no_mangle]
+pub extern "C" fn gauge_raw_hbf_dec_new(
+    taps: &[f32],
+    m: &mut usize,
+    coeffs: &mut [f32; 23],
+    delay: &mut [f32; 96],
+) -> usize
+    ensures { λ n. ⌜ record { number = n; state = decOf (now (m .exit)) (now (coeffs .exit)) (now (delay .exit)) } ≡ decOpening (now (taps .entry)) ⌝ }
+{
+    let opened = HbfDec::new(taps);
+    let next = opened.state;
+    let next_coeffs = next.coeffs;
+    let next_delay = next.delay;
+    *m = next.m;
+    *coeffs = next_coeffs;
+    *delay = next_delay;
+    let answer = opened.answer;
+    opening_number(answer)
+}
+
+#[no_mangle]
+pub extern "C" fn gauge_raw_hbf_dec_reset(
+    m: &mut usize,
+    coeffs: &mut [f32; 23],
+    delay: &mut [f32; 96],
+) -> usize
+    ensures { λ n. ⌜ record { number = n; state = decOf (now (m .exit)) (now (coeffs .exit)) (now (delay .exit)) } ≡ decReset (decOf (now (m .entry)) (now (coeffs .entry)) (now (delay .entry))) ⌝ }
+{
+    let lent_coeffs = *coeffs;
+    let lent_delay = *delay;
+    let state = HbfDec {
+        m: *m,
+        coeffs: lent_coeffs,
+        delay: lent_delay,
+    };
+    let opened = state.reset();
+    let next = opened.state;
+    let next_coeffs = next.coeffs;
+    let next_delay = next.delay;
+    *m = next.m;
+    *coeffs = next_coeffs;
+    *delay = next_delay;
+    let answer = opened.answer;
+    opening_number(answer)
+}
+
+#[no_mangle]
+pub extern "C" fn gauge_raw_hbf_dec_process_pair(
+    m: &mut usize,
+    coeffs: &mut [f32; 23],
+    delay: &mut [f32; 96],
+    a: f32,
+    b: f32,
+    value: &mut f32,
+) -> usize
+    ensures { λ n. ⌜ record { number = n; value = now (value .exit); state = decOf (now (m .exit)) (now (coeffs .exit)) (now (delay .exit)) } ≡ decStep (decOf (now (m .entry)) (now (coeffs .entry)) (now (delay .entry))) a b ⌝ }
+{
+    let lent_coeffs = *coeffs;
+    let lent_delay = *delay;
+    let state = HbfDec {
+        m: *m,
+        coeffs: lent_coeffs,
+        delay: lent_delay,
+    };
+    let done = state.process_pair(a, b);
+    let next = done.state;
+    let next_coeffs = next.coeffs;
+    let next_delay = next.delay;
+    *m = next.m;
+    *coeffs = next_coeffs;
+    *delay = next_delay;
+    let out = done.out;
+    *value = pair_value(out);
+    pair_number(out)
+}
+
+#[no_mangle]
+pub extern "C" fn gauge_raw_hbf_dec_process(
+    m: &mut usize,
+    coeffs: &mut [f32; 23],
+    delay: &mut [f32; 96],
+    src: &[f32],
+    dst: &mut [f32],
+    written: &mut usize,
+) -> usize
+    ensures answer { λ n. ⌜ record { number = n; value = now (written .exit); state = decOf (now (m .exit)) (now (coeffs .exit)) (now (delay .exit)) } ≡ decBlock (decOf (now (m .entry)) (now (coeffs .entry)) (now (delay .entry))) (now (src .entry)) (length (now (dst .entry))) ⌝ }
+    ensures span { λ n. ⌜ now (dst .exit) ≡ decSpan (decOf (now (m .entry)) (now (coeffs .entry)) (now (delay .entry))) (now (src .entry)) (now (dst .entry)) ⌝ }
+{
+    let lent_coeffs = *coeffs;
+    let lent_delay = *delay;
+    let state = HbfDec {
+        m: *m,
+        coeffs: lent_coeffs,
+        delay: lent_delay,
+    };
+    let done = state.process(src, dst);
+    let next = done.state;
+    let next_coeffs = next.coeffs;
+    let next_delay = next.delay;
+    *m = next.m;
+    *coeffs = next_coeffs;
+    *delay = next_delay;
+    let answer = done.answer;
+    *written = count_written(answer);
+    count_number(answer)
+}

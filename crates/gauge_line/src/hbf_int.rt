@@ -1,0 +1,120 @@
+// `HbfInt`: m, coeffs, delay.
+ghost use mathlib.Core.Path.{_≡_};
+ghost use lib.ListN.{length};
+ghost use Rattle.half_band.specs.HbfInt.{intOpening, intReset, intStep, intBlock, intSpan};
+ghost use Rattle.gauge_line.specs.States.{intOf};
+use crate::answers::both_even;
+use crate::answers::both_number;
+use crate::answers::both_odd;
+use crate::answers::count_number;
+use crate::answers::count_written;
+use crate::answers::opening_number;
+use half_band::HbfInt;
+
+#[no_mangle]
+pub extern "C" fn gauge_raw_hbf_int_new(
+    taps: &[f32],
+    m: &mut usize,
+    coeffs: &mut [f32; 23],
+    delay: &mut [f32; 48],
+) -> usize
+    ensures { λ n. ⌜ record { number = n; state = intOf (now (m .exit)) (now (coeffs .exit)) (now (delay .exit)) } ≡ intOpening (now (taps .entry)) ⌝ }
+{
+    let opened = HbfInt::new(taps);
+    let next = opened.state;
+    let next_coeffs = next.coeffs;
+    let next_delay = next.delay;
+    *m = next.m;
+    *coeffs = next_coeffs;
+    *delay = next_delay;
+    let answer = opened.answer;
+    opening_number(answer)
+}
+
+#[no_mangle]
+pub extern "C" fn gauge_raw_hbf_int_reset(
+    m: &mut usize,
+    coeffs: &mut [f32; 23],
+    delay: &mut [f32; 48],
+) -> usize
+    ensures { λ n. ⌜ record { number = n; state = intOf (now (m .exit)) (now (coeffs .exit)) (now (delay .exit)) } ≡ intReset (intOf (now (m .entry)) (now (coeffs .entry)) (now (delay .entry))) ⌝ }
+{
+    let lent_coeffs = *coeffs;
+    let lent_delay = *delay;
+    let state = HbfInt {
+        m: *m,
+        coeffs: lent_coeffs,
+        delay: lent_delay,
+    };
+    let opened = state.reset();
+    let next = opened.state;
+    let next_coeffs = next.coeffs;
+    let next_delay = next.delay;
+    *m = next.m;
+    *coeffs = next_coeffs;
+    *delay = next_delay;
+    let answer = opened.answer;
+    opening_number(answer)
+}
+
+#[no_mangle]
+pub extern "C" fn gauge_raw_hbf_int_process_sample(
+    m: &mut usize,
+    coeffs: &mut [f32; 23],
+    delay: &mut [f32; 48],
+    x: f32,
+    even: &mut f32,
+    odd: &mut f32,
+) -> usize
+    ensures { λ n. ⌜ record { number = n; value = (now (even .exit), now (odd .exit)); state = intOf (now (m .exit)) (now (coeffs .exit)) (now (delay .exit)) } ≡ intStep (intOf (now (m .entry)) (now (coeffs .entry)) (now (delay .entry))) x ⌝ }
+{
+    let lent_coeffs = *coeffs;
+    let lent_delay = *delay;
+    let state = HbfInt {
+        m: *m,
+        coeffs: lent_coeffs,
+        delay: lent_delay,
+    };
+    let done = state.process_sample(x);
+    let next = done.state;
+    let next_coeffs = next.coeffs;
+    let next_delay = next.delay;
+    *m = next.m;
+    *coeffs = next_coeffs;
+    *delay = next_delay;
+    let out = done.out;
+    *even = both_even(out);
+    *odd = both_odd(out);
+    both_number(out)
+}
+
+#[no_mangle]
+pub extern "C" fn gauge_raw_hbf_int_process(
+    m: &mut usize,
+    coeffs: &mut [f32; 23],
+    delay: &mut [f32; 48],
+    src: &[f32],
+    dst: &mut [f32],
+    written: &mut usize,
+) -> usize
+    ensures answer { λ n. ⌜ record { number = n; value = now (written .exit); state = intOf (now (m .exit)) (now (coeffs .exit)) (now (delay .exit)) } ≡ intBlock (intOf (now (m .entry)) (now (coeffs .entry)) (now (delay .entry))) (now (src .entry)) (length (now (dst .entry))) ⌝ }
+    ensures span { λ n. ⌜ now (dst .exit) ≡ intSpan (intOf (now (m .entry)) (now (coeffs .entry)) (now (delay .entry))) (now (src .entry)) (now (dst .entry)) ⌝ }
+{
+    let lent_coeffs = *coeffs;
+    let lent_delay = *delay;
+    let state = HbfInt {
+        m: *m,
+        coeffs: lent_coeffs,
+        delay: lent_delay,
+    };
+    let done = state.process(src, dst);
+    let next = done.state;
+    let next_coeffs = next.coeffs;
+    let next_delay = next.delay;
+    *m = next.m;
+    *coeffs = next_coeffs;
+    *delay = next_delay;
+    let answer = done.answer;
+    *written = count_written(answer);
+    count_number(answer)
+}
