@@ -146,6 +146,16 @@ module _ (rule : Rule) (b : List ℕ) (kept k : ℕ) where
       let g : size b k ≤ length (drop (offset b k) b) = simp length-drop (omega (arith, f .before)) in
       rw (entry-part e) (length-take-le (size b k) (drop (offset b k) b) g)
 
+  at-cases : (t : Bool) → eqb (entryNumber rule b kept k) 0 ≡ t → take (length (entry rule b kept k)) (drop (entryOffset rule b kept k) b) ≡ entry rule b kept k
+  at-cases true e =
+      let z = eqb-true (entryNumber rule b kept k) 0 e in
+      rw (entry-length z, offset-kept z) (sym (entry-part z))
+  at-cases false e = rw (entry-none e)
+
+  -- offset and length say where an entry stands
+  pub entry-at : take (length (entry rule b kept k)) (drop (entryOffset rule b kept k) b) ≡ entry rule b kept k
+  entry-at = at-cases (eqb (entryNumber rule b kept k) 0) refl
+
 module _ (rule : Rule) (b : List ℕ) where
   pub bytes-kept : sheetNumber rule b ≡ 0 → keptBytes rule b ≡ b
   unfolding keptBytes
