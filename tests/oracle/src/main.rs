@@ -49,6 +49,7 @@ mod shrink;
 mod simpler;
 mod sizes;
 mod stream;
+mod tap_sheet;
 mod values;
 
 use cascade::Cascade;
@@ -80,7 +81,7 @@ impl Converter {
     }
 }
 
-const CONVERTERS: [Converter; 14] = [
+const CONVERTERS: [Converter; 15] = [
     listed("cic_decimator", cic_decimator::cases).long(cic_decimator::long),
     listed("cic_interpolator", cic_interpolator::cases),
     listed("polyphase_q15", polyphase_q15::cases).long(polyphase_q15::long),
@@ -105,6 +106,7 @@ const CONVERTERS: [Converter; 14] = [
     listed("gauge_line", line_cases::cases)
         .more(line_cases::more)
         .long(line_cases::long),
+    listed("tap_sheet", tap_sheet::cases),
 ];
 
 /// Writes what a comparison found, and answers whether that is no difference.
