@@ -48,37 +48,35 @@ typedef struct {
 
 // A line: its CIC decimator, its FIR, its half-band stages and its resampler. A program reads a member if it likes and
 // writes none.
+// printed: state line
 typedef struct {
     uint64_t stages;
     uint64_t r;
-    int32_t integrators[8];
-    int32_t combs[8];
+    int32_t integrators[GAUGE_MOST_STAGES];
+    int32_t combs[GAUGE_MOST_STAGES];
     uint64_t sample_counter;
-
-    int16_t taps[64];
+    int16_t taps[GAUGE_MOST_TAPS];
     uint64_t tap_count;
     uint64_t factor;
-    int16_t fir_delay[64];
+    int16_t fir_delay[GAUGE_MOST_TAPS];
     uint64_t wait;
-
     uint64_t depth;
-    float delays[480];
-    float held[5];
-    uint64_t counts[5];
-
+    float delays[GAUGE_HBF_DEC_DELAYS];
+    float held[GAUGE_MOST_DEPTH];
+    uint64_t counts[GAUGE_MOST_DEPTH];
     uint64_t phases;
     uint64_t phase_taps;
     float mu;
     float step;
-    float delay[16];
-    float prototype[1024];
+    float delay[GAUGE_MOST_PHASE_TAPS];
+    float prototype[GAUGE_MOST_PROTOTYPE];
 } GaugeLine;
 
-// The members in the order in which they cross.
-#define GAUGE_LINE_FIELDS(l)                                                                                           \
-    &(l)->stages, &(l)->r, (l)->integrators, (l)->combs, &(l)->sample_counter, (l)->taps, &(l)->tap_count,             \
-        &(l)->factor, (l)->fir_delay, &(l)->wait, &(l)->depth, (l)->delays, (l)->held, (l)->counts, &(l)->phases,      \
-        &(l)->phase_taps, &(l)->mu, &(l)->step, (l)->delay, (l)->prototype
+#define GAUGE_LINE_FIELDS(s)                                                                                           \
+    &(s)->stages, &(s)->r, (s)->integrators, (s)->combs, &(s)->sample_counter, (s)->taps, &(s)->tap_count,             \
+        &(s)->factor, (s)->fir_delay, &(s)->wait, &(s)->depth, (s)->delays, (s)->held, (s)->counts, &(s)->phases,      \
+        &(s)->phase_taps, &(s)->mu, &(s)->step, (s)->delay, (s)->prototype
+// printed until here
 
 // Opens a line. `taps` are the FIR's, in Q15 (32768ths), at most GAUGE_MOST_TAPS; none turn the FIR off. `prototype` is
 // the resampler's, phases times phase_taps long, tap t of phase p at t * phases + p. Both are copied.

@@ -13,21 +13,25 @@ extern "C" {
 
 // Fills dst: output i is at i * ratio, rounded to a float, between the two samples there; past the end the last sample.
 // Refusals: 7, 9.
+// printed: function gauge_raw_resample_linear_f32
 uint64_t gauge_raw_resample_linear_f32(
     const float *src, uint64_t src_len, float *dst, uint64_t dst_len, float ratio, uint64_t *written
 );
+// printed until here
 
 // A polyphase resampler. mu is the place of the next output: below 1 it is due.
+// printed: state polyphase_resamp
 typedef struct {
     uint64_t phases;
     uint64_t taps;
     float mu;
     float step;
-    float delay[16];
-    float prototype[1024];
+    float delay[GAUGE_MOST_PHASE_TAPS];
+    float prototype[GAUGE_MOST_PROTOTYPE];
 } GaugePolyphaseResamp;
 
 #define GAUGE_POLYPHASE_RESAMP_FIELDS(s) &(s)->phases, &(s)->taps, &(s)->mu, &(s)->step, (s)->delay, (s)->prototype
+// printed until here
 
 // Opens a resampler of GAUGE_LEAST_PHASES to GAUGE_MOST_PHASES phases of 1 to GAUGE_MOST_PHASE_TAPS taps, `step` input
 // samples for each output, any finite number above zero. Tap t of phase p stands at t * phases + p of the prototype,

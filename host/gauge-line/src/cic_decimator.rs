@@ -1,5 +1,6 @@
 //! The CIC decimator.
 
+use crate::limits::MOST_STAGES;
 use crate::moved::Moved;
 use crate::raw;
 use crate::refusal::{Refusal, answered};
@@ -9,8 +10,8 @@ use crate::refusal::{Refusal, answered};
 pub struct CicDecimator {
     stages: u64,
     r: u64,
-    integrators: [i32; 8],
-    combs: [i32; 8],
+    integrators: [i32; MOST_STAGES],
+    combs: [i32; MOST_STAGES],
     sample_counter: u64,
 }
 
@@ -36,8 +37,8 @@ impl CicDecimator {
         let mut state = CicDecimator {
             stages: 0,
             r: 0,
-            integrators: [0; 8],
-            combs: [0; 8],
+            integrators: [0; MOST_STAGES],
+            combs: [0; MOST_STAGES],
             sample_counter: 0,
         };
         // SAFETY: the fields are this function's own.

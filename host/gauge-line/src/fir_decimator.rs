@@ -1,15 +1,16 @@
 //! The decimating FIR one sample at a time.
 
+use crate::limits::MOST_TAPS;
 use crate::raw;
 use crate::refusal::{Refusal, answered};
 
 /// A FIR on Q15 samples that thins them by a factor, as the line has it.
 #[derive(Clone, Debug, PartialEq, Eq)]
 pub struct FirDecimator {
-    taps: [i16; 64],
+    taps: [i16; MOST_TAPS],
     tap_count: u64,
     factor: u64,
-    delay: [i16; 64],
+    delay: [i16; MOST_TAPS],
     wait: u64,
 }
 
@@ -19,10 +20,10 @@ impl FirDecimator {
     /// Refused: `FirFactor`, `Taps`.
     pub fn new(taps: &[i16], factor: usize) -> Result<FirDecimator, Refusal> {
         let mut state = FirDecimator {
-            taps: [0; 64],
+            taps: [0; MOST_TAPS],
             tap_count: 0,
             factor: 0,
-            delay: [0; 64],
+            delay: [0; MOST_TAPS],
             wait: 0,
         };
         // SAFETY: the pointer is lent with the length of its own slice, and the fields are this function's own.
@@ -97,7 +98,7 @@ mod tests {
         let state = FirDecimator::new(&[11, 12], 7).unwrap();
         assert_eq!((state.tap_count, state.factor, state.wait), (2, 7, 2));
         assert_eq!(state.taps[..3], [11, 12, 0]);
-        assert_eq!(state.delay, [0; 64]);
+        assert_eq!(state.delay, [0; MOST_TAPS]);
     }
 
     #[test]

@@ -1,5 +1,6 @@
 //! The decimating cascade one sample at a time.
 
+use crate::limits::{HBF_DEC_DELAYS, MOST_DEPTH};
 use crate::raw;
 use crate::refusal::{Refusal, answered};
 
@@ -7,9 +8,9 @@ use crate::refusal::{Refusal, answered};
 #[derive(Clone, Debug, PartialEq)]
 pub struct HbfStream {
     depth: u64,
-    delays: [f32; 480],
-    held: [f32; 5],
-    counts: [u64; 5],
+    delays: [f32; HBF_DEC_DELAYS],
+    held: [f32; MOST_DEPTH],
+    counts: [u64; MOST_DEPTH],
 }
 
 impl HbfStream {
@@ -19,9 +20,9 @@ impl HbfStream {
     pub fn new(depth: usize) -> Result<HbfStream, Refusal> {
         let mut state = HbfStream {
             depth: 0,
-            delays: [0.0; 480],
-            held: [0.0; 5],
-            counts: [0; 5],
+            delays: [0.0; HBF_DEC_DELAYS],
+            held: [0.0; MOST_DEPTH],
+            counts: [0; MOST_DEPTH],
         };
         // SAFETY: the fields are this function's own.
         let number = unsafe {

@@ -1,5 +1,8 @@
 //! The gauge line.
 
+use crate::limits::{
+    HBF_DEC_DELAYS, MOST_DEPTH, MOST_PHASE_TAPS, MOST_PROTOTYPE, MOST_STAGES, MOST_TAPS,
+};
 use crate::moved::Moved;
 use crate::raw;
 use crate::refusal::{Refusal, answered};
@@ -53,47 +56,47 @@ pub enum Step {
 pub struct Line {
     stages: u64,
     r: u64,
-    integrators: [i32; 8],
-    combs: [i32; 8],
+    integrators: [i32; MOST_STAGES],
+    combs: [i32; MOST_STAGES],
     sample_counter: u64,
-    taps: [i16; 64],
+    taps: [i16; MOST_TAPS],
     tap_count: u64,
     factor: u64,
-    fir_delay: [i16; 64],
+    fir_delay: [i16; MOST_TAPS],
     wait: u64,
     depth: u64,
-    delays: [f32; 480],
-    held: [f32; 5],
-    counts: [u64; 5],
+    delays: [f32; HBF_DEC_DELAYS],
+    held: [f32; MOST_DEPTH],
+    counts: [u64; MOST_DEPTH],
     phases: u64,
     phase_taps: u64,
     mu: f32,
     step: f32,
-    delay: [f32; 16],
-    prototype: [f32; 1024],
+    delay: [f32; MOST_PHASE_TAPS],
+    prototype: [f32; MOST_PROTOTYPE],
 }
 
 const ZEROS: Line = Line {
     stages: 0,
     r: 0,
-    integrators: [0; 8],
-    combs: [0; 8],
+    integrators: [0; MOST_STAGES],
+    combs: [0; MOST_STAGES],
     sample_counter: 0,
-    taps: [0; 64],
+    taps: [0; MOST_TAPS],
     tap_count: 0,
     factor: 0,
-    fir_delay: [0; 64],
+    fir_delay: [0; MOST_TAPS],
     wait: 0,
     depth: 0,
-    delays: [0.0; 480],
-    held: [0.0; 5],
-    counts: [0; 5],
+    delays: [0.0; HBF_DEC_DELAYS],
+    held: [0.0; MOST_DEPTH],
+    counts: [0; MOST_DEPTH],
     phases: 0,
     phase_taps: 0,
     mu: 0.0,
     step: 0.0,
-    delay: [0.0; 16],
-    prototype: [0.0; 1024],
+    delay: [0.0; MOST_PHASE_TAPS],
+    prototype: [0.0; MOST_PROTOTYPE],
 };
 
 // A function of the archive on a line: what stands before its fields, the fields in the order in which they cross, what stands behind.
@@ -307,7 +310,7 @@ mod tests {
         assert_eq!((line.depth, line.phases, line.phase_taps), (2, 4, 1));
         assert_eq!((line.mu, line.step), (1.0, 1.5));
         assert_eq!(line.taps[..3], [11, 12, 0]);
-        assert_eq!(line.fir_delay, [0; 64]);
+        assert_eq!(line.fir_delay, [0; MOST_TAPS]);
         assert_eq!(line.prototype[..5], [0.1, 0.2, 0.3, 0.4, 0.0]);
     }
 

@@ -1,5 +1,6 @@
 //! The polyphase resampler.
 
+use crate::limits::{MOST_PHASE_TAPS, MOST_PROTOTYPE};
 use crate::moved::Moved;
 use crate::raw;
 use crate::refusal::{Refusal, answered};
@@ -11,8 +12,8 @@ pub struct PolyphaseResampF32 {
     taps: u64,
     mu: f32,
     step: f32,
-    delay: [f32; 16],
-    prototype: [f32; 1024],
+    delay: [f32; MOST_PHASE_TAPS],
+    prototype: [f32; MOST_PROTOTYPE],
 }
 
 // A function of the archive on a resampler: what stands before its fields, the fields in the order in which they cross, what stands behind.
@@ -46,8 +47,8 @@ impl PolyphaseResampF32 {
             taps: 0,
             mu: 0.0,
             step: 0.0,
-            delay: [0.0; 16],
-            prototype: [0.0; 1024],
+            delay: [0.0; MOST_PHASE_TAPS],
+            prototype: [0.0; MOST_PROTOTYPE],
         };
         // SAFETY: the pointer is lent with the length of its own slice, and the fields are this function's own.
         let number = unsafe {
