@@ -110,6 +110,7 @@ impl CicDecimator {
     /// assert_eq!(cic.process_sample(1)?, Some(i32::MIN));
     /// # Ok::<(), gauge_line::Refusal>(())
     /// ```
+    #[inline]
     pub fn process_sample(&mut self, input: i32) -> Result<Option<i32>, Refusal> {
         let (mut made, mut sum) = (0, 0);
         // SAFETY: every place is borrowed for this call alone.
@@ -133,6 +134,7 @@ impl CicDecimator {
     /// assert_eq!(cic.process_sample_scaled(0)?, Some(-1));
     /// # Ok::<(), gauge_line::Refusal>(())
     /// ```
+    #[inline]
     pub fn process_sample_scaled(&mut self, input: i32) -> Result<Option<i32>, Refusal> {
         let (mut made, mut sum) = (0, 0);
         // SAFETY: every place is borrowed for this call alone.
@@ -159,6 +161,7 @@ impl CicDecimator {
     /// assert_eq!(sums, [10, 26, 0]);
     /// # Ok::<(), gauge_line::Refusal>(())
     /// ```
+    #[inline]
     pub fn process_block(&mut self, src: &[i32], dst: &mut [i32]) -> Result<Moved, Refusal> {
         let (mut taken, mut written) = (0, 0);
         // SAFETY: each pointer is lent with the length of its own slice, and the fields are borrowed for this call alone.

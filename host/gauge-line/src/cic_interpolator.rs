@@ -92,6 +92,7 @@ impl CicInterpolator {
     /// assert_eq!(out, [3, 6, 0]);
     /// # Ok::<(), gauge_line::Refusal>(())
     /// ```
+    #[inline]
     pub fn process_sample(&mut self, input: i32, out_buf: &mut [i32]) -> Result<usize, Refusal> {
         let mut written = 0;
         // SAFETY: the pointer is lent with the length of its own slice, and the fields are borrowed for this call alone.

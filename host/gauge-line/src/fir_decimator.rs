@@ -70,6 +70,7 @@ impl FirDecimator {
     /// assert_eq!(outputs, [Ok(None), Ok(Some(200)), Ok(None), Ok(Some(600))]);
     /// # Ok::<(), gauge_line::Refusal>(())
     /// ```
+    #[inline]
     pub fn process_sample(&mut self, sample: i16) -> Result<Option<i16>, Refusal> {
         let (mut made, mut value) = (0, 0);
         // SAFETY: every place is borrowed for this call alone.

@@ -55,6 +55,7 @@ impl HbfDec {
     /// assert_eq!(stage.process_pair(0.0, 0.0)?, 0.25);
     /// # Ok::<(), gauge_line::Refusal>(())
     /// ```
+    #[inline]
     pub fn process_pair(&mut self, a: f32, b: f32) -> Result<f32, Refusal> {
         let mut value = 0.0;
         // SAFETY: every place is borrowed for this call alone.
@@ -82,6 +83,7 @@ impl HbfDec {
     /// assert_eq!(out, [0.25, 0.25, 0.0, 0.0]);
     /// # Ok::<(), gauge_line::Refusal>(())
     /// ```
+    #[inline]
     pub fn process(&mut self, src: &[f32], dst: &mut [f32]) -> Result<usize, Refusal> {
         let mut written = 0;
         // SAFETY: each pointer is lent with the length of its own slice, and the fields are borrowed for this call alone.

@@ -48,6 +48,7 @@ impl HbfDecCascade {
     /// assert!((out[16] - 1.0).abs() < 1e-6);
     /// # Ok::<(), gauge_line::Refusal>(())
     /// ```
+    #[inline]
     pub fn process(&mut self, src: &[f32], dst: &mut [f32]) -> Result<usize, Refusal> {
         let mut written = 0;
         // SAFETY: each pointer is lent with the length of its own slice, and the fields are borrowed for this call alone.

@@ -54,6 +54,7 @@ impl HbfInt {
     /// assert_eq!(stage.process_sample(1.0)?, (1.0, 0.5));
     /// # Ok::<(), gauge_line::Refusal>(())
     /// ```
+    #[inline]
     pub fn process_sample(&mut self, x: f32) -> Result<(f32, f32), Refusal> {
         let (mut even, mut odd) = (0.0, 0.0);
         // SAFETY: every place is borrowed for this call alone.
@@ -81,6 +82,7 @@ impl HbfInt {
     /// assert_eq!(out, [1.0, 0.5, 0.0, 0.5, 0.0]);
     /// # Ok::<(), gauge_line::Refusal>(())
     /// ```
+    #[inline]
     pub fn process(&mut self, src: &[f32], dst: &mut [f32]) -> Result<usize, Refusal> {
         let mut written = 0;
         // SAFETY: each pointer is lent with the length of its own slice, and the fields are borrowed for this call alone.

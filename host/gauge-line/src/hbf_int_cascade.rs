@@ -47,6 +47,7 @@ impl HbfIntCascade {
     /// assert_eq!(cascade.process(&[1.0, 1.0, 1.0], &mut out)?, 8);
     /// # Ok::<(), gauge_line::Refusal>(())
     /// ```
+    #[inline]
     pub fn process(&mut self, src: &[f32], dst: &mut [f32]) -> Result<usize, Refusal> {
         let mut written = 0;
         // SAFETY: each pointer is lent with the length of its own slice, and the fields are borrowed for this call alone.

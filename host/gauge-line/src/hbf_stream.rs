@@ -63,6 +63,7 @@ impl HbfStream {
     /// assert!(stream.process_sample(1.0)?.is_some());
     /// # Ok::<(), gauge_line::Refusal>(())
     /// ```
+    #[inline]
     pub fn process_sample(&mut self, x: f32) -> Result<Option<f32>, Refusal> {
         let (mut made, mut value) = (0, 0.0);
         // SAFETY: every place is borrowed for this call alone.

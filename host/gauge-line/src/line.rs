@@ -185,6 +185,7 @@ impl Line {
     /// assert_eq!(out, [0.25, 0.5, 9.0]);
     /// # Ok::<(), gauge_line::Refusal>(())
     /// ```
+    #[inline]
     pub fn feed(&mut self, samples: &[i32], out: &mut [f32]) -> Result<Moved, Refusal> {
         let (mut taken, mut written) = (0, 0);
         // SAFETY: each pointer is lent with the length of its own slice, and the fields are borrowed for this call alone.
@@ -220,6 +221,7 @@ impl Line {
     /// assert_eq!(line.step(&[16384, 0], 1, true)?, Step::Wrote(-0.5));
     /// # Ok::<(), gauge_line::Refusal>(())
     /// ```
+    #[inline]
     pub fn step(&mut self, samples: &[i32], at: usize, place: bool) -> Result<Step, Refusal> {
         let (mut taken, mut written, mut value) = (0, 0, 0.0);
         // SAFETY: the pointer is lent with the length of its own slice, and the fields are borrowed for this call alone.

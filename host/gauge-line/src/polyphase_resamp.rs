@@ -91,6 +91,7 @@ impl PolyphaseResampF32 {
     /// assert_eq!(out, [-0.5]);
     /// # Ok::<(), gauge_line::Refusal>(())
     /// ```
+    #[inline]
     pub fn process_block(&mut self, src: &[f32], dst: &mut [f32]) -> Result<Moved, Refusal> {
         let (mut taken, mut written) = (0, 0);
         // SAFETY: each pointer is lent with the length of its own slice, and the fields are borrowed for this call alone.
@@ -124,6 +125,7 @@ impl PolyphaseResampF32 {
     /// assert_eq!(out, [-0.5, 0.0, 0.0]);
     /// # Ok::<(), gauge_line::Refusal>(())
     /// ```
+    #[inline]
     pub fn push(&mut self, x: f32, out: &mut [f32]) -> Result<usize, Refusal> {
         let mut written = 0;
         // SAFETY: the pointer is lent with the length of its own slice, and the fields are borrowed for this call alone.

@@ -31,7 +31,7 @@ pub fn laid_out(folder: &str) {
 
 #[test]
 fn layout() {
-    for folder in ["host/gauge-line", "host/bindings", "tests/host"] {
+    for folder in ["host/gauge-line", "host/bindings", "tests/host", "bench"] {
         laid_out(folder);
     }
 }
