@@ -9,6 +9,7 @@
 #ifndef GAUGE_HALF_BAND_H
 #define GAUGE_HALF_BAND_H
 
+#include "gauge_fp.h"
 #include "gauge_raw.h"
 #include "gauge_refusal.h"
 #include <stdint.h>
@@ -186,8 +187,8 @@ typedef struct {
 #define GAUGE_HBF_STREAM_FIELDS(s) &(s)->depth, (s)->delays, (s)->held, (s)->counts
 // printed until here
 
-// Opens a cascade of depth 0 to GAUGE_MOST_DEPTH; 0 is off and hands every sample on.
-// Refusals: 11; the state is then all zeros.
+// Opens a cascade of depth 1 to GAUGE_MOST_DEPTH. Depth 0 is off in the line alone; here it is refused.
+// Refusals: 11; the state is then all zeros, which every call refuses by 15.
 static inline uint64_t GaugeHbfStream_new(GaugeHbfStream *state, uint64_t depth) {
     return gauge_raw_hbf_stream_new(depth, GAUGE_HBF_STREAM_FIELDS(state));
 }

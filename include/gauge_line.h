@@ -1,15 +1,22 @@
 // The gauge line: cell samples in, float levels out, through a CIC decimator, a 16-bit FIR, a cascade of half-band
-// stages and a polyphase resampler. The archive is proved, in crates/gauge_line/src, to do what the comments below say; the
-// inline functions only lend it the members of a struct.
+// stages and a polyphase resampler. The archive is proved, in crates/gauge_line/src, to do what the comments below say;
+// the inline functions only lend it the members of a struct.
 //
 // The caller owns the line and every buffer; nothing is allocated and there is no global state, so two threads may use
-// two lines at once. What no proof covers is the caller: a pointer must point to as many elements as its length says,
-// and what a call writes must not overlap what else is lent to it. A pointer whose length is 0 is not used.
+// two lines at once. What no proof covers is the caller's part:
+//
+// - a pointer points to as many elements as its length says; one whose length is 0 is not used;
+// - what a call writes does not overlap what else is lent to it;
+// - floats are rounded to nearest, and subnormal numbers are kept. -Ofast, -ffast-math and fesetround change that, and
+//   with it the levels, silently: gauge_fp_environment_ok() says whether all is well.
+//
+// Parts of the headers are printed from the archive's own declarations, between the marks `printed`.
 //
 // Link with libgauge_line.a.
 #ifndef GAUGE_LINE_H
 #define GAUGE_LINE_H
 
+#include "gauge_fp.h"
 #include "gauge_raw.h"
 #include "gauge_refusal.h"
 #include <stdint.h>
@@ -20,6 +27,12 @@ extern "C" {
 
 // What a line is opened with, beside its FIR taps and its prototype.
 //
+// Range of samples: sums are modulo 2^32 and are divided by 2^g, where g, the gain bits, is the least with 2^g not
+// below r^stages. From samples of -2^(31 - g) to 2^(31 - g) - 1 every sum is exact. Beyond, a steady sample x comes
+// round as soon as x * r^stages leaves the range of an int32_t: with 3 stages and r = 64, g is 18, a steady 8191 gives a
+// level of 0.25 less a 32768th, 8192 gives -0.25 and 16384 gives 0. Where g is over 16, no sample of the exact range
+// reaches full scale.
+//
 // Depth and passband: a cascade of depth d runs the first d half-band stages of M = 3, 4, 5, 10, 23 taps, as the Rust
 // original does. The long last stage is what makes the passband wide, so only depth 5 holds 140 dB up to 0.4 of the
 // output rate. Computed from the taps:
@@ -29,7 +42,7 @@ extern "C" {
 //   aliases below -140 dB up to, of the output rate    0.037   0.074   0.130   0.260   0.400
 //   level at 0.4 of the output rate, dB                -2.2    -1.9    -1.5    -0.4     0.0
 typedef struct {
-    // CIC stages, 1 to GAUGE_MOST_STAGES.
+    // CIC stages, 1 to GAUGE_MOST_STAGES. With r they set the range of samples, see above.
     uint64_t stages;
     // CIC factor, 1 to GAUGE_MOST_FACTOR. r^stages is at most 2^GAUGE_MOST_GAIN_BITS.
     uint64_t r;
@@ -79,8 +92,8 @@ typedef struct {
 // printed until here
 
 // Opens a line. `taps` are the FIR's, in Q15 (32768ths), at most GAUGE_MOST_TAPS; none turn the FIR off. `prototype` is
-// the resampler's, phases times phase_taps long, tap t of phase p at t * phases + p. Both are copied.
-// A part that is off hands its values on and is all zeros in the line.
+// the resampler's, phases times phase_taps long, tap t of phase p at t * phases + p: gauge_resampler.h says how a filter
+// design is laid into it. Both are copied. A part that is off hands its values on and is all zeros in the line.
 // Refusals: 1, 2, 3, 5, 6, 11, 12, 13, 14; the line is then all zeros.
 static inline uint64_t GaugeLine_open(
     GaugeLine *line, const GaugeSettings *settings, const int16_t *taps, uint64_t taps_len, const float *prototype,
@@ -96,8 +109,10 @@ static inline uint64_t GaugeLine_open(
 // due and no sample is left. Places of out behind the levels stay as they were. Both may be of any length.
 //
 // Over every list of feeds of an opened line: no feed is refused; the levels written so far are the first ones of those
-// that all samples taken so far give when each part is run over them as one list, however they were cut into feeds; and
-// where a place of out stayed unwritten, they are all of them and every sample lent was taken.
+// that all samples taken so far give when each part is run over them as one list, however they were cut into feeds;
+// where a place of out stayed unwritten, they are all of them and every sample lent was taken; and after a feed that
+// filled out and took a sample, the samples taken so far without the last one give fewer levels than were written: no
+// sample is taken before it is needed.
 // Refusals: 15.
 static inline uint64_t GaugeLine_feed(
     GaugeLine *line, const int32_t *samples, uint64_t samples_len, float *out, uint64_t out_len, uint64_t *taken,

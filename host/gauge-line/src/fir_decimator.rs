@@ -15,7 +15,7 @@ pub struct FirDecimator {
 }
 
 impl FirDecimator {
-    /// Opens a FIR of at most 64 taps, which are copied, and a factor of 1 to 4,096. No taps mean off: the factor is not looked at, and every sample is handed on.
+    /// Opens a FIR of 1 to [`MOST_TAPS`] taps, which are copied, and a factor of 1 to 4,096. No taps mean off in the line alone; here they are refused.
     ///
     /// Refused: `FirFactor`, `Taps`.
     pub fn new(taps: &[i16], factor: usize) -> Result<FirDecimator, Refusal> {

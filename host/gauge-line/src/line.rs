@@ -7,10 +7,28 @@ use crate::moved::Moved;
 use crate::raw;
 use crate::refusal::{Refusal, answered};
 
-/// What a line is opened with, beside its FIR taps and its prototype. The limits stand in [`limits`](crate::limits).
+/// What a line is opened with, beside its FIR taps and its prototype. The limits stand in [`limits`](crate::limits). By default each sample makes a level: one stage, every
+/// factor 1, no half-band stages, no resampler.
+///
+/// Range of samples: sums are modulo 2^32 and are divided by 2^g, where g, the gain bits, is the least with 2^g not below r^stages. From samples of −2^(31 − g) to
+/// 2^(31 − g) − 1 every sum is exact. Beyond, a steady sample x comes round as soon as x × r^stages leaves i32. Where g is over 16, no sample of the exact range reaches full scale.
+///
+/// ```
+/// use gauge_line::{Line, Settings};
+///
+/// // 18 gain bits: samples of -8192 to 8191.
+/// let settings = Settings { stages: 3, r: 64, ..Settings::default() };
+/// for (steady, level) in [(8191, 0.25 - 1.0 / 32768.0), (8192, -0.25), (16384, 0.0)] {
+///     let mut line = Line::open(settings, &[], &[])?;
+///     let mut out = [0.0; 4];
+///     line.feed(&[steady; 4 * 64], &mut out)?;
+///     assert_eq!(out[3], level);
+/// }
+/// # Ok::<(), gauge_line::Refusal>(())
+/// ```
 #[derive(Clone, Copy, Debug, PartialEq)]
 pub struct Settings {
-    /// CIC stages, 1 to 8.
+    /// CIC stages, 1 to 8. With r they set the range of samples.
     pub stages: usize,
     /// CIC factor, 1 to 4,096; r^stages is at most 2^31.
     pub r: usize,
@@ -24,6 +42,20 @@ pub struct Settings {
     pub phase_taps: usize,
     /// Input samples for each output of the resampler, 1/64 to 64.
     pub step: f32,
+}
+
+impl Default for Settings {
+    fn default() -> Settings {
+        Settings {
+            stages: 1,
+            r: 1,
+            factor: 1,
+            depth: 0,
+            phases: 0,
+            phase_taps: 0,
+            step: 1.0,
+        }
+    }
 }
 
 /// What one step of the line did.
@@ -130,8 +162,8 @@ macro_rules! on_line {
 }
 
 impl Line {
-    /// Opens a line. `taps` are the FIR's, in Q15 (32768ths), at most 64; none turn the FIR off. `prototype` is the resampler's, phases × phase_taps long, tap t of phase p at
-    /// t × phases + p. Both are copied. A part that is off hands its values on.
+    /// Opens a line. `taps` are the FIR's, in Q15 (32768ths), at most [`MOST_TAPS`]; none turn the FIR off. `prototype` is the resampler's, phases × phase_taps long, tap t of phase p at
+    /// t × phases + p: [`PolyphaseResampF32`](crate::PolyphaseResampF32) says how a filter design is laid into it. Both are copied. A part that is off hands its values on.
     ///
     /// Refused: `Stages`, `Factor`, `GainBits`, `FirFactor`, `Taps`, `Depth`, `Phases`, `Prototype`, `Step`.
     ///
@@ -171,7 +203,8 @@ impl Line {
     /// the levels stay as they were. Both may be of any length.
     ///
     /// Over every list of feeds of an opened line: no feed is refused; the levels written so far are the first ones of those that all samples taken so far give when each part
-    /// is run over them as one list, however they were cut into feeds; and where a place of out stayed unwritten, they are all of them and every sample lent was taken.
+    /// is run over them as one list, however they were cut into feeds; where a place of out stayed unwritten, they are all of them and every sample lent was taken; and after a
+    /// feed that filled out and took a sample, the samples taken so far without the last one give fewer levels than were written: no sample is taken before it is needed.
     ///
     /// Refused: `State`.
     ///
@@ -314,6 +347,14 @@ mod tests {
         assert_eq!(line.taps[..3], [11, 12, 0]);
         assert_eq!(line.fir_delay, [0; MOST_TAPS]);
         assert_eq!(line.prototype[..5], [0.1, 0.2, 0.3, 0.4, 0.0]);
+    }
+
+    #[test]
+    fn by_default_each_sample_makes_a_level() {
+        let mut line = Line::open(Settings::default(), &[], &[]).unwrap();
+        let mut out = [0.0; 2];
+        line.feed(&[16384, -8192], &mut out).unwrap();
+        assert_eq!(out, [0.5, -0.25]);
     }
 
     #[test]

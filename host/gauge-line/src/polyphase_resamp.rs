@@ -6,6 +6,20 @@ use crate::raw;
 use crate::refusal::{Refusal, answered};
 
 /// A polyphase resampler on f32, `step` input samples for each output, with linear interpolation between neighbouring phases.
+///
+/// The prototype: tap t of phase p stands at t × phases + p, and tap t meets the t-th sample before the newest. An output mu after the newest sample reads phase (1 − mu) × phases,
+/// so a later output reads a lower phase. A filter h as design programs give it, for `phases` times the input rate, is therefore laid with each row reversed:
+///
+/// ```text
+/// prototype[t * phases + p] = h[(t + 1) * phases - p]        0 where h has no such place; h[0] is not used
+///
+///          p = 0    1        2        ..   phases - 1
+/// t = 0    h[P]     h[P-1]   h[P-2]   ..   h[1]              P: phases
+/// t = 1    h[2P]    h[2P-1]  h[2P-2]  ..   h[P+1]
+/// ```
+///
+/// Laid in its own order, h makes levels that jump. Phases wrap, as in the Rust original: an output with mu below 1 / phases is drawn between the last phase and phase 0 of the same
+/// samples, and one at mu = 0 is drawn on from phases 0 and 1.
 #[derive(Clone, Debug, PartialEq)]
 pub struct PolyphaseResampF32 {
     phases: u64,
@@ -33,7 +47,7 @@ macro_rules! on_resampler {
 }
 
 impl PolyphaseResampF32 {
-    /// Opens a resampler of 2 to 64 phases of 1 to 16 taps, with any finite step above zero. Tap t of phase p stands at t × phases + p of the prototype, which is copied.
+    /// Opens a resampler of 2 to 64 phases of 1 to 16 taps, with any finite step above zero. The prototype is laid as above and copied.
     ///
     /// Refused: `Phases`, `Prototype`, `Step`.
     pub fn from_taps(

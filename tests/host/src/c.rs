@@ -17,10 +17,10 @@ const STRICT: [&str; 9] = [
     "-g",
 ];
 
-// Compiles a program of one file with these options before it, and says where it is.
+// Compiles a program of one file with these options after the strict ones, and says where it is.
 fn built(compiler: &str, options: &[&str], source: &Path, to: &Path) -> PathBuf {
     let mut compile = command(compiler);
-    compile.args(options).args(STRICT).arg(source);
+    compile.args(STRICT).args(options).arg(source);
     // C++ is asked for by -x, which would take the archive for a source too.
     compile.args(["-x", "none"]).arg(archive());
     printed(compile.arg("-lm").arg("-o").arg(to));
@@ -78,6 +78,31 @@ fn the_example_prints_its_levels() {
 #[test]
 fn every_function_of_the_headers_is_called() {
     in_both("tests/host/readings.c", "", "c_readings");
+}
+
+// valgrind knows one rounding mode and no flushing, so the program is not run under it.
+#[test]
+fn another_environment_of_floats_is_noticed() {
+    let to = scratch("c_environment");
+    let source = Path::new("tests/host/environment.c");
+    for optimised in ["-O0", "-O2", "-O3"] {
+        let program = built("gcc", &["-std=c99", optimised], source, &to.join(optimised));
+        same(optimised, "", &printed(&mut command(&program)));
+    }
+    as_cpp(source, "", &to.join("program"));
+    let others: &[&str] = if cfg!(target_arch = "x86_64") {
+        &["-Ofast", "-ffast-math", "-mfpmath=387"]
+    } else {
+        &[]
+    };
+    for other in others {
+        let program = built("gcc", &["-std=c99", other], source, &to.join(other));
+        assert_eq!(
+            printed(command(&program).arg("at the start")),
+            "0\n",
+            "{other}"
+        );
+    }
 }
 
 #[test]

@@ -43,6 +43,11 @@ fn tests_and_doc_tests() {
 }
 
 #[test]
+fn the_benchmark_compiles() {
+    printed(&mut cargo("check", "bench"));
+}
+
+#[test]
 fn the_example_prints_what_the_c_one_does() {
     let shown = printed(cargo("run", "host/gauge-line").args(["--example", "levels"]));
     same("levels.rs", &read("examples/c/levels.txt"), &shown);
