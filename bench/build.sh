@@ -7,4 +7,4 @@ cd "$(dirname "$0")/.."
 (cd tests/oracle/rust && sha256sum --check --quiet SHA256SUMS)
 GAUGE_ARCHIVE=$(host/archive.sh)
 export GAUGE_ARCHIVE
-CARGO_TARGET_DIR=target/bench cargo build --offline --quiet --release --manifest-path bench/Cargo.toml
+CARGO_TARGET_DIR=${GAUGE_TARGET:-target}/bench cargo build --offline --quiet --release --manifest-path bench/Cargo.toml

@@ -9,7 +9,7 @@ if ! command -v valgrind >/dev/null; then
     exit 1
 fi
 
-bench=target/bench/release/bench
+bench=${GAUGE_TARGET:-target}/bench/release/bench
 log=$(mktemp)
 trap 'rm -f "$log"' EXIT
 

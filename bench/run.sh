@@ -9,4 +9,4 @@ if [[ ${1:-} == --callgrind ]]; then
     shift
     exec bench/instructions.sh "$@"
 fi
-exec target/bench/release/bench "$@"
+exec "${GAUGE_TARGET:-target}/bench/release/bench" "$@"

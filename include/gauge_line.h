@@ -29,8 +29,8 @@ extern "C" {
 //
 // Range of samples: sums are modulo 2^32 and are divided by 2^g, where g, the gain bits, is the least with 2^g not
 // below r^stages. From samples of -2^(31 - g) to 2^(31 - g) - 1 every sum is exact. Beyond, a steady sample x comes
-// round as soon as x * r^stages leaves the range of an int32_t: with 3 stages and r = 64, g is 18, a steady 8191 gives a
-// level of 0.25 less a 32768th, 8192 gives -0.25 and 16384 gives 0. Where g is over 16, no sample of the exact range
+// round as soon as x * r^stages leaves the range of an int32_t: with 3 stages and r = 64, g is 18, a steady 8191 gives
+// a level of 0.25 less a 32768th, 8192 gives -0.25 and 16384 gives 0. Where g is over 16, no sample of the exact range
 // reaches full scale.
 //
 // Depth and passband: a cascade of depth d runs the first d half-band stages of M = 3, 4, 5, 10, 23 taps, as the Rust
@@ -92,8 +92,8 @@ typedef struct {
 // printed until here
 
 // Opens a line. `taps` are the FIR's, in Q15 (32768ths), at most GAUGE_MOST_TAPS; none turn the FIR off. `prototype` is
-// the resampler's, phases times phase_taps long, tap t of phase p at t * phases + p: gauge_resampler.h says how a filter
-// design is laid into it. Both are copied. A part that is off hands its values on and is all zeros in the line.
+// the resampler's, phases times phase_taps long, tap t of phase p at t * phases + p: gauge_resampler.h says how a
+// filter design is laid into it. Both are copied. A part that is off hands its values on and is all zeros in the line.
 // Refusals: 1, 2, 3, 5, 6, 11, 12, 13, 14; the line is then all zeros.
 static inline uint64_t GaugeLine_open(
     GaugeLine *line, const GaugeSettings *settings, const int16_t *taps, uint64_t taps_len, const float *prototype,

@@ -82,34 +82,32 @@ uint64_t gauge_raw_line_reset(
     uint64_t *stages, uint64_t *r, int32_t integrators[GAUGE_MOST_STAGES], int32_t combs[GAUGE_MOST_STAGES],
     uint64_t *sample_counter, int16_t taps[GAUGE_MOST_TAPS], uint64_t *tap_count, uint64_t *factor,
     int16_t fir_delay[GAUGE_MOST_TAPS], uint64_t *wait, uint64_t *depth, float delays[GAUGE_HBF_DEC_DELAYS],
-    float held[GAUGE_MOST_DEPTH], uint64_t counts[GAUGE_MOST_DEPTH], uint64_t *phases, uint64_t *phase_taps,
-    float *mu, float *step, float delay[GAUGE_MOST_PHASE_TAPS], float prototype[GAUGE_MOST_PROTOTYPE]
+    float held[GAUGE_MOST_DEPTH], uint64_t counts[GAUGE_MOST_DEPTH], uint64_t *phases, uint64_t *phase_taps, float *mu,
+    float *step, float delay[GAUGE_MOST_PHASE_TAPS], float prototype[GAUGE_MOST_PROTOTYPE]
 );
 uint64_t gauge_raw_line_step(
     uint64_t *stages, uint64_t *r, int32_t integrators[GAUGE_MOST_STAGES], int32_t combs[GAUGE_MOST_STAGES],
     uint64_t *sample_counter, int16_t taps[GAUGE_MOST_TAPS], uint64_t *tap_count, uint64_t *factor,
     int16_t fir_delay[GAUGE_MOST_TAPS], uint64_t *wait, uint64_t *depth, float delays[GAUGE_HBF_DEC_DELAYS],
-    float held[GAUGE_MOST_DEPTH], uint64_t counts[GAUGE_MOST_DEPTH], uint64_t *phases, uint64_t *phase_taps,
-    float *mu, float *step, float delay[GAUGE_MOST_PHASE_TAPS], float prototype[GAUGE_MOST_PROTOTYPE],
-    const int32_t *samples, uint64_t samples_len, uint64_t at, uint64_t places, uint64_t *taken, uint64_t *written,
-    float *value
+    float held[GAUGE_MOST_DEPTH], uint64_t counts[GAUGE_MOST_DEPTH], uint64_t *phases, uint64_t *phase_taps, float *mu,
+    float *step, float delay[GAUGE_MOST_PHASE_TAPS], float prototype[GAUGE_MOST_PROTOTYPE], const int32_t *samples,
+    uint64_t samples_len, uint64_t at, uint64_t places, uint64_t *taken, uint64_t *written, float *value
 );
 uint64_t gauge_raw_line_feed(
     uint64_t *stages, uint64_t *r, int32_t integrators[GAUGE_MOST_STAGES], int32_t combs[GAUGE_MOST_STAGES],
     uint64_t *sample_counter, int16_t taps[GAUGE_MOST_TAPS], uint64_t *tap_count, uint64_t *factor,
     int16_t fir_delay[GAUGE_MOST_TAPS], uint64_t *wait, uint64_t *depth, float delays[GAUGE_HBF_DEC_DELAYS],
-    float held[GAUGE_MOST_DEPTH], uint64_t counts[GAUGE_MOST_DEPTH], uint64_t *phases, uint64_t *phase_taps,
-    float *mu, float *step, float delay[GAUGE_MOST_PHASE_TAPS], float prototype[GAUGE_MOST_PROTOTYPE],
-    const int32_t *samples, uint64_t samples_len, float *out, uint64_t out_len, uint64_t *taken, uint64_t *written
+    float held[GAUGE_MOST_DEPTH], uint64_t counts[GAUGE_MOST_DEPTH], uint64_t *phases, uint64_t *phase_taps, float *mu,
+    float *step, float delay[GAUGE_MOST_PHASE_TAPS], float prototype[GAUGE_MOST_PROTOTYPE], const int32_t *samples,
+    uint64_t samples_len, float *out, uint64_t out_len, uint64_t *taken, uint64_t *written
 );
 
 uint64_t gauge_raw_hbf_dec_new(
     const float *taps, uint64_t taps_len, uint64_t *m, float coeffs[GAUGE_MOST_HALF_BAND_TAPS],
     float delay[GAUGE_HBF_DEC_DELAY]
 );
-uint64_t gauge_raw_hbf_dec_reset(
-    uint64_t *m, float coeffs[GAUGE_MOST_HALF_BAND_TAPS], float delay[GAUGE_HBF_DEC_DELAY]
-);
+uint64_t
+gauge_raw_hbf_dec_reset(uint64_t *m, float coeffs[GAUGE_MOST_HALF_BAND_TAPS], float delay[GAUGE_HBF_DEC_DELAY]);
 uint64_t gauge_raw_hbf_dec_process_pair(
     uint64_t *m, float coeffs[GAUGE_MOST_HALF_BAND_TAPS], float delay[GAUGE_HBF_DEC_DELAY], float a, float b,
     float *value
@@ -130,9 +128,8 @@ uint64_t gauge_raw_hbf_int_new(
     const float *taps, uint64_t taps_len, uint64_t *m, float coeffs[GAUGE_MOST_HALF_BAND_TAPS],
     float delay[GAUGE_HBF_INT_DELAY]
 );
-uint64_t gauge_raw_hbf_int_reset(
-    uint64_t *m, float coeffs[GAUGE_MOST_HALF_BAND_TAPS], float delay[GAUGE_HBF_INT_DELAY]
-);
+uint64_t
+gauge_raw_hbf_int_reset(uint64_t *m, float coeffs[GAUGE_MOST_HALF_BAND_TAPS], float delay[GAUGE_HBF_INT_DELAY]);
 uint64_t gauge_raw_hbf_int_process_sample(
     uint64_t *m, float coeffs[GAUGE_MOST_HALF_BAND_TAPS], float delay[GAUGE_HBF_INT_DELAY], float x, float *even,
     float *odd

@@ -49,11 +49,42 @@ enum GaugeRefusal {
 
 // The name of a number that a call answered; "unknown" for a number that none answers.
 static inline const char *gauge_refusal_name(uint64_t number) {
-    static const char *const names[] = {
-        "not refused", "Stages", "Factor", "GainBits", "Span", "FirFactor", "Taps", "Samples", "TapsMultiple", "Ratio",
-        "HalfBandTaps", "Depth", "Phases", "Prototype", "Step", "State"
-    };
-    return number < sizeof names / sizeof names[0] ? names[number] : "unknown";
+    switch (number) {
+    case GAUGE_NOT_REFUSED:
+        return "not refused";
+    case GAUGE_REFUSED_STAGES:
+        return "Stages";
+    case GAUGE_REFUSED_FACTOR:
+        return "Factor";
+    case GAUGE_REFUSED_GAIN_BITS:
+        return "GainBits";
+    case GAUGE_REFUSED_SPAN:
+        return "Span";
+    case GAUGE_REFUSED_FIR_FACTOR:
+        return "FirFactor";
+    case GAUGE_REFUSED_TAPS:
+        return "Taps";
+    case GAUGE_REFUSED_SAMPLES:
+        return "Samples";
+    case GAUGE_REFUSED_TAPS_MULTIPLE:
+        return "TapsMultiple";
+    case GAUGE_REFUSED_RATIO:
+        return "Ratio";
+    case GAUGE_REFUSED_HALF_BAND_TAPS:
+        return "HalfBandTaps";
+    case GAUGE_REFUSED_DEPTH:
+        return "Depth";
+    case GAUGE_REFUSED_PHASES:
+        return "Phases";
+    case GAUGE_REFUSED_PROTOTYPE:
+        return "Prototype";
+    case GAUGE_REFUSED_STEP:
+        return "Step";
+    case GAUGE_REFUSED_STATE:
+        return "State";
+    default:
+        return "unknown";
+    }
 }
 // printed until here
 

@@ -84,8 +84,12 @@ pub fn function(function: &Function, limits: &Limits) -> Result<String, String> 
     if line.len() <= WIDTH {
         return Ok(line + "\n");
     }
-    let list = filled(&pieces, ", ", "    ", WIDTH - 4);
-    Ok(format!("{head}\n    {list}\n);\n"))
+    // As clang-format does: the answer goes to a line of its own where the rest then fits in one.
+    if line.len() - answer.len() - 1 <= WIDTH {
+        return Ok(line.replacen(' ', "\n", 1) + "\n");
+    }
+    let list = filled(&pieces, ", ", ("    ", "    "), WIDTH);
+    Ok(format!("{head}\n{list}\n);\n"))
 }
 
 // A slice is a pointer and a length.
@@ -136,38 +140,34 @@ fn lending(head: &str, lent: &[String]) -> String {
     if line.len() <= WIDTH {
         return line;
     }
-    let body = filled(lent, ", ", "        ", WIDTH - 6);
-    let mut lines = vec![head.to_string()];
-    lines.extend(body.lines().enumerate().map(|(place, line)| {
-        if place == 0 {
-            format!("    {line}")
-        } else {
-            line.to_string()
-        }
-    }));
+    let body = filled(lent, ", ", ("    ", "        "), WIDTH - 2);
+    let mut lines: Vec<&str> = [head].into_iter().chain(body.lines()).collect();
     let last = lines.pop().expect("there is a line");
     let mut out: String = lines
         .iter()
         .map(|line| format!("{line:<width$}\\\n", width = WIDTH - 1))
         .collect();
-    out += &last;
+    out += last;
     out
 }
 
 /// The numbers, and a function that names them.
 pub fn refusals(refusals: &Refusals) -> String {
     let mut numbers = String::new();
-    let mut names = vec!["\"not refused\"".to_string()];
+    let mut cases = String::new();
     let last = refusals.all.len();
     for one in &refusals.all {
         let comma = if one.number as usize == last { "" } else { "," };
         let words: Vec<String> = one.in_c.split(' ').map(str::to_string).collect();
-        numbers += &format!("    // {}\n", filled(&words, " ", "    // ", WIDTH - 7));
+        numbers += &filled(&words, " ", ("    // ", "    // "), WIDTH);
+        numbers.push('\n');
         let name = snake(&one.name).to_uppercase();
         numbers += &format!("    GAUGE_REFUSED_{name} = {}{comma}\n", one.number);
-        names.push(format!("\"{}\"", one.name));
+        cases += &format!(
+            "    case GAUGE_REFUSED_{name}:\n        return \"{}\";\n",
+            one.name
+        );
     }
-    let names = filled(&names, ", ", "        ", WIDTH - 8);
     format!(
         "enum GaugeRefusal {{
     // The call did what it was asked to.
@@ -176,10 +176,12 @@ pub fn refusals(refusals: &Refusals) -> String {
 
 // The name of a number that a call answered; \"unknown\" for a number that none answers.
 static inline const char *gauge_refusal_name(uint64_t number) {{
-    static const char *const names[] = {{
-        {names}
-    }};
-    return number < sizeof names / sizeof names[0] ? names[number] : \"unknown\";
+    switch (number) {{
+    case GAUGE_NOT_REFUSED:
+        return \"not refused\";
+{cases}    default:
+        return \"unknown\";
+    }}
 }}
 "
     )

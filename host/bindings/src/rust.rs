@@ -4,6 +4,7 @@ use crate::declared::{Form, Function, Parameter};
 use crate::exported::Exported;
 use crate::limits::Limits;
 use crate::refusals::Refusals;
+use crate::text::filled;
 use std::collections::BTreeSet;
 
 const WIDTH: usize = 100;
@@ -54,8 +55,8 @@ fn imported(names: &[&str]) -> String {
         return line;
     }
     let names: Vec<String> = names.iter().map(|name| name.to_string()).collect();
-    let list = crate::text::filled(&names, ", ", "    ", WIDTH - 5);
-    format!("use crate::limits::{{\n    {list},\n}};\n")
+    let list = filled(&names, ", ", ("    ", "    "), WIDTH - 1);
+    format!("use crate::limits::{{\n{list},\n}};\n")
 }
 
 fn function(

@@ -59,9 +59,14 @@ pub fn capitalised(word: &str) -> String {
     }
 }
 
-/// Pieces behind one another, with `between` between them, in lines of at most `width`; lines after the first begin with `indent`.
-pub fn filled(pieces: &[String], between: &str, indent: &str, width: usize) -> String {
-    let mut lines = vec![String::new()];
+/// Pieces behind one another, with `between` between them, in lines of at most `width`. The first line begins with `first`, the others with `next`.
+pub fn filled(
+    pieces: &[String],
+    between: &str,
+    (first, next): (&str, &str),
+    width: usize,
+) -> String {
+    let mut lines = vec![first.to_string()];
     for (place, piece) in pieces.iter().enumerate() {
         let last = place + 1 == pieces.len();
         let piece = if last {
@@ -70,10 +75,10 @@ pub fn filled(pieces: &[String], between: &str, indent: &str, width: usize) -> S
             format!("{piece}{between}")
         };
         let line = lines.last_mut().expect("there is a line");
-        if line.is_empty() || line.len() + piece.trim_end().len() <= width {
+        if line.len() + piece.trim_end().len() <= width {
             line.push_str(&piece);
         } else {
-            lines.push(format!("{indent}{piece}"));
+            lines.push(format!("{next}{piece}"));
         }
     }
     let trimmed: Vec<&str> = lines.iter().map(|line| line.trim_end()).collect();

@@ -1,7 +1,7 @@
 //! The Rust crates: layout, no warnings, tests and doc tests; the example of gauge-line, which must print what the C one does, and the program of docs/rust.md in a crate beside the repository.
 
 use crate::support::page::blocks;
-use crate::support::{command, printed, read, root, same, scratch};
+use crate::support::{command, printed, read, root, same, scratch, target};
 use std::fs;
 use std::process::Command;
 
@@ -13,7 +13,7 @@ pub fn cargo(subcommand: &str, folder: &str) -> Command {
         .args([subcommand, "--offline", "--quiet", "--manifest-path"])
         .arg(manifest);
     cargo
-        .env("CARGO_TARGET_DIR", root().join("target/host/cargo"))
+        .env("CARGO_TARGET_DIR", target().join("host/cargo"))
         .env("RUSTFLAGS", "-D warnings")
         .env("RUSTDOCFLAGS", "-D warnings");
     cargo
@@ -66,5 +66,6 @@ fn a_crate_beside_the_repository() {
     let manifest = format!("[package]\nname = \"mine\"\nedition = \"2024\"\n\n{dependency}");
     fs::write(beside.join("mine/Cargo.toml"), manifest).unwrap();
     fs::write(beside.join("mine/src/main.rs"), program).unwrap();
-    printed(&mut cargo("run", "target/host/beside/mine"));
+    let mine = beside.join("mine");
+    printed(&mut cargo("run", &mine.to_string_lossy()));
 }

@@ -66,8 +66,8 @@ fn an_edit_of_a_tracked_file_is_found_in_it() {
         (RAW_H, "int32_t input", "int64_t input"),
         (
             RAW_H,
-            "uint64_t gauge_raw_hbf_dec_reset",
-            "void gauge_raw_hbf_dec_reset",
+            "uint64_t gauge_raw_hbf_dec_cascade_reset",
+            "void gauge_raw_hbf_dec_cascade_reset",
         ),
         (
             RAW_H,
@@ -90,7 +90,7 @@ fn an_edit_of_a_tracked_file_is_found_in_it() {
             "GAUGE_REFUSED_STEP = 14",
             "GAUGE_REFUSED_STEP = 13",
         ),
-        (REFUSAL_H, "\"Phases\"", "\"Phase\""),
+        (REFUSAL_H, "return \"Phases\"", "return \"Phase\""),
         (
             "include/gauge_limits.h",
             "GAUGE_MOST_BLOCK 65536",

@@ -2,7 +2,7 @@
 
 use crate::cargo::{cargo, laid_out};
 use crate::support::page::indented;
-use crate::support::{command, printed, read, root, same};
+use crate::support::{command, printed, read, root, same, target};
 
 #[test]
 fn layout() {
@@ -26,11 +26,15 @@ fn prints_and_draws_what_is_stored() {
     same(
         "its picture",
         &read("docs/tail.svg"),
-        &read("target/demo/levels.svg"),
+        &read(target().join("demo/levels.svg")),
     );
     let line = indented("docs/gauge.md", |line| {
         line.starts_with("target") && line.contains("gauge run ")
     });
     let levels = printed(command("bash").args(["-c", &line]));
-    same("gauge run", &read("target/demo/levels.txt"), &levels);
+    same(
+        "gauge run",
+        &read(target().join("demo/levels.txt")),
+        &levels,
+    );
 }

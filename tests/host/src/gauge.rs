@@ -2,7 +2,7 @@
 
 use crate::cargo::{cargo, laid_out};
 use crate::support::page::{blocks, examples};
-use crate::support::{command, printed, root, same, scratch, shown};
+use crate::support::{command, printed, same, scratch, shown, target};
 use std::env;
 use std::fs;
 
@@ -26,7 +26,7 @@ fn examples_of_the_page() {
             fs::write(folder.join(name), block.text).unwrap();
         }
     }
-    let tools = root().join("target/host/cargo/debug");
+    let tools = target().join("host/cargo/debug");
     let path = env::var_os("PATH").unwrap_or_default();
     let path = env::join_paths([tools].into_iter().chain(env::split_paths(&path))).unwrap();
     let on_page = examples("docs/gauge.md", |info| info == "sh");

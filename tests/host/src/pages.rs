@@ -2,8 +2,7 @@
 //! docs/reading-the-proofs.md print what stands behind them.
 
 use crate::support::page::{Example, blocks, examples};
-use crate::support::{command, files, filtered, printed, read, root, same, skipped};
-use std::path::Path;
+use crate::support::{command, files, filtered, printed, read, root, same, skipped, target};
 
 const FOLDERS: [&str; 7] = [
     "crates", "host", "include", "examples", "tests", "bench", "docs",
@@ -203,11 +202,12 @@ fn by_hand(example: &Example, name: &str, edit: &str) {
     same(change, &edited(name, edit), &changed);
     let shown = check.strip_prefix(&format!("rt dev {name} 2>&1 | "));
     let shown = shown.unwrap_or_else(|| panic!("{check} is no check of {name}"));
-    let log = Path::new("target/must-fail")
+    let log = target()
+        .join("must-fail")
         .join(name)
         .join(edit)
         .join(".log");
-    if !root().join(&log).exists() {
+    if !log.exists() {
         return skipped(
             "pages",
             &format!("{name}/{edit} was not tried here, so what is printed of it is not compared"),

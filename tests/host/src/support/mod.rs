@@ -21,9 +21,15 @@ pub fn read(path: impl AsRef<Path>) -> String {
     fs::read_to_string(&path).unwrap_or_else(|why| panic!("{}: {why}", path.display()))
 }
 
+/// The folder for all that is built: the one that GAUGE_TARGET names, else target/.
+pub fn target() -> PathBuf {
+    let named = env::var_os("GAUGE_TARGET").filter(|name| !name.is_empty());
+    root().join(named.unwrap_or_else(|| "target".into()))
+}
+
 /// A folder of this name for what a check makes, empty.
 pub fn scratch(name: &str) -> PathBuf {
-    let folder = root().join("target/host").join(name);
+    let folder = target().join("host").join(name);
     if folder.exists() {
         fs::remove_dir_all(&folder).expect("an old folder can be removed");
     }
