@@ -3,6 +3,7 @@
 
 use crate::support::page::{Example, blocks, examples};
 use crate::support::{command, files, filtered, printed, read, root, same, skipped, target};
+use std::path::PathBuf;
 
 const FOLDERS: [&str; 7] = [
     "crates", "host", "include", "examples", "tests", "bench", "docs",
@@ -185,7 +186,7 @@ fn commands_of_reading_the_proofs() {
     }
 }
 
-// The block changes what the edit changes and takes it back, and what it shows of the check stands in the log of rt's own try of the edit.
+// The block changes what the edit changes and takes it back, and what it shows of the check stands in the log of the edit's try.
 fn by_hand(example: &Example, name: &str, edit: &str) {
     let lines: Vec<&str> = example.text.lines().collect();
     let [change, check, undo] = lines[..] else {
@@ -202,11 +203,7 @@ fn by_hand(example: &Example, name: &str, edit: &str) {
     same(change, &edited(name, edit), &changed);
     let shown = check.strip_prefix(&format!("rt dev {name} 2>&1 | "));
     let shown = shown.unwrap_or_else(|| panic!("{check} is no check of {name}"));
-    let log = target()
-        .join("must-fail")
-        .join(name)
-        .join(edit)
-        .join(".log");
+    let (_, log) = edit_and_log(name, edit);
     if !log.exists() {
         return skipped(
             "pages",
@@ -220,9 +217,28 @@ fn by_hand(example: &Example, name: &str, edit: &str) {
     );
 }
 
+// An edit and the log of its try: of must-fail/, which rt tries, or of edits/, which tests/edits does.
+fn edit_and_log(name: &str, edit: &str) -> (PathBuf, PathBuf) {
+    let folder = root().join("crates").join(name);
+    let by_rt = folder.join("must-fail").join(format!("{edit}.edit"));
+    if by_rt.exists() {
+        let log = target()
+            .join("must-fail")
+            .join(name)
+            .join(edit)
+            .join(".log");
+        return (by_rt, log);
+    }
+    let log = target()
+        .join("edits")
+        .join(name)
+        .join(format!("{edit}.log"));
+    (folder.join("edits").join(format!("{edit}.edit")), log)
+}
+
 // The file that an edit changes, as the edit makes it.
 fn edited(name: &str, edit: &str) -> String {
-    let text = read(format!("crates/{name}/must-fail/{edit}.edit"));
+    let text = read(edit_and_log(name, edit).0);
     let field = |key: &str| {
         let line = text.lines().find_map(|line| line.strip_prefix(key));
         line.unwrap_or_else(|| panic!("{name}/{edit} has no {key}"))
