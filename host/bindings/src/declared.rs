@@ -17,7 +17,7 @@ pub enum Number {
 
 impl Number {
     /// From the name in Rattle, where usize has 64 bits.
-    fn named(name: &str) -> Result<Number, String> {
+    pub fn named(name: &str) -> Result<Number, String> {
         Ok(match name {
             "u8" => Number::U8,
             "u32" => Number::U32,

@@ -38,7 +38,7 @@ impl Exported {
         self.groups.iter().flatten()
     }
 
-    pub fn states(&self) -> Result<Vec<State>, String> {
+    pub fn states(&self) -> Vec<State> {
         let mut states = Vec::new();
         for function in self.functions() {
             let Some(name) = opened(&function.name) else {
@@ -50,7 +50,7 @@ impl Exported {
                 fields: writable.cloned().collect(),
             });
         }
-        Ok(states)
+        states
     }
 
     pub fn parameter(&self, function: &str, parameter: &str) -> Result<&Parameter, String> {

@@ -20,7 +20,7 @@ use refusals::Refusals;
 use std::fs;
 use std::path::{Path, PathBuf};
 
-/// Names the headers and the Rust files beside them that have marked parts.
+/// The folders whose files can have marked parts.
 const MARKED: [&str; 2] = ["include", "host/gauge-line/src"];
 
 /// A tracked file as it should be.
@@ -41,7 +41,7 @@ impl Sources {
     fn read(root: &Path) -> Result<Sources, String> {
         let constants = Constants::read(root)?;
         let exported = Exported::read(root, &constants)?;
-        let limits = Limits::read(&constants, &exported)?;
+        let limits = Limits::read(root, &constants, &exported)?;
         let refusals = Refusals::read(root, &limits)?;
         Ok(Sources {
             exported,
@@ -59,7 +59,7 @@ impl Sources {
                 c::function(function, &self.limits)?,
             );
         }
-        for state in self.exported.states()? {
+        for state in self.exported.states() {
             parts.add("state", &state.name, c::state(&state, &self.limits)?);
         }
         parts.add("refusals", "c", c::refusals(&self.refusals));

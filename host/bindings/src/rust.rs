@@ -42,27 +42,26 @@ pub fn functions(exported: &Exported, limits: &Limits) -> Result<String, String>
     for one in exported.functions() {
         printed += &function(one, limits, &mut used)?;
     }
-    let used: Vec<&str> = used.into_iter().collect();
+    let used: Vec<String> = used.into_iter().collect();
     Ok(format!(
         "{RAW}{}\nunsafe extern \"C\" {{\n{printed}}}\n",
         imported(&used)
     ))
 }
 
-fn imported(names: &[&str]) -> String {
+fn imported(names: &[String]) -> String {
     let line = format!("use crate::limits::{{{}}};\n", names.join(", "));
     if line.len() <= WIDTH + 1 {
         return line;
     }
-    let names: Vec<String> = names.iter().map(|name| name.to_string()).collect();
-    let list = filled(&names, ", ", ("    ", "    "), WIDTH - 1);
+    let list = filled(names, ", ", ("    ", "    "), WIDTH - 1);
     format!("use crate::limits::{{\n{list},\n}};\n")
 }
 
 fn function(
     function: &Function,
     limits: &Limits,
-    used: &mut BTreeSet<&'static str>,
+    used: &mut BTreeSet<String>,
 ) -> Result<String, String> {
     let mut pieces = Vec::new();
     for one in &function.parameters {
@@ -84,7 +83,7 @@ fn function(
 fn parameter(
     one: &Parameter,
     limits: &Limits,
-    used: &mut BTreeSet<&'static str>,
+    used: &mut BTreeSet<String>,
 ) -> Result<Vec<String>, String> {
     let (name, number) = (&one.name, one.number.in_rust());
     let (lent, pointed) = if one.is_writable() {
@@ -97,7 +96,7 @@ fn parameter(
         Form::Place { .. } => vec![format!("{name}: {lent}{number}")],
         Form::Array { length, .. } => {
             let length = limits.length(one.number, length)?;
-            used.insert(length);
+            used.insert(length.to_string());
             vec![format!("{name}: {lent}[{number}; {length}]")]
         }
         Form::Slice { .. } => {

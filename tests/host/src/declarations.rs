@@ -19,6 +19,7 @@ fn copy(name: &str) -> PathBuf {
         "include",
         "host/gauge-line/src",
         "host/bindings/refusals.txt",
+        "host/bindings/limits.txt",
     ];
     printed(
         command("cp")
@@ -176,7 +177,7 @@ fn what_is_missing_is_named() {
             "crates/gauge_line/src/values.rt",
             "[f32; 45]",
             "[i16; 45]",
-            "length 45 of i16",
+            "array of 45 i16",
         ),
         (
             "crates/refusal/src/rows.rt",
@@ -189,6 +190,12 @@ fn what_is_missing_is_named() {
             "Refusal::Step => 14",
             "Refusal::Step => 16",
             "differently",
+        ),
+        (
+            "host/bindings/limits.txt",
+            "MOST_TAPS = q15::MOST_TAPS (i16)",
+            "MOST_TAPS = q15::MOST_TAPS",
+            "array of 64 i16",
         ),
         (
             "host/bindings/refusals.txt",
