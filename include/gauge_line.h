@@ -21,6 +21,8 @@
 #include "gauge_refusal.h"
 #include <stdint.h>
 
+#define GAUGE_VERSION "0.2.0"
+
 #ifdef __cplusplus
 extern "C" {
 #endif

@@ -48,6 +48,9 @@ pub use values::{
     cut_q15, hbf_dec_response_length, hbf_int_response_length, hbf_tap_table, q15_to_f32,
 };
 
+/// The version of the crate and of its archive.
+pub const VERSION: &str = env!("CARGO_PKG_VERSION");
+
 // The page's examples are doc tests too.
 #[cfg(doctest)]
 #[doc = include_str!("../../../docs/rust.md")]
