@@ -116,15 +116,11 @@ impl Scope<'_> {
         if !path.iter().all(|part| text::is_name(part)) {
             return Err(format!("{word} is not a whole number"));
         }
-        let own = &self.file.crate_name;
-        let (crate_name, name) = match (path.as_slice(), self.file.used.get(word)) {
-            (_, Some((from, name))) => (from, name.as_str()),
-            ([name], None) | (["crate", .., name], None) => (own, *name),
-            (_, None) => {
-                return self
-                    .constants
-                    .whole(self.constants.find(path[0], path[path.len() - 1])?);
-            }
+        let (first, last) = (path[0], path[path.len() - 1]);
+        let (crate_name, name) = match self.file.used.get(word) {
+            Some((from, name)) => (from.as_str(), name.as_str()),
+            None if path.len() == 1 || first == "crate" => (self.file.crate_name.as_str(), last),
+            None => (first, last),
         };
         self.constants.whole(self.constants.find(crate_name, name)?)
     }
@@ -147,11 +143,11 @@ fn file_of(crate_name: &str, code: &str) -> File {
     let statements = code.split(';').map(str::trim);
     for path in statements.filter_map(|statement| statement.strip_prefix("use ")) {
         let (path, alias) = path.split_once(" as ").unwrap_or((path, ""));
-        let (from, name) = (path.split("::").next(), path.split("::").last());
-        let (Some(from), Some(name)) = (from, name) else {
+        let Some((from, name)) = path.split_once("::") else {
             continue;
         };
         let from = if from == "crate" { crate_name } else { from };
+        let name = name.rsplit("::").next().unwrap_or(name);
         let known = if alias.is_empty() { name } else { alias };
         let meant = (from.trim().to_string(), name.trim().to_string());
         file.used.insert(known.trim().to_string(), meant);

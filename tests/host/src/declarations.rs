@@ -155,6 +155,36 @@ fn an_edit_of_a_limit_is_found_in_both_languages() {
     );
 }
 
+// With lengths by name, through a use or by their path, nothing is printed differently, and a constant that moves moves the limits alone.
+#[test]
+fn a_length_by_name_moves_with_its_constant() {
+    let tree = copy("named");
+    let (fir, line) = (
+        "crates/gauge_line/src/fir_decimator.rt",
+        "crates/gauge_line/src/gauge_line.rt",
+    );
+    edit(&tree, fir, "[i16; 64]", "[i16; q15::MOST_TAPS]");
+    edit(&tree, line, "[i16; 64]", "[i16; MOST_TAPS]");
+    let named = fs::read_to_string(tree.join(line)).unwrap();
+    fs::write(
+        tree.join(line),
+        format!("use q15::fir_decimator::MOST_TAPS;\n{named}"),
+    )
+    .unwrap();
+    bindings::check(&tree).unwrap();
+    let moved = (
+        "crates/q15/src/fir_decimator.rt",
+        "MOST_TAPS: usize = 64",
+        "MOST_TAPS: usize = 2 * 64",
+    );
+    let said = said(&tree, moved);
+    assert!(
+        said.contains("include/gauge_limits.h:") && said.contains("limits.rs:"),
+        "{said}"
+    );
+    assert!(!said.contains(RAW_H) && !said.contains(RAW_RS), "{said}");
+}
+
 // What the program cannot print stops it, with what is missing.
 #[test]
 fn what_is_missing_is_named() {
