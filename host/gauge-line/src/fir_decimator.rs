@@ -113,9 +113,18 @@ mod tests {
     }
 
     #[test]
-    fn no_taps_mean_off() {
-        let mut state = FirDecimator::new(&[], 0).unwrap();
-        assert_eq!(state.process_sample(5), Ok(Some(5)));
+    fn no_taps_are_refused() {
+        assert_eq!(FirDecimator::new(&[], 1), Err(Refusal::Taps));
+        assert_eq!(FirDecimator::new(&[], 0), Err(Refusal::FirFactor));
+    }
+
+    #[test]
+    fn zeros_are_refused() {
+        let mut state = FirDecimator::new(&[11], 1).unwrap();
+        (state.taps, state.tap_count) = ([0; MOST_TAPS], 0);
+        (state.factor, state.wait) = (0, 0);
+        assert_eq!(state.process_sample(5), Err(Refusal::State));
+        assert_eq!(state.reset(), Err(Refusal::State));
     }
 
     #[test]

@@ -111,6 +111,15 @@ mod tests {
     }
 
     #[test]
+    fn no_stages_are_refused() {
+        assert_eq!(HbfStream::new(0), Err(Refusal::Depth));
+        let mut state = HbfStream::new(1).unwrap();
+        state.depth = 0;
+        assert_eq!(state.process_sample(3.0), Err(Refusal::State));
+        assert_eq!(state.reset(), Err(Refusal::State));
+    }
+
+    #[test]
     fn two_held_samples_are_refused() {
         let mut state = HbfStream::new(2).unwrap();
         state.counts[1] = 2;
