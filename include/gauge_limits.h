@@ -1,6 +1,6 @@
 // The limits past which a call is refused, and the lengths of the arrays in a state.
 //
-// Printed by host/bindings from the constants of crates/.
+// Printed by host/bindings/run.sh from the constants of crates/.
 #ifndef GAUGE_LIMITS_H
 #define GAUGE_LIMITS_H
 

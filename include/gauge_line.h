@@ -10,7 +10,7 @@
 // - floats are rounded to nearest, and subnormal numbers are kept. -Ofast, -ffast-math and fesetround change that, and
 //   with it the levels, silently: gauge_fp_environment_ok() says whether all is well.
 //
-// Parts of the headers are printed from the archive's own declarations, between the marks `printed`.
+// Parts of the headers are printed by host/bindings/run.sh from the archive's own declarations, between marks.
 //
 // Link with libgauge_line.a.
 #ifndef GAUGE_LINE_H

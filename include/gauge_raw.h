@@ -2,7 +2,7 @@
 // struct instead: gauge_line.h, gauge_cic.h, gauge_q15.h, gauge_half_band.h and gauge_resampler.h have them, with
 // their contracts.
 //
-// Printed by host/bindings from what crates/gauge_line/src exports.
+// Printed by host/bindings/run.sh from what crates/gauge_line/src exports.
 #ifndef GAUGE_RAW_H
 #define GAUGE_RAW_H
 

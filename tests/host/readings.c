@@ -148,7 +148,7 @@ static void half_band_cascades(void) {
 }
 
 static void half_band_values(void) {
-    float taps[45];
+    float taps[GAUGE_HBF_TABLE];
     uint64_t length;
     gauge_raw_hbf_tap_table(taps);
     CHECK(taps[42] == 0.01186105f && taps[44] == 0.58622005f);

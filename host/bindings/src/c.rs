@@ -14,7 +14,7 @@ const RAW: &str = "\
 // struct instead: gauge_line.h, gauge_cic.h, gauge_q15.h, gauge_half_band.h and gauge_resampler.h have them, with
 // their contracts.
 //
-// Printed by host/bindings from what crates/gauge_line/src exports.
+// Printed by host/bindings/run.sh from what crates/gauge_line/src exports.
 #ifndef GAUGE_RAW_H
 #define GAUGE_RAW_H
 
@@ -37,7 +37,7 @@ const RAW_END: &str = "
 const LIMITS: &str = "\
 // The limits past which a call is refused, and the lengths of the arrays in a state.
 //
-// Printed by host/bindings from the constants of crates/.
+// Printed by host/bindings/run.sh from the constants of crates/.
 #ifndef GAUGE_LIMITS_H
 #define GAUGE_LIMITS_H
 

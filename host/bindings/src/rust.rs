@@ -14,14 +14,14 @@ const TUPLE: usize = 60;
 const RAW: &str = "\
 //! The archive's functions as they are exported: crates/gauge_line/src has their contracts. A slice is a pointer and a length; a state is its fields, each lent.
 //!
-//! Printed by host/bindings from there.
+//! Printed by host/bindings/run.sh from there.
 
 ";
 
 const LIMITS: &str = "\
 //! The limits past which an opening or a block is refused, and the lengths of the arrays in a state.
 //!
-//! Printed by host/bindings from the constants of crates/.
+//! Printed by host/bindings/run.sh from the constants of crates/.
 
 ";
 

@@ -1,6 +1,6 @@
 //! The limits past which an opening or a block is refused, and the lengths of the arrays in a state.
 //!
-//! Printed by host/bindings from the constants of crates/.
+//! Printed by host/bindings/run.sh from the constants of crates/.
 
 /// Stages of a CIC converter, from 1.
 pub const MOST_STAGES: usize = 8;

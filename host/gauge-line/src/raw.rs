@@ -1,6 +1,6 @@
 //! The archive's functions as they are exported: crates/gauge_line/src has their contracts. A slice is a pointer and a length; a state is its fields, each lent.
 //!
-//! Printed by host/bindings from there.
+//! Printed by host/bindings/run.sh from there.
 
 use crate::limits::{
     HBF_DEC_DELAY, HBF_DEC_DELAYS, HBF_INT_DELAY, HBF_INT_DELAYS, HBF_TABLE, MOST_DEPTH,

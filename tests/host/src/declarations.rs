@@ -7,7 +7,7 @@ use std::path::{Path, PathBuf};
 #[test]
 fn the_bindings_are_as_printed() {
     if let Err(why) = bindings::check(&root()) {
-        panic!("{why}\n`cargo run --manifest-path host/bindings/Cargo.toml` prints them again");
+        panic!("{why}\nhost/bindings/run.sh prints them again");
     }
 }
 
