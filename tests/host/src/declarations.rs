@@ -49,61 +49,63 @@ const RAW_H: &str = "include/gauge_raw.h";
 const RAW_RS: &str = "host/gauge-line/src/raw.rs";
 const REFUSAL_H: &str = "include/gauge_refusal.h";
 
+// File, text, what takes its place.
+const TRACKED: [(&str, &str, &str); 17] = [
+    (
+        RAW_H,
+        "uint64_t *taken, uint64_t *written",
+        "uint64_t *written, uint64_t *taken",
+    ),
+    (RAW_H, "const float *src", "float *src"),
+    (
+        RAW_H,
+        "int32_t combs[GAUGE_MOST_STAGES]",
+        "int32_t combs[7]",
+    ),
+    (RAW_H, "int32_t input", "int64_t input"),
+    (
+        RAW_H,
+        "uint64_t gauge_raw_hbf_dec_cascade_reset",
+        "void gauge_raw_hbf_dec_cascade_reset",
+    ),
+    (
+        RAW_H,
+        "uint64_t gauge_raw_hbf_stream_reset",
+        "// uint64_t gauge_raw_hbf_stream_reset",
+    ),
+    ("include/gauge_q15.h", "uint64_t coeffs_len, ", ""),
+    (
+        "include/gauge_line.h",
+        "    uint64_t wait;",
+        "    uint32_t wait;",
+    ),
+    (
+        "include/gauge_line.h",
+        "&(s)->factor, (s)->fir_delay, &(s)->wait",
+        "&(s)->wait, (s)->fir_delay, &(s)->factor",
+    ),
+    (
+        REFUSAL_H,
+        "GAUGE_REFUSED_STEP = 14",
+        "GAUGE_REFUSED_STEP = 13",
+    ),
+    (REFUSAL_H, "return \"Phases\"", "return \"Phase\""),
+    (
+        "include/gauge_limits.h",
+        "GAUGE_MOST_BLOCK 65536",
+        "GAUGE_MOST_BLOCK 65535",
+    ),
+    ("host/gauge-line/src/refusal.rs", "Ratio = 9", "Ratio = 19"),
+    ("host/gauge-line/src/limits.rs", "= 4096", "= 4095"),
+    (RAW_RS, "wanted_depth: u64", "wanted_depth: usize"),
+    (RAW_RS, "sum: &mut i32", "sum: &mut i64"),
+    (RAW_RS, "ratio: f32,", ""),
+];
+
 #[test]
 fn an_edit_of_a_tracked_file_is_found_in_it() {
     let tree = copy("edited");
-    let edits = [
-        (
-            RAW_H,
-            "uint64_t *taken, uint64_t *written",
-            "uint64_t *written, uint64_t *taken",
-        ),
-        (RAW_H, "const float *src", "float *src"),
-        (
-            RAW_H,
-            "int32_t combs[GAUGE_MOST_STAGES]",
-            "int32_t combs[7]",
-        ),
-        (RAW_H, "int32_t input", "int64_t input"),
-        (
-            RAW_H,
-            "uint64_t gauge_raw_hbf_dec_cascade_reset",
-            "void gauge_raw_hbf_dec_cascade_reset",
-        ),
-        (
-            RAW_H,
-            "uint64_t gauge_raw_hbf_stream_reset",
-            "// uint64_t gauge_raw_hbf_stream_reset",
-        ),
-        ("include/gauge_q15.h", "uint64_t coeffs_len, ", ""),
-        (
-            "include/gauge_line.h",
-            "    uint64_t wait;",
-            "    uint32_t wait;",
-        ),
-        (
-            "include/gauge_line.h",
-            "&(s)->factor, (s)->fir_delay, &(s)->wait",
-            "&(s)->wait, (s)->fir_delay, &(s)->factor",
-        ),
-        (
-            REFUSAL_H,
-            "GAUGE_REFUSED_STEP = 14",
-            "GAUGE_REFUSED_STEP = 13",
-        ),
-        (REFUSAL_H, "return \"Phases\"", "return \"Phase\""),
-        (
-            "include/gauge_limits.h",
-            "GAUGE_MOST_BLOCK 65536",
-            "GAUGE_MOST_BLOCK 65535",
-        ),
-        ("host/gauge-line/src/refusal.rs", "Ratio = 9", "Ratio = 19"),
-        ("host/gauge-line/src/limits.rs", "= 4096", "= 4095"),
-        (RAW_RS, "wanted_depth: u64", "wanted_depth: usize"),
-        (RAW_RS, "sum: &mut i32", "sum: &mut i64"),
-        (RAW_RS, "ratio: f32,", ""),
-    ];
-    for edit in edits {
+    for edit in TRACKED {
         let said = said(&tree, edit);
         assert!(said.starts_with(edit.0), "{said}");
     }
@@ -145,14 +147,26 @@ fn an_edit_of_a_limit_is_found_in_both_languages() {
     let tree = copy("limits");
     let rows = (
         "crates/refusal/src/rows.rt",
-        "MOST_BLOCK: usize = 65536",
-        "MOST_BLOCK: usize = 65535",
+        "MOST_BLOCK: usize = ",
+        "MOST_BLOCK: usize = 2 * ",
     );
     let said = said(&tree, rows);
     assert!(
         said.contains("include/gauge_limits.h:") && said.contains("limits.rs:"),
         "{said}"
     );
+}
+
+// The declarations with every array of i16 of this length.
+fn of_length(declared: &str, length: &str) -> String {
+    let mut pieces = declared.split("[i16; ");
+    let first = pieces.next().unwrap_or_default();
+    let behind = pieces.filter_map(|piece| piece.split_once(']'));
+    let arrays: String = behind
+        .map(|(_, rest)| format!("[i16; {length}]{rest}"))
+        .collect();
+    assert!(!arrays.is_empty(), "no array of i16");
+    format!("{first}{arrays}")
 }
 
 // With lengths by name, through a use or by their path, nothing is printed differently, and a constant that moves moves the limits alone.
@@ -163,9 +177,8 @@ fn a_length_by_name_moves_with_its_constant() {
         "crates/gauge_line/src/fir_decimator.rt",
         "crates/gauge_line/src/gauge_line.rt",
     );
-    edit(&tree, fir, "[i16; 64]", "[i16; q15::MOST_TAPS]");
-    edit(&tree, line, "[i16; 64]", "[i16; MOST_TAPS]");
-    let named = fs::read_to_string(tree.join(line)).unwrap();
+    fs::write(tree.join(fir), of_length(&read(fir), "q15::MOST_TAPS")).unwrap();
+    let named = of_length(&read(line), "MOST_TAPS");
     fs::write(
         tree.join(line),
         format!("use q15::fir_decimator::MOST_TAPS;\n{named}"),
@@ -174,8 +187,8 @@ fn a_length_by_name_moves_with_its_constant() {
     bindings::check(&tree).unwrap();
     let moved = (
         "crates/q15/src/fir_decimator.rt",
-        "MOST_TAPS: usize = 64",
-        "MOST_TAPS: usize = 2 * 64",
+        "MOST_TAPS: usize = ",
+        "MOST_TAPS: usize = 2 * ",
     );
     let said = said(&tree, moved);
     assert!(
@@ -185,68 +198,69 @@ fn a_length_by_name_moves_with_its_constant() {
     assert!(!said.contains(RAW_H) && !said.contains(RAW_RS), "{said}");
 }
 
+// File, text, what takes its place, what is said of it.
+const MISSING: [(&str, &str, &str, &str); 9] = [
+    (
+        "crates/gauge_line/src/values.rt",
+        "gauge_raw_cut_q15",
+        "gauge_cut",
+        "gauge_cut",
+    ),
+    (
+        "crates/gauge_line/src/values.rt",
+        "sum: i64",
+        "sum: i128",
+        "no number i128",
+    ),
+    (
+        "crates/gauge_line/src/values.rt",
+        "taps: &mut [f32; ",
+        "taps: &mut [i16; ",
+        "has no length for an array",
+    ),
+    (
+        "crates/refusal/src/rows.rt",
+        "const MOST_BLOCK",
+        "const LONGEST",
+        "no constant MOST_BLOCK",
+    ),
+    (
+        "crates/refusal/src/lib.rt",
+        "Refusal::Step => 14",
+        "Refusal::Step => 16",
+        "differently",
+    ),
+    (
+        "host/bindings/limits.txt",
+        "MOST_TAPS = q15::MOST_TAPS (i16)",
+        "MOST_TAPS = q15::MOST_TAPS",
+        "has no length for an array",
+    ),
+    (
+        "host/bindings/refusals.txt",
+        "Depth: ",
+        "Deep: ",
+        "no words for 11, Depth",
+    ),
+    (
+        "include/gauge_cic.h",
+        "printed: state cic_decimator",
+        "printed: state decimator",
+        "state decimator",
+    ),
+    (
+        "include/gauge_cic.h",
+        "// printed: state cic_decimator",
+        "//",
+        "state cic_decimator",
+    ),
+];
+
 // What the program cannot print stops it, with what is missing.
 #[test]
 fn what_is_missing_is_named() {
     let tree = copy("missing");
-    let refusal = "crates/refusal/src/lib.rt";
-    let edits = [
-        (
-            "crates/gauge_line/src/values.rt",
-            "gauge_raw_cut_q15",
-            "gauge_cut",
-            "gauge_cut",
-        ),
-        (
-            "crates/gauge_line/src/values.rt",
-            "sum: i64",
-            "sum: i128",
-            "no number i128",
-        ),
-        (
-            "crates/gauge_line/src/values.rt",
-            "[f32; 45]",
-            "[i16; 45]",
-            "array of 45 i16",
-        ),
-        (
-            "crates/refusal/src/rows.rt",
-            "const MOST_BLOCK",
-            "const LONGEST",
-            "no constant MOST_BLOCK",
-        ),
-        (
-            refusal,
-            "Refusal::Step => 14",
-            "Refusal::Step => 16",
-            "differently",
-        ),
-        (
-            "host/bindings/limits.txt",
-            "MOST_TAPS = q15::MOST_TAPS (i16)",
-            "MOST_TAPS = q15::MOST_TAPS",
-            "array of 64 i16",
-        ),
-        (
-            "host/bindings/refusals.txt",
-            "Depth: ",
-            "Deep: ",
-            "no words for 11, Depth",
-        ),
-        (
-            "include/gauge_cic.h",
-            "printed: state cic_decimator",
-            "printed: state decimator",
-            "state decimator",
-        ),
-        (
-            "include/gauge_cic.h",
-            "// printed: state cic_decimator",
-            "//",
-            "state cic_decimator",
-        ),
-    ];
-    for (file, old, new, named) in edits {
+    for (file, old, new, named) in MISSING {
         let said = said(&tree, (file, old, new));
         assert!(said.contains(named), "{said}");
     }
