@@ -270,30 +270,27 @@ fn what_is_missing_is_named() {
 #[test]
 fn a_new_refusal_is_printed() {
     let tree = copy("refusal");
-    edit(
-        &tree,
+    let (code, table) = (
         "crates/refusal/src/lib.rt",
-        "Refusal::State => 15,",
-        "Refusal::State => 15,\n Refusal::SheetEnd => 16,",
-    );
-    edit(
-        &tree,
         "crates/refusal/specs/Table.antt",
-        "numberOf State = 15",
-        "numberOf State = 15\nnumberOf SheetEnd = 16",
     );
+    let words = "host/bindings/refusals.txt";
+    let number = read(table).matches("\nnumberOf ").count() + 1;
+    let arm = format!("Refusal::NewRow => {number},\nRefusal::State => ");
+    edit(&tree, code, "Refusal::State => ", &arm);
+    let row = format!("numberOf NewRow = {number}\nnumberOf State = ");
+    edit(&tree, table, "numberOf State = ", &row);
     edit(
         &tree,
-        "host/bindings/refusals.txt",
+        words,
         "State: ",
-        "SheetEnd: sheet of {MOST_DEPTH} ends\nState: ",
+        "NewRow: row of {MOST_DEPTH}\nState: ",
     );
     bindings::write(&tree).unwrap();
     let header = fs::read_to_string(tree.join(REFUSAL_H)).unwrap();
     let rust = fs::read_to_string(tree.join("host/gauge-line/src/refusal.rs")).unwrap();
-    assert!(
-        header.contains("// Sheet of GAUGE_MOST_DEPTH ends.\n    GAUGE_REFUSED_SHEET_END = 16")
-    );
-    assert!(rust.contains("/// Sheet of 5 ends.\n    SheetEnd = 16,"));
+    let in_c = format!("// Row of GAUGE_MOST_DEPTH.\n    GAUGE_REFUSED_NEW_ROW = {number}\n");
+    let in_rust = format!("/// Row of 5.\n    NewRow = {number},\n");
+    assert!(header.contains(&in_c) && rust.contains(&in_rust));
     bindings::check(&tree).unwrap();
 }
