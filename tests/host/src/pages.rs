@@ -1,4 +1,4 @@
-//! What the pages say: links, paths and make targets are there, README.md names every file of specs/, every quotation of crates/ stands in its file, and the commands of
+//! What the pages say: links, paths and make targets are there, every file of specs/ is named, every quotation of crates/ stands in its file, and the commands of
 //! docs/reading-the-proofs.md print what stands behind them.
 
 use crate::support::page::{Example, blocks, examples};
@@ -9,15 +9,14 @@ const FOLDERS: [&str; 7] = [
     "crates", "host", "include", "examples", "tests", "bench", "docs",
 ];
 
-/// README.md and the pages of docs/.
+/// The pages at the top and those of docs/.
 pub fn pages() -> Vec<String> {
-    let mut pages = vec!["README.md".to_string()];
-    pages.extend(
-        files("docs", ".md")
-            .iter()
-            .map(|path| path.display().to_string()),
-    );
+    let mut pages = files("", ".md");
+    pages.extend(files("docs", ".md"));
     pages
+        .iter()
+        .map(|path| path.display().to_string())
+        .collect()
 }
 
 /// What stands in the text between each `before` and the next `after`.
@@ -59,30 +58,43 @@ fn paths() {
     }
 }
 
+// Each file of specs/ is named where it is said what one has to believe: `Name.antt`, or `crate/Name`.
 #[test]
-fn the_readme_names_every_file_of_specs() {
-    let readme = read("README.md");
+fn every_file_of_specs_is_named() {
+    let mut said = read("README.md");
+    said.extend(files("docs", "believed.md").iter().map(read));
     let mut count = 0;
-    for folder in files("crates", "")
-        .iter()
-        .filter(|path| root().join(path).join("specs").is_dir())
-    {
-        for file in files(&format!("{}/specs", folder.display()), ".antt") {
-            let name = file
-                .file_name()
-                .expect("a file has a name")
-                .to_string_lossy();
-            let named =
-                readme.contains(&format!("`{name}`")) || readme.contains(&format!("/{name}`"));
-            assert!(
-                named || name == "Lib.antt",
-                "README.md does not name {}",
-                file.display()
-            );
-            count += 1;
-        }
+    for file in specs() {
+        let name = file
+            .file_stem()
+            .expect("a file has a name")
+            .to_string_lossy();
+        let own = file
+            .iter()
+            .nth(1)
+            .expect("a crate has a name")
+            .to_string_lossy();
+        let forms = [
+            format!("`{name}.antt`"),
+            format!("/{name}.antt`"),
+            format!("`{own}/{name}`"),
+        ];
+        let named = forms.iter().any(|form| said.contains(form));
+        assert!(named || name == "Lib", "no page names {}", file.display());
+        count += 1;
     }
     assert!(count > 0);
+}
+
+// The files of specs/ of every crate.
+fn specs() -> Vec<PathBuf> {
+    let folders = files("crates", "")
+        .into_iter()
+        .map(|folder| folder.join("specs"));
+    let folders = folders.filter(|folder| root().join(folder).is_dir());
+    folders
+        .flat_map(|folder| files(&folder.to_string_lossy(), ".antt"))
+        .collect()
 }
 
 #[test]
