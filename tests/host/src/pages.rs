@@ -44,14 +44,15 @@ fn links() {
     }
 }
 
-// From the top of the repository, in backticks.
+// From the top of the repository, in backticks. A part in capitals alone, as in crates/NAME, stands for any name.
 #[test]
 fn paths() {
     let plain = |c: char| c.is_ascii_alphanumeric() || "_./-".contains(c);
+    let any = |part: &str| !part.is_empty() && part.chars().all(|c| c.is_ascii_uppercase());
     for page in pages() {
         for path in read(&page).split('`') {
             let top = path.split_once('/').map_or("", |(top, _)| top);
-            if FOLDERS.contains(&top) && path.chars().all(plain) {
+            if FOLDERS.contains(&top) && path.chars().all(plain) && !path.split('/').any(any) {
                 assert!(root().join(path).exists(), "{page}: no file {path}");
             }
         }
