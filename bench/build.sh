@@ -1,12 +1,13 @@
 #!/usr/bin/env bash
 # Builds target/bench/bench with rustc alone: the unchanged Rust, the archive's declarations, then the program over both. GAUGE_ARCHIVE names another archive to link.
 set -euo pipefail
-cd "$(dirname "$0")/.."
+. "$(dirname "$0")/../host/common.sh"
 
 from=bench/src
 rust=tests/oracle/rust
-to=target/bench
+to=$target/bench
 
+need_cargo
 archive=$(host/archive.sh)
 
 (cd "$rust" && sha256sum --check --quiet SHA256SUMS)

@@ -1,14 +1,11 @@
 #!/usr/bin/env bash
 # Counts instructions with callgrind: each side of each case runs once and three times, and half the difference is one run without its set-up. --only SUBSTRING restricts the cases.
 set -euo pipefail
-cd "$(dirname "$0")/.."
+. "$(dirname "$0")/../host/common.sh"
 
-if ! command -v valgrind >/dev/null; then
-    echo 'valgrind is not installed' >&2
-    exit 1
-fi
+need valgrind "it counts the instructions"
 
-bench=target/bench/bench
+bench=$target/bench/bench
 log=$(mktemp)
 trap 'rm -f "$log"' EXIT
 
