@@ -11,7 +11,8 @@ export KIT=$scratch/kit COUNT=$scratch/count
 
 # The tree has the scripts and two crates; the kit a clang and a name; bin the stand-in and what the scripts call.
 set_up() {
-    local tool tools=$KIT/on/$(uname -m)/toolchain/bin
+    local tool tools
+    tools=$KIT/on/$(uname -m)/toolchain/bin
     mkdir -p "$tree/tests" "$tree/crates/gauge_line/src" "$tree/crates/low/proofs" "$tree/crates/low/must-fail" "$tools" "$KIT/docs" "$scratch/bin"
     cp -r host "$tree/"
     cp tests/kit.txt "$tree/tests/"

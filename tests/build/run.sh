@@ -1,8 +1,9 @@
 #!/usr/bin/env bash
-# How it is built: when the archive is proved again, and what the Rust crate links.
+# How it is built: when the archive is proved again, what the Rust crate links, and the C example with another C library.
 set -euo pipefail
 . "$(dirname "$0")/../../host/common.sh"
 
 need_cargo
 tests/build/archive.sh
 tests/build/rust.sh
+tests/build/newlib.sh
