@@ -45,7 +45,7 @@ riscv64_prints() {
 
 cortex_m4_needs() {
     tool arm-none-eabi-gcc gcc-arm-none-eabi
-    library arm-none-eabi-gcc librdimon.a libnewlib-arm-none-eabi
+    library arm-none-eabi-gcc libc.a libnewlib-arm-none-eabi
     tool qemu-system-arm qemu-system-arm
 }
 
@@ -54,25 +54,25 @@ cortex_m4_object() {
     targets/recompile.sh thumbv7em-none-eabihf "$to/cortex_m4.o" "${m4[@]}" -fstack-usage
 }
 
-# cortex_m4_link PROGRAM WORDS..: links a program for the bare board, with newlib, which writes by semihosting.
+# cortex_m4_link PROGRAM WORDS..: links a program for the bare board of examples/cortex-m4.
 cortex_m4_link() {
-    local linked=$1
+    local linked=$1 board=examples/cortex-m4
     shift
-    arm-none-eabi-gcc "${strict[@]}" -mthumb "${m4[@]}" -nostartfiles -T targets/cortex_m4/link.ld --specs=rdimon.specs \
-        -Wl,--no-warn-execstack "$@" targets/cortex_m4/start.c -o "$linked"
+    arm-none-eabi-gcc "${strict[@]}" -I"$board" -mthumb "${m4[@]}" -nostartfiles -T "$board/link.ld" -Wl,--no-warn-execstack \
+        "$board"/{start,board,cell,number}.c "$@" -o "$linked"
 }
 
 # cortex_m4_run PROGRAM WORDS..: runs it on the board MPS2 AN386 of QEMU; the words go to QEMU. A program that hangs is stopped.
 cortex_m4_run() {
     local linked=$1
     shift
-    timeout 300 qemu-system-arm -M mps2-an386 -cpu cortex-m4 -nographic -monitor none -serial none \
-        -semihosting-config enable=on,target=native "$@" -kernel "$linked" </dev/null
+    timeout 300 qemu-system-arm -M mps2-an386 -cpu cortex-m4 -nographic -monitor none -serial none -chardev stdio,id=out \
+        -semihosting-config enable=on,target=native,chardev=out "$@" -kernel "$linked" </dev/null
 }
 
 cortex_m4_prints() {
     cortex_m4_object &&
-        cortex_m4_link "$to/cortex_m4" "${program[@]}" targets/stdio.c "$to/cortex_m4.o" &&
+        cortex_m4_link "$to/cortex_m4" "${program[@]}" targets/cortex_m4/main.c "$to/cortex_m4.o" &&
         cortex_m4_run "$to/cortex_m4"
 }
 

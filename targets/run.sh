@@ -1,6 +1,6 @@
 #!/usr/bin/env bash
 # Recompiles the proved module for other machines, runs the test program on each and compares what it prints with what it prints on x86-64. Arguments: names of machines; without any, all.
-# A machine whose tools are missing is skipped, with the names of their Debian packages. The last line says how many are the same; a difference fails, a skipped machine does not.
+# A machine whose tools are missing is skipped, with the names of their Debian packages; that fails nothing, a difference does. With cortex_m4 goes the firmware of examples/cortex-m4.
 set -euo pipefail
 . "$(dirname "$0")/../host/common.sh"
 to=$target/targets
@@ -32,3 +32,4 @@ for machine; do
 done
 echo "targets: $same same, $different different, $skipped skipped"
 [[ $different -eq 0 ]]
+[[ " $* " != *" cortex_m4 "* ]] || examples/cortex-m4/run.sh
