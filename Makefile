@@ -1,5 +1,5 @@
 # `make help` prints the commands. Each stands below as NAME: ## HOW LONG | WHAT IT DOES, with the archive made; times are of a machine with two cores.
-.PHONY: all help run test readings host compare bench bench-instructions targets firmware
+.PHONY: all help run test readings host compare bench bench-instructions targets firmware install
 .DELETE_ON_ERROR:
 
 # TARGET: the folder for all that is built; relative names, here and in GAUGE_ARCHIVE, begin at the top of the repository.
@@ -8,6 +8,8 @@ SEEDS =
 SEED = 20261116
 BENCH =
 MACHINES =
+PREFIX = /usr/local
+DESTDIR =
 
 export GAUGE_TARGET := $(TARGET)
 
@@ -45,3 +47,5 @@ targets: ## 1 min | the proved module on other machines, its outputs compared wi
 firmware: ## 2 s | the archive for Cortex-M4F, with a table of its code and stack, in target/firmware
 	@targets/firmware.sh
 
+install: ## 5 s | archive, headers, tool, pkg-config and CMake files below PREFIX, /usr/local unless it is given; DESTDIR is put before it
+	@packaging/install.sh "$(PREFIX)" "$(DESTDIR)"

@@ -1,5 +1,5 @@
 #!/usr/bin/env bash
-# How it is built: when the archive is proved again, what the Rust crate links, and the C example with another C library.
+# How it is built: when the archive is proved again, what the Rust crate links, the C example with another C library, and what is installed.
 set -euo pipefail
 . "$(dirname "$0")/../../host/common.sh"
 
@@ -7,3 +7,4 @@ need_cargo
 tests/build/archive.sh
 tests/build/rust.sh
 tests/build/newlib.sh
+tests/build/install.sh
