@@ -12,6 +12,8 @@ PREFIX = /usr/local
 DESTDIR =
 
 export GAUGE_TARGET := $(TARGET)
+# Scripts read text as bytes, whatever the locale.
+export LC_ALL := C
 
 all: ## 10 min, then 1 s | the proved archive and the tools, and where they are; proved again only where a source or the kit has changed
 	@host/build.sh

@@ -1,5 +1,5 @@
 #!/usr/bin/env bash
-# How it is built: when the archive is proved again, what the Rust crate links, the C example with another C library, and what is installed.
+# How it is built: when the archive is proved again, what the Rust crate links, the C example with another C library, what is installed, the packages, and other locales.
 set -euo pipefail
 . "$(dirname "$0")/../../host/common.sh"
 
@@ -8,3 +8,5 @@ tests/build/archive.sh
 tests/build/rust.sh
 tests/build/newlib.sh
 tests/build/install.sh
+tests/build/packages.sh
+tests/build/locales.sh
