@@ -13,16 +13,14 @@ have() {
     command -v "$1" >/dev/null || { skip "$1" "not installed" && false; }
 }
 
-# Each of the crates says the version of the file VERSION, and so does the header that has it.
+# The crates that a user meets and the header say the version of the file VERSION.
 one_version() {
     local version file
     version=$(<VERSION)
     while read -r file; do
         grep -qx "version = \"$version\"" "$file" || stop "version: $file does not say $version, as VERSION does"
     done < <(tracked 'host/*/Cargo.toml' 'examples/*/Cargo.toml')
-    while read -r file; do
-        grep -q "GAUGE_VERSION \"$version\"" "$file" || stop "version: $file does not say $version, as VERSION does"
-    done < <(grep -l '#define GAUGE_VERSION' include/*.h || true)
+    grep -qx "#define GAUGE_VERSION \"$version\"" include/gauge_line.h || stop "version: include/gauge_line.h does not say $version, as VERSION does"
     echo "quick: version $version"
 }
 
@@ -56,7 +54,7 @@ rust_lints() {
     printf '!<arch>\n' >"$nothing"
     while read -r crate; do
         GAUGE_ARCHIVE=$nothing CARGO_TARGET_DIR=$target/quick/cargo \
-            cargo clippy --offline --quiet --all-targets --manifest-path "$crate" -- -D warnings
+            cargo clippy --offline --quiet --all-targets --no-deps --manifest-path "$crate" -- -D warnings
     done < <(tracked '*Cargo.toml')
     echo "quick: lints of Rust"
 }

@@ -14,14 +14,12 @@ trap 'rm -f "$log" "$GAUGE_SKIPPED"' EXIT
 host/kit.sh 2> >(tee -a "$GAUGE_SKIPPED" >&2)
 tests/quick.sh
 rt ci 2>&1 | tee "$log"
+[[ ! -f tests/edits ]] || tests/edits
 
 # Always the archive of what was just proved.
 unset GAUGE_ARCHIVE
 GAUGE_ARCHIVE=$(host/archive.sh)
 export GAUGE_ARCHIVE
-if [[ -x tests/edits/run.sh ]]; then
-    tests/edits/run.sh
-fi
 tests/oracle/run.sh "$@"
 tests/host/run.sh
 tests/build/run.sh

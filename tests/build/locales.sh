@@ -18,10 +18,11 @@ printed() {
 }
 
 printed >"$scratch/C.txt"
+export LOCPATH=$scratch
 for locale in de_DE tr_TR; do
     # Only warnings: the locale is made, in a folder of its own.
     localedef -i "$locale" -f UTF-8 "$scratch/$locale.UTF-8" || [[ -d $scratch/$locale.UTF-8 ]]
-    export LOCPATH=$scratch LC_ALL=$locale.UTF-8
+    export LC_ALL=$locale.UTF-8
     [[ $(locale decimal_point) == , ]]
     printed >"$scratch/$locale.txt"
     cmp "$scratch/C.txt" "$scratch/$locale.txt"
