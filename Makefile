@@ -1,5 +1,5 @@
 # `make help` prints the commands. Each stands below as NAME: ## HOW LONG | WHAT IT DOES, with the archive made; times are of a machine with two cores.
-.PHONY: all help run test readings host compare bench bench-instructions targets firmware install
+.PHONY: all help run test readings host compare bench bench-instructions targets firmware install review
 .DELETE_ON_ERROR:
 
 # TARGET: the folder for all that is built; relative names, here and in GAUGE_ARCHIVE, begin at the top of the repository.
@@ -29,6 +29,9 @@ test: ## 45 min | the whole gate; SEEDS="7 8" gives the comparison other seeds
 
 readings: ## 1 min, then 1 s | 01's readings through the proved converters, printed
 	@host/readings.sh
+
+review: ## 2 min | for a reviewer: what the archive is made of, the readings, and three edits that the prover refuses
+	@host/review.sh
 
 host: ## 4 min | the interfaces for C and Rust, the tool, the demo and the pages, checked and run
 	@tests/host/run.sh

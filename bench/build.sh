@@ -1,13 +1,12 @@
 #!/usr/bin/env bash
 # Builds target/bench/bench with rustc alone: the unchanged Rust, the archive's declarations, then the program over both. GAUGE_ARCHIVE names another archive to link.
 set -euo pipefail
-. "$(dirname "$0")/../host/common.sh"
+cd "$(dirname "$0")/.."
 
 from=bench/src
 rust=tests/oracle/rust
-to=$target/bench
+to=target/bench
 
-need_cargo
 archive=$(host/archive.sh)
 
 (cd "$rust" && sha256sum --check --quiet SHA256SUMS)

@@ -1,11 +1,14 @@
 #!/usr/bin/env bash
 # Counts instructions with callgrind: each side of each case runs once and three times, and half the difference is one run without its set-up. --only SUBSTRING restricts the cases.
 set -euo pipefail
-. "$(dirname "$0")/../host/common.sh"
+cd "$(dirname "$0")/.."
 
-need valgrind "it counts the instructions"
+if ! command -v valgrind >/dev/null; then
+    echo 'valgrind is not installed' >&2
+    exit 1
+fi
 
-bench=$target/bench/bench
+bench=target/bench/bench
 log=$(mktemp)
 trap 'rm -f "$log"' EXIT
 

@@ -1,11 +1,11 @@
 #!/usr/bin/env bash
 # Builds the benchmark and prints its tables. --callgrind counts instructions instead; the other options are the program's own.
 set -euo pipefail
-. "$(dirname "$0")/../host/common.sh"
+cd "$(dirname "$0")/.."
 
 bench/build.sh
 if [[ ${1:-} == --callgrind ]]; then
     shift
     exec bench/instructions.sh "$@"
 fi
-exec "$target/bench/bench" "$@"
+exec target/bench/bench "$@"
