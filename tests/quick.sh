@@ -24,9 +24,19 @@ one_version() {
     echo "quick: version $version"
 }
 
+# make help prints each command with how long it takes.
+commands_told() {
+    local names name
+    read -ra names < <(sed -n 's/^\.PHONY: //p' Makefile)
+    for name in "${names[@]}"; do
+        grep -q "^$name: ## .* | ." Makefile || stop "quick: make help does not tell of $name"
+    done
+}
+
+# By name, or by what the first line says.
 shell_scripts() {
     have shellcheck || return 0
-    tracked '*.sh' .ci/run | xargs shellcheck
+    { tracked '*.sh' && tracked | xargs awk 'FNR == 1 && /^#!.*sh$/ { print FILENAME } { nextfile }'; } | sort -u | xargs shellcheck
     echo "quick: shell scripts"
 }
 
@@ -61,6 +71,7 @@ rust_lints() {
 
 need_rt
 need_cargo
+commands_told
 one_version
 rt fmt --check
 shell_scripts
