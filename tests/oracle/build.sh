@@ -2,11 +2,12 @@
 # Builds target/oracle/oracle with rustc alone: the unchanged Rust as a crate of its own, then the program over it and over the archive.
 # GAUGE_ARCHIVE names another archive to link.
 set -euo pipefail
-cd "$(dirname "$0")/../.."
+. "$(dirname "$0")/../../host/common.sh"
 
 from=tests/oracle
-to=target/oracle
+to=$target/oracle
 
+need_cargo
 (cd "$from/rust" && sha256sum --check --quiet SHA256SUMS)
 
 mkdir -p "$to/embedded_dsp"
