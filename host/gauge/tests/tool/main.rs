@@ -2,6 +2,8 @@
 
 mod faults;
 mod help;
+mod layout;
 mod pieces;
+mod range;
 mod scratch;
 mod targets;
