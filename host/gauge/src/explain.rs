@@ -191,7 +191,7 @@ fn add_ramp(text: &mut String, file: &LineFile) -> Result<(), gauge_line::Refusa
     } else if off > EVEN {
         add!(
             text,
-            "Warning: uneven. Between phases - 1 and phases, and at phases itself, the phase wraps; a step of whole 1 / phases reads nothing between."
+            "Warning: uneven. Past the last phase the reading wraps to phase 0, which belongs one value later; a step of whole 1 / phases reads nothing between phases."
         );
     }
     Ok(())

@@ -1,9 +1,10 @@
 //! A prototype in natural order, as filter design gives it, laid as the resampler reads it.
 
-/// The prototype h of `phases` × `taps` numbers laid so that h[(t + 1) × P − p] stands at t × P + p: each row of a tap backwards, from the next row's first number on.
+/// The prototype h of `phases` × `taps` numbers laid so that `h[(t + 1) × P − p]` stands at t × P + p: the row of each tap backwards.
 ///
-/// A level is due with the newest value mu of an interval old, and reads phase q = (1 − mu) × P; tap t then weighs a value t + mu intervals old, which is h at (t + mu) × P = (t + 1) × P − q. So h[0]
-/// is read nowhere, and behind the end of h stands 0; a list of one number more has h[P × T] there, as symmetric filters of odd length do. A list of any other length comes back as it is, for the opening to refuse.
+/// A level that is due mu of an interval behind the newest value reads phase q = (1 − mu) × P. Tap t then weighs a value t + mu intervals old, whose number in h is (t + mu) × P = (t + 1) × P − q. So
+/// `h[0]` is read nowhere, and 0 stands where h has ended, at phase 0 of the last tap; a list of one number more has its last one there, as symmetric filters of odd length do. A list of any other length
+/// comes back as it is, for the opening to refuse.
 pub fn laid(natural: &[f32], phases: usize, taps: usize) -> Vec<f32> {
     let whole = phases.checked_mul(taps);
     let fits = whole.is_some_and(|whole| natural.len() == whole || natural.len() == whole + 1);

@@ -1,6 +1,7 @@
 //! The fitter's tool: recorded cell samples to levels through a gauge line that a settings file describes. docs/gauge.md is the page for a user.
 #![warn(missing_docs)]
 
+mod axis;
 pub mod command;
 pub mod convert;
 mod entries;
@@ -22,3 +23,4 @@ mod samples;
 mod section;
 pub mod svg;
 pub mod target;
+mod trace;

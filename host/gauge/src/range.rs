@@ -42,19 +42,31 @@ fn gain(stages: usize, r: usize) -> Option<(i64, u32)> {
     (bits <= limits::MOST_GAIN_BITS).then_some((gain, bits))
 }
 
-/// The least and the greatest level of a line that a steady sample has filled, as the proved parts give them: the CIC decimator by itself, and the rest as a line that hands its samples on to the FIR. A FIR
-/// that steady values fill gives the same at every factor, so a factor of 1 saves the wait.
+/// The least and the greatest level of a line that a steady sample has filled, as the proved parts give them.
 pub fn steady_levels(file: &LineFile, sample: i32) -> Result<(f32, f32), Fault> {
-    let refused = |refusal| Fault::file("the line", refusal);
-    let settings = file.settings;
-    let sum = steady_sum(settings.stages, settings.r, sample).map_err(refused)?;
-    let behind = Settings {
+    let sum = steady_sum(file.settings.stages, file.settings.r, sample);
+    let sum = sum.map_err(|refusal| Fault::file("the line", refusal))?;
+    filled_levels(file, sum)
+}
+
+/// The ends of the scale: the least and the greatest level of a line that is filled with values cut to 16 bits.
+pub fn scale(file: &LineFile) -> Result<(f32, f32), Fault> {
+    let below = filled_levels(file, i32::from(i16::MIN))?;
+    let above = filled_levels(file, i32::from(i16::MAX))?;
+    Ok((below.0.min(above.0), below.1.max(above.1)))
+}
+
+// The least and the greatest level of what stands behind the CIC decimator, filled with one scaled sum: it is run as a line whose own decimator hands its samples on. A FIR that steady values fill gives
+// the same at every factor, so a factor of 1 saves the wait.
+fn filled_levels(file: &LineFile, sum: i32) -> Result<(f32, f32), Fault> {
+    let settings = Settings {
         stages: 1,
         r: 1,
         factor: 1,
-        ..settings
+        ..file.settings
     };
-    let mut line = Line::open(behind, &file.taps, &file.prototype).map_err(refused)?;
+    let line = Line::open(settings, &file.taps, &file.prototype);
+    let mut line = line.map_err(|refusal| Fault::file("the line", refusal))?;
     let (phase_taps, step) = match settings.phases {
         0 => (0, 1.0),
         _ => (settings.phase_taps, settings.step),
@@ -131,5 +143,15 @@ mod tests {
                 assert!(comes_round || !full.contains(&exact(outside)));
             }
         }
+    }
+    // Each of four products of 32767 and 8192 is floored by itself.
+    #[test]
+    fn the_scale_is_what_cut_values_come_to() {
+        let scale = |text: &str| super::scale(&LineFile::parse("f", text).unwrap());
+        assert_eq!(scale("stages=1\nr=1\n"), Ok((-1.0, 32767.0 / 32768.0)));
+        let fir = "stages=1\nr=1\nfactor=9\ntaps=8192 8192 8192 8192\n";
+        assert_eq!(scale(fir), Ok((-1.0, 32764.0 / 32768.0)));
+        let inverting = "stages=1\nr=1\nfactor=1\ntaps=-16384\n";
+        assert_eq!(scale(inverting), Ok((-0.5, 0.5)));
     }
 }

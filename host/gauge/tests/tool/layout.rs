@@ -2,6 +2,9 @@
 
 use crate::scratch::Scratch;
 
+#[path = "../../examples/prototype/picture.rs"]
+mod picture;
+
 // Drawn straight between two values: h rises from 0 to 1 over 16 places and falls again.
 fn natural() -> Vec<f64> {
     let up = (0..16).map(|p| f64::from(p) / 16.0);
@@ -44,4 +47,10 @@ fn how_even_a_ramp_comes_out_is_told() {
     let even = ramp(&scratch, 16, &laid, 0.9375);
     assert!(even.contains("at most 0.0 % of an even one"), "{even}");
     assert!(!even.contains("Warning"), "{even}");
+}
+
+#[test]
+fn the_picture_of_the_layout_is_the_stored_one() {
+    let stored = include_str!("../../../../docs/prototype.svg");
+    assert_eq!(picture::picture(), stored);
 }

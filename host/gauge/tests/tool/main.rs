@@ -1,5 +1,6 @@
 //! The tool as a fitter runs it.
 
+mod drawing;
 mod faults;
 mod help;
 mod layout;
