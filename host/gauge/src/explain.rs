@@ -185,7 +185,7 @@ fn add_ramp(text: &mut String, file: &LineFile) -> Result<(), gauge_line::Refusa
     if let Some(other) = other.filter(|other| off > EVEN && *other < off / 2.0) {
         add!(
             text,
-            "Warning: laid from natural order, as h[(t + 1) * phases - p] at t * phases + p, this prototype would be off by {:.1} %.",
+            "Warning: taken as `natural` and laid, h[(t + 1) * phases - p] at t * phases + p, this prototype would be off by {:.1} %.",
             100.0 * other
         );
     } else if off > EVEN {
