@@ -10,7 +10,12 @@ pub fn rate(options: &Options) -> Result<Option<f64>, Fault> {
     };
     let rate = value.parse().ok();
     let rate = rate.filter(|rate: &f64| rate.is_finite() && *rate > 0.0);
-    let wrong = || Fault::usage(format!("--rate {} is not a number above 0", front(value)));
+    let wrong = || {
+        Fault::usage(format!(
+            "--rate {} is not a number of hertz above 0",
+            front(value)
+        ))
+    };
     rate.ok_or_else(wrong).map(Some)
 }
 

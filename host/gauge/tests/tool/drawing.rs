@@ -99,11 +99,11 @@ fn a_bad_rate_or_range_is_told() {
     let bad = [
         (
             "explain --rate 0",
-            "gauge: --rate 0 is not a number above 0; ",
+            "gauge: --rate 0 is not a number of hertz above 0; ",
         ),
         (
             "plot --rate 8Hz",
-            "gauge: --rate 8Hz is not a number above 0; ",
+            "gauge: --rate 8Hz is not a number of hertz above 0; ",
         ),
         (
             "plot --range 5",
