@@ -70,7 +70,7 @@ fn drawing<'a>(
         whole: across.whole,
         range: across.range,
         y_name: LEVEL,
-        note: note(file, samples, levels, &drawn),
+        note: note(file, samples, levels, &drawn).or_else(|| across.note(&drawn)),
         ends: ends(&drawn.points, scale(file)?),
         series: vec![places.samples(samples), drawn],
         mark: None,
@@ -139,7 +139,9 @@ impl Across {
     fn of(rate: Option<f64>, range: Option<Span>, samples: usize) -> Across {
         let a_unit = rate.unwrap_or(1.0);
         let end = samples.saturating_sub(1) as f64 / a_unit;
-        let range = range.map(|(from, to)| (from, to.min(end.max(from + 1.0 / a_unit))));
+        // Behind the end there is still a sample's width to draw, and one that f64 can tell.
+        let least = |from: f64| (1.0 / a_unit).max(1e-9 * from.abs());
+        let range = range.map(|(from, to)| (from, to.min(end.max(from + least(from)))));
         let length = range.map_or(end, |(from, to)| to - from);
         let suits = |time: &&(&str, f64)| length >= 3.0 * time.1;
         let (name, seconds) = TIMES.iter().rev().find(suits).unwrap_or(&TIMES[0]);
@@ -150,6 +152,14 @@ impl Across {
             unit: a_unit * seconds,
             range: range.map(|(from, to)| (from / seconds, to / seconds)),
         }
+    }
+
+    // Whether the range that is drawn has no levels.
+    fn note(&self, drawn: &Series) -> Option<String> {
+        let (from, to) = self.range?;
+        let inside = |point: &(f64, f64)| (from..=to).contains(&point.0);
+        let any = drawn.points.iter().any(inside);
+        (!any).then(|| "no level in this range".to_string())
     }
 }
 
@@ -239,6 +249,10 @@ mod tests {
             (part.name, part.range),
             ("time, minutes", Some((10.0, 60.0)))
         );
+        for from in [0.0, 9.0, 1e9, 1e300] {
+            let behind = Across::of(Some(1e12), Some((from, f64::INFINITY)), 3);
+            assert!(behind.range.is_some_and(|(from, to)| from < to), "{from}");
+        }
     }
 
     #[test]

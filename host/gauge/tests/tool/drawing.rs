@@ -72,6 +72,8 @@ fn an_empty_frame_says_why() {
     assert!(svg.contains(">no level: the first comes with sample 40, and there are 9<"));
     let svg = drawn(&scratch, &[5; 41], "");
     assert!(svg.contains(">every level so far tells of the time before the first sample<"));
+    let svg = drawn(&scratch, &[5; 4000], "--range 5000..");
+    assert!(svg.contains(">no level in this range<"));
 }
 
 #[test]
