@@ -46,7 +46,8 @@ pub fn explanation(name: &str, file: &LineFile, unit: Unit) -> Result<String, Fa
     );
     add_table(&mut text, &sections, unit);
     add_start(&mut text, file, &sections, unit);
-    add_samples(&mut text, file, bits)?;
+    add_ranges(&mut text, file, bits);
+    add_levels(&mut text, file)?;
     if file.settings.phases > 0 {
         add_ramp(&mut text, file).map_err(refused)?;
     }
@@ -110,8 +111,8 @@ fn add_start(text: &mut String, file: &LineFile, sections: &[Section], unit: Uni
     );
 }
 
-// The usable samples, and levels as the line gives them.
-fn add_samples(text: &mut String, file: &LineFile, bits: u32) -> Result<(), Fault> {
+// The samples that a line can take.
+fn add_ranges(text: &mut String, file: &LineFile, bits: u32) {
     let (stages, r) = (file.settings.stages, file.settings.r);
     let ranges = [
         ("in any order: every sum is exact", range::exact(stages, r)),
@@ -131,13 +132,18 @@ fn add_samples(text: &mut String, file: &LineFile, bits: u32) -> Result<(), Faul
             2f64.powi(FULL_SCALE_GAIN_BITS as i32 - bits as i32)
         );
     }
+}
+
+// Levels of steady samples, as the line gives them.
+fn add_levels(text: &mut String, file: &LineFile) -> Result<(), Fault> {
+    let range = range::uncut(file.settings.stages, file.settings.r);
     add!(text, "");
     add!(
         text,
         "{:>20}   level, as the line gives it",
         "steady sample"
     );
-    for sample in told(range::uncut(stages, r).unwrap_or_default()) {
+    for sample in told(range.unwrap_or_default()) {
         let levels = steady_levels(file, sample as i32)?;
         add!(text, "{sample:>20}   {}", level_text(levels));
     }
