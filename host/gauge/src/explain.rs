@@ -4,13 +4,13 @@ use crate::fault::Fault;
 use crate::lay::laid;
 use crate::line_file::LineFile;
 use crate::options::Options;
-use crate::ramp::worst_rise;
+use crate::ramp::{Unevenness, unevenness};
 use crate::range::{self, Range, steady_levels};
 use crate::rate::{Unit, rate};
 use crate::section::{HALF_BAND, Section, first_level, sections, whole};
 use crate::target::Target;
 use gauge_line::passband::{PASSBANDS, STAGE_TAPS};
-use gauge_line::{CicDecimator, Line, limits};
+use gauge_line::{CicDecimator, Line, Refusal, limits};
 use std::cmp::Ordering;
 use std::fmt::Write;
 
@@ -170,12 +170,16 @@ fn told((least, greatest): Range) -> Vec<i64> {
     told
 }
 
-// How even the levels of a ramp are, and whether they would be if the prototype were laid.
-fn add_ramp(text: &mut String, file: &LineFile) -> Result<(), gauge_line::Refusal> {
-    let (phases, taps) = (file.settings.phases, file.settings.phase_taps);
-    let worst = |prototype: &[f32]| worst_rise(phases, taps, prototype, file.settings.step);
+// How even the levels of a ramp are, and what is the matter where they are not.
+fn add_ramp(text: &mut String, file: &LineFile) -> Result<(), Refusal> {
+    let (phases, taps, step) = (
+        file.settings.phases,
+        file.settings.phase_taps,
+        file.settings.step,
+    );
+    let uneven = |prototype: &[f32]| unevenness(phases, taps, prototype, step);
     add!(text, "");
-    let Some(off) = worst(&file.prototype)?.filter(|off| off.is_finite()) else {
+    let Some(off) = uneven(&file.prototype)? else {
         add!(
             text,
             "Ramp: the resampler's gain is 0 or past f32, so levels don't follow it."
@@ -184,23 +188,33 @@ fn add_ramp(text: &mut String, file: &LineFile) -> Result<(), gauge_line::Refusa
     };
     add!(
         text,
-        "Ramp: from level to level the resampler's rise is off by at most {:.1} % of an even one.",
-        100.0 * off
+        "Ramp: the resampler's rises are off by at most {:.1} % of an even one, by {:.1} % on average.",
+        100.0 * off.worst,
+        100.0 * off.mean
     );
-    let other = worst(&laid(&file.prototype, phases, taps))?;
-    if let Some(other) = other.filter(|other| off > EVEN && *other < off / 2.0) {
-        add!(
-            text,
-            "Warning: taken as `natural` and laid, h[(t + 1) * phases - p] at t * phases + p, this prototype would be off by {:.1} %.",
-            100.0 * other
-        );
-    } else if off > EVEN {
-        add!(
-            text,
-            "Warning: uneven. Past the last phase the reading wraps to phase 0, which belongs one value later; a step of whole 1 / phases reads nothing between phases."
-        );
+    let natural = uneven(&laid(&file.prototype, phases, taps))?;
+    if off.worst > EVEN {
+        let whole = (f64::from(step) * phases as f64).fract() == 0.0;
+        add!(text, "Warning: {}", matter(off, natural, whole));
     }
     Ok(())
+}
+
+// What makes levels uneven: the order of the prototype, where it would be better as a natural one that is laid; else the phases that wrap.
+fn matter(off: Unevenness, natural: Option<Unevenness>, whole: bool) -> String {
+    match natural {
+        Some(laid) if laid.mean < off.mean / 2.0 => format!(
+            "taken as `natural` and laid, h[(t + 1) * phases - p] at t * phases + p, this prototype would be off by {:.1} %, by {:.1} % on average.",
+            100.0 * laid.worst,
+            100.0 * laid.mean
+        ),
+        _ if whole => {
+            "a level that falls on a value is drawn on from phases 0 and 1, as if the prototype were straight from value to value.".to_string()
+        }
+        _ => {
+            "past the last phase the reading wraps to phase 0, which belongs one value later. A step of whole 1 / phases reads nothing between phases.".to_string()
+        }
+    }
 }
 
 fn add_passband(text: &mut String, file: &LineFile, sections: &[Section], unit: Unit) {
@@ -295,13 +309,22 @@ mod tests {
     #[test]
     fn a_prototype_in_natural_order_is_told() {
         let natural = "stages=1\nr=1\nphases=4\nphase_taps=2\nstep=0.75\nprototype=0 0.25 0.5 0.75 1 0.75 0.5 0.25\n";
-        assert!(explained(natural, Unit::Sample).contains("this prototype would be off by 0.0 %"));
+        assert!(
+            explained(natural, Unit::Sample).contains("this prototype would be off by 0.0 %, ")
+        );
         let laid = natural
             .replace("0 0.25 0.5 0.75 1", "1 0.75 0.5 0.25 0")
             .replace("0 0.75 0.5 0.25", "0 0.25 0.5 0.75");
         let text = explained(&laid, Unit::Sample);
         assert!(text.contains("off by at most 0.0 %") && !text.contains("Warning"));
-        assert!(explained(&laid.replace("step=0.75", "step=0.7"), Unit::Sample).contains("uneven"));
+        let curved = laid
+            .replace("1 0.75 0.5 0.25 0 0.25", "1 0.9 0.5 0.1 0 0.1")
+            .replace("0.5 0.75", "0.5 0.9");
+        assert!(explained(&curved, Unit::Sample).contains("drawn on from phases 0 and 1"));
+        assert!(
+            explained(&laid.replace("step=0.75", "step=0.7"), Unit::Sample)
+                .contains("the reading wraps")
+        );
         assert!(
             explained(
                 &laid.replace("0.25 0 0.25 0.5", "0.25 0 -2.5 -0.75"),

@@ -7,23 +7,33 @@ const LEVELS: usize = 20_000;
 // More outputs than one value makes due at the least step, 1/64.
 const MOST_DUE: usize = 128;
 
-/// The worst difference of a rise from an even one, in parts of an even one; an even rise is step × gain. The ramp rises by 1 a value. None where the gain is 0.
-pub fn worst_rise(
+/// How far rises are from even ones, in parts of an even one.
+#[derive(Clone, Copy, Debug, PartialEq)]
+pub struct Unevenness {
+    /// The worst of them.
+    pub worst: f64,
+    /// All of them on average.
+    pub mean: f64,
+}
+
+/// How uneven the levels of a ramp are that rises by 1 a value; an even rise is step × gain. None where the gain is 0 or levels are past f32.
+pub fn unevenness(
     phases: usize,
     taps: usize,
     prototype: &[f32],
     step: f32,
-) -> Result<Option<f64>, Refusal> {
+) -> Result<Option<Unevenness>, Refusal> {
     let resampler = PolyphaseResampF32::from_taps(phases, taps, prototype, step)?;
     let sum: f64 = prototype.iter().map(|tap| f64::from(*tap)).sum();
     let even = f64::from(step) * sum / phases as f64;
-    if even == 0.0 {
-        return Ok(None);
-    }
     let levels = ramp_levels(resampler, taps, step)?;
     let pairs = levels.windows(2).filter(|pair| pair[0].0 == pair[1].0);
     let off = pairs.map(|pair| ((pair[1].1 - pair[0].1) / even - 1.0).abs());
-    Ok(off.max_by(f64::total_cmp))
+    let off: Vec<f64> = off.collect();
+    let mean = off.iter().sum::<f64>() / off.len() as f64;
+    let worst = off.into_iter().fold(0.0, f64::max);
+    // A gain of 0 or a level past f32 leaves an average that is no number.
+    Ok(mean.is_finite().then_some(Unevenness { worst, mean }))
 }
 
 // Levels with the number of the ramp that they are of. One ramp after another keeps the values small, so that rounding does not show; levels that still weigh the ramp before are left out.
@@ -60,9 +70,13 @@ mod tests {
         up.chain(down).collect()
     }
 
+    fn uneven(phases: usize, prototype: &[f32], step: f32) -> Unevenness {
+        let uneven = unevenness(phases, prototype.len() / phases, prototype, step);
+        uneven.unwrap().unwrap()
+    }
+
     fn worst(phases: usize, prototype: &[f32], step: f32) -> f64 {
-        let worst = worst_rise(phases, prototype.len() / phases, prototype, step);
-        worst.unwrap().unwrap()
+        uneven(phases, prototype, step).worst
     }
 
     // Rises of 93.75, 106.25 and 6.25 in hundredths of a value, where 93.75 is even.
@@ -83,16 +97,19 @@ mod tests {
         }
     }
 
-    // Between the last phase and P the first is read, whose taps belong a value later.
+    // Between the last phase and P the first is read, whose taps belong a value later. That is seldom; in natural order every level is off.
     #[test]
     fn a_step_that_reads_between_phases_is_uneven() {
-        let laid = laid(&straight(16), 16, 2);
-        assert!(worst(16, &laid, 0.93) > 0.9);
+        let right = uneven(16, &laid(&straight(16), 16, 2), 0.93);
+        assert!(right.worst > 0.9 && right.mean < 0.1, "{right:?}");
+        let wrong = uneven(16, &straight(16), 0.93);
+        assert!(wrong.worst > 0.9 && wrong.mean > 0.2, "{wrong:?}");
     }
 
     #[test]
     fn no_gain_has_no_even_rise() {
-        assert_eq!(worst_rise(2, 1, &[1.0, -1.0], 1.0), Ok(None));
-        assert_eq!(worst_rise(1, 1, &[1.0], 1.0), Err(Refusal::Phases));
+        assert_eq!(unevenness(2, 1, &[1.0, -1.0], 1.0), Ok(None));
+        assert_eq!(unevenness(2, 1, &[3e38, 3e38], 1.0), Ok(None));
+        assert_eq!(unevenness(1, 1, &[1.0], 1.0), Err(Refusal::Phases));
     }
 }

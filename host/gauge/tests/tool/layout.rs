@@ -33,7 +33,10 @@ fn how_even_a_ramp_comes_out_is_told() {
     let scratch = Scratch::new("ramp");
     let two = ramp(&scratch, 2, &[1.0, 0.5, 0.0, 0.5], 0.9375);
     assert!(two.contains("at most 93.3 % of an even one"), "{two}");
-    assert!(two.contains("Warning: uneven"), "{two}");
+    assert!(
+        two.contains("Warning: past the last phase the reading wraps"),
+        "{two}"
+    );
 
     let backwards = ramp(&scratch, 16, &natural(), 0.9375);
     assert!(
