@@ -122,7 +122,9 @@ fn range(value: &str) -> Result<Span, Fault> {
     let ends = value.split_once("..");
     let ends = ends.and_then(|(from, to)| Some((end(from, 0.0)?, end(to, f64::INFINITY)?)));
     let wrong = || Fault::usage(format!("--range {} is not FROM..TO, upward", front(value)));
-    ends.filter(|(from, to)| from < to).ok_or_else(wrong)
+    // Nearer ends would leave places that f64 can't tell.
+    let apart = |(from, to): &Span| to - from >= 1e-12 * from.abs().max(1.0);
+    ends.filter(apart).ok_or_else(wrong)
 }
 
 // The axis across: samples, or the time that is drawn in a unit that suits it.
@@ -231,7 +233,17 @@ mod tests {
         assert_eq!(range("1..2.5"), Ok((1.0, 2.5)));
         assert_eq!(range("..3"), Ok((0.0, 3.0)));
         assert_eq!(range("3.."), Ok((3.0, f64::INFINITY)));
-        for wrong in ["", "3", "2..1", "1..1", "a..b", "nan..", "1..inf", "1...2"] {
+        for wrong in [
+            "",
+            "3",
+            "2..1",
+            "1..1",
+            "a..b",
+            "nan..",
+            "1..inf",
+            "1...2",
+            "0..1e-300",
+        ] {
             assert!(range(wrong).is_err(), "{wrong}");
         }
     }
