@@ -1,56 +1,56 @@
-# make: the proved archive and the tools, and where they are. make run: the bundled recording through the bundled settings, beside a line whose integrator holds.
-# make test: the whole gate; SEEDS="7 8" gives the comparison other seeds. make readings: 01's readings through the proved converters, printed.
-# make host: the interfaces for C and Rust, the fitter's tool, the demo and the pages, checked and run.
-# make compare: a longer comparison of the archive with the Rust, over 10^9 samples; SEED=7 gives it another seed.
-# make bench: what a sample costs here and in the Rust; BENCH="--rounds 100" gives it other options. make bench-instructions: the same in instructions.
-# make targets: the proved module recompiled for other machines, its outputs compared with those on x86-64; MACHINES="wasm32" names some of them.
-# make firmware: the archive for Cortex-M4F, with a table of its code and stack, in target/firmware.
-.PHONY: all run test readings host compare bench bench-instructions targets firmware
+# `make help` prints the commands. Each stands below as NAME: ## HOW LONG | WHAT IT DOES, with the archive made; times are of a machine with two cores.
+.PHONY: all help run test readings host compare bench bench-instructions targets firmware install review
 .DELETE_ON_ERROR:
 
+# TARGET: the folder for all that is built; relative names, here and in GAUGE_ARCHIVE, begin at the top of the repository.
+TARGET = $(or $(GAUGE_TARGET),target)
 SEEDS =
 SEED = 20261116
 BENCH =
 MACHINES =
+PREFIX = /usr/local
+DESTDIR =
 
-archive = target/staticlib/libgauge_line.a
-# The archive's crates, as crates.txt has them.
-proved := gauge_line $(shell sed -n 's/^gauge_line: //p' crates.txt)
-# Folders too: a file that is gone has no date of its own.
-sources := $(shell find $(proved:%=crates/%) -not -path '*/must-fail*')
+export GAUGE_TARGET := $(TARGET)
+# Scripts read text as bytes, whatever the locale.
+export LC_ALL := C
 
-all:
+all: ## 10 min, then 1 s | the proved archive and the tools, and where they are; proved again only where a source or the kit has changed
 	@host/build.sh
 
-run:
+help: ## at once | this list
+	@sed -n 's/^\([a-z-]*\):.*## \(.*\) | \(.*\)/\1|\2|\3/p' Makefile | awk -F '|' '{ printf "make %-20s %-18s %s\n", $$1 == "all" ? "" : $$1, $$2, $$3 }'
+
+run: ## 5 s | the bundled recording through the bundled settings, beside a line whose integrator holds
 	@examples/demo/run.sh
 
-test:
+test: ## 45 min | the whole gate; SEEDS="7 8" gives the comparison other seeds
 	@tests/run.sh $(SEEDS)
 
-readings:
-	@rt check readings >/dev/null
-	@target/bin/readings
+readings: ## 1 min, then 1 s | 01's readings through the proved converters, printed
+	@host/readings.sh
 
-host:
+review: ## 2 min | for a reviewer: what the archive is made of, the readings, and three edits that the prover refuses
+	@host/review.sh
+
+host: ## 4 min | the interfaces for C and Rust, the tool, the demo and the pages, checked and run
 	@tests/host/run.sh
 
-compare:
+compare: ## 10 min | the archive and the Rust compared over 10^9 samples; SEED=7 gives another seed
 	@tests/oracle/build.sh
-	@target/oracle/oracle compare --seed $(SEED) --cases 1000000 --samples 1000000000
+	@"$(TARGET)/oracle/oracle" compare --seed $(SEED) --cases 1000000 --samples 1000000000
 
-bench:
+bench: ## 2 min | what a sample costs here and in the Rust; BENCH="--rounds 100" gives other options
 	@bench/run.sh $(BENCH)
 
-bench-instructions:
+bench-instructions: ## 5 min | the same in instructions, by valgrind
 	@bench/run.sh --callgrind $(BENCH)
 
-targets:
+targets: ## 1 min | the proved module on other machines, its outputs compared with those on x86-64; MACHINES="wasm32" names some
 	@targets/run.sh $(MACHINES)
 
-firmware:
+firmware: ## 2 s | the archive for Cortex-M4F, with a table of its code and stack, in target/firmware
 	@targets/firmware.sh
 
-# What one believes of the archive is decided by these files alone: it is proved again where one of them changed.
-$(archive): crates.txt $(sources)
-	@host/prove.sh
+install: ## 5 s | archive, headers, tool, pkg-config and CMake files below PREFIX, /usr/local unless it is given; DESTDIR is put before it
+	@packaging/install.sh "$(PREFIX)" "$(DESTDIR)"

@@ -1,6 +1,7 @@
 #!/usr/bin/env bash
 # Counts instructions with callgrind: each side of each case runs once and three times, and half the difference is one run without its set-up. --only SUBSTRING restricts the cases.
 set -euo pipefail
+export LC_ALL=C
 cd "$(dirname "$0")/.."
 
 if ! command -v valgrind >/dev/null; then
@@ -8,7 +9,7 @@ if ! command -v valgrind >/dev/null; then
     exit 1
 fi
 
-bench=target/bench/bench
+bench=${GAUGE_TARGET:-target}/bench/release/bench
 log=$(mktemp)
 trap 'rm -f "$log"' EXIT
 

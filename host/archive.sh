@@ -1,11 +1,18 @@
 #!/usr/bin/env bash
-# Prints the path of the archive that callers link: the one that GAUGE_ARCHIVE names, else the proved one, which the Makefile makes where it is not there or its crates have changed.
+# Prints the path of the archive that callers link: the one that GAUGE_ARCHIVE names, else the proved one. That one is trusted by digests: of its sources and the kit, and of itself.
+# Where one differs it is proved again.
 set -euo pipefail
-cd "$(dirname "$0")/.."
+. "$(dirname "$0")/common.sh"
 
-if [[ -z ${GAUGE_ARCHIVE:-} ]]; then
-    GAUGE_ARCHIVE=target/staticlib/libgauge_line.a
-    # The caller may be a recipe itself; its flags are not meant for this rule.
-    MAKEFLAGS='' make --silent "$GAUGE_ARCHIVE" >&2
+if [[ -n ${GAUGE_ARCHIVE:-} ]]; then
+    [[ -f $GAUGE_ARCHIVE ]] || stop "GAUGE_ARCHIVE: no file $GAUGE_ARCHIVE (a relative name begins at the top of the repository)"
+    realpath "$GAUGE_ARCHIVE"
+    exit
 fi
-realpath "$GAUGE_ARCHIVE"
+host/kit.sh
+made=$target/staticlib/gauge_line.digest
+if ! { [[ -f $made && $(head -n 1 "$made") == "$(host/digest.sh)" ]] &&
+    (cd "$target/staticlib" && tail -n +2 "$made" | sha256sum --check --status --strict); }; then
+    host/prove.sh
+fi
+echo "$target/staticlib/libgauge_line.a"

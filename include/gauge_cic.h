@@ -14,15 +14,17 @@
 extern "C" {
 #endif
 
+// printed: state cic_decimator
 typedef struct {
     uint64_t stages;
     uint64_t r;
-    int32_t integrators[8];
-    int32_t combs[8];
+    int32_t integrators[GAUGE_MOST_STAGES];
+    int32_t combs[GAUGE_MOST_STAGES];
     uint64_t sample_counter;
 } GaugeCicDecimator;
 
 #define GAUGE_CIC_DECIMATOR_FIELDS(s) &(s)->stages, &(s)->r, (s)->integrators, (s)->combs, &(s)->sample_counter
+// printed until here
 
 // Opens a decimator of 1 to GAUGE_MOST_STAGES stages by a factor r of 1 to GAUGE_MOST_FACTOR.
 // Refusals: 1, 2; the state is then all zeros.
@@ -75,14 +77,16 @@ static inline uint64_t GaugeCicDecimator_process_block(
 
 #undef GAUGE_CIC_DECIMATOR_FIELDS
 
+// printed: state cic_interpolator
 typedef struct {
     uint64_t stages;
     uint64_t r;
-    int32_t combs[8];
-    int32_t integrators[8];
+    int32_t combs[GAUGE_MOST_STAGES];
+    int32_t integrators[GAUGE_MOST_STAGES];
 } GaugeCicInterpolator;
 
 #define GAUGE_CIC_INTERPOLATOR_FIELDS(s) &(s)->stages, &(s)->r, (s)->combs, (s)->integrators
+// printed until here
 
 // Opens an interpolator of 1 to GAUGE_MOST_STAGES stages by a factor r of 1 to GAUGE_MOST_FACTOR.
 // Refusals: 1, 2; the state is then all zeros.

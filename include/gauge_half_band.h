@@ -9,6 +9,7 @@
 #ifndef GAUGE_HALF_BAND_H
 #define GAUGE_HALF_BAND_H
 
+#include "gauge_fp.h"
 #include "gauge_raw.h"
 #include "gauge_refusal.h"
 #include <stdint.h>
@@ -18,26 +19,34 @@ extern "C" {
 #endif
 
 // The taps of the cascades' stages: 23 from 0 on, 10 from 23, 5 from 33, 4 from 38, 3 from 42.
-void gauge_raw_hbf_tap_table(float taps[45]);
+// printed: function gauge_raw_hbf_tap_table
+void gauge_raw_hbf_tap_table(float taps[GAUGE_HBF_TABLE]);
+// printed until here
 
 // The response length of a decimating cascade as the Rust original counts it, from the stage of 23 taps on:
 // 0, 23, 28, 29, 29, 29 for depth 0 to 5.
 // Refusals: 11.
+// printed: function gauge_raw_hbf_dec_response_length
 uint64_t gauge_raw_hbf_dec_response_length(uint64_t depth, uint64_t *length);
+// printed until here
 
 // The response length of an interpolating cascade as the Rust original counts it: 0, 46, 112, 234, 476, 958
 // for depth 0 to 5.
 // Refusals: 11.
+// printed: function gauge_raw_hbf_int_response_length
 uint64_t gauge_raw_hbf_int_response_length(uint64_t depth, uint64_t *length);
+// printed until here
 
 // One stage that halves the rate.
+// printed: state hbf_dec
 typedef struct {
     uint64_t m;
-    float coeffs[23];
-    float delay[96];
+    float coeffs[GAUGE_MOST_HALF_BAND_TAPS];
+    float delay[GAUGE_HBF_DEC_DELAY];
 } GaugeHbfDec;
 
 #define GAUGE_HBF_DEC_FIELDS(s) &(s)->m, (s)->coeffs, (s)->delay
+// printed until here
 
 // Opens a stage with 1 to GAUGE_MOST_HALF_BAND_TAPS taps, one side of the filter, outermost first; they are copied.
 // Refusals: 10; the state is then all zeros.
@@ -67,13 +76,15 @@ static inline uint64_t GaugeHbfDec_process(
 #undef GAUGE_HBF_DEC_FIELDS
 
 // One stage that doubles the rate.
+// printed: state hbf_int
 typedef struct {
     uint64_t m;
-    float coeffs[23];
-    float delay[48];
+    float coeffs[GAUGE_MOST_HALF_BAND_TAPS];
+    float delay[GAUGE_HBF_INT_DELAY];
 } GaugeHbfInt;
 
 #define GAUGE_HBF_INT_FIELDS(s) &(s)->m, (s)->coeffs, (s)->delay
+// printed until here
 
 // Opens a stage with 1 to GAUGE_MOST_HALF_BAND_TAPS taps, one side of the filter, outermost first; they are copied.
 // Refusals: 10; the state is then all zeros.
@@ -103,12 +114,14 @@ static inline uint64_t GaugeHbfInt_process(
 #undef GAUGE_HBF_INT_FIELDS
 
 // A cascade that divides the rate by 2^depth: the first depth stages of M = 3, 4, 5, 10, 23 taps.
+// printed: state hbf_dec_cascade
 typedef struct {
     uint64_t depth;
-    float delays[480];
+    float delays[GAUGE_HBF_DEC_DELAYS];
 } GaugeHbfDecCascade;
 
 #define GAUGE_HBF_DEC_CASCADE_FIELDS(s) &(s)->depth, (s)->delays
+// printed until here
 
 // Opens a cascade of depth 1 to GAUGE_MOST_DEPTH.
 // Refusals: 11; the state is then all zeros.
@@ -132,12 +145,14 @@ static inline uint64_t GaugeHbfDecCascade_process(
 #undef GAUGE_HBF_DEC_CASCADE_FIELDS
 
 // A cascade that multiplies the rate by 2^depth: the first depth stages of M = 23, 10, 5, 4, 3 taps.
+// printed: state hbf_int_cascade
 typedef struct {
     uint64_t depth;
-    float delays[240];
+    float delays[GAUGE_HBF_INT_DELAYS];
 } GaugeHbfIntCascade;
 
 #define GAUGE_HBF_INT_CASCADE_FIELDS(s) &(s)->depth, (s)->delays
+// printed until here
 
 // Opens a cascade of depth 1 to GAUGE_MOST_DEPTH.
 // Refusals: 11; the state is then all zeros.
@@ -161,17 +176,19 @@ static inline uint64_t GaugeHbfIntCascade_process(
 #undef GAUGE_HBF_INT_CASCADE_FIELDS
 
 // The decimating cascade one sample at a time, as the line has it: a stage holds a sample until its partner comes.
+// printed: state hbf_stream
 typedef struct {
     uint64_t depth;
-    float delays[480];
-    float held[5];
-    uint64_t counts[5];
+    float delays[GAUGE_HBF_DEC_DELAYS];
+    float held[GAUGE_MOST_DEPTH];
+    uint64_t counts[GAUGE_MOST_DEPTH];
 } GaugeHbfStream;
 
 #define GAUGE_HBF_STREAM_FIELDS(s) &(s)->depth, (s)->delays, (s)->held, (s)->counts
+// printed until here
 
-// Opens a cascade of depth 0 to GAUGE_MOST_DEPTH; 0 is off and hands every sample on.
-// Refusals: 11; the state is then all zeros.
+// Opens a cascade of depth 1 to GAUGE_MOST_DEPTH. Depth 0 is off in the line alone; here it is refused.
+// Refusals: 11; the state is then all zeros, which every call refuses by 15.
 static inline uint64_t GaugeHbfStream_new(GaugeHbfStream *state, uint64_t depth) {
     return gauge_raw_hbf_stream_new(depth, GAUGE_HBF_STREAM_FIELDS(state));
 }

@@ -15,49 +15,60 @@ extern "C" {
 #endif
 
 // The sum held at -32768 and 32767.
+// printed: function gauge_raw_cut_q15
 void gauge_raw_cut_q15(int64_t sum, int16_t *value);
+// printed until here
 
 // The bits divided by 32768, exactly.
+// printed: function gauge_raw_q15_to_f32
 void gauge_raw_q15_to_f32(int16_t bits, float *value);
+// printed until here
 
 // A decimating FIR over one block: output i is the cut of the sum over t of src[i * factor + t] * coeffs[t] / 32768,
 // each product rounded down by itself. As many outputs as whole windows in src and places in dst.
 // Refusals: 5, 6, 7.
+// printed: function gauge_raw_polyphase_decimate_q15
 uint64_t gauge_raw_polyphase_decimate_q15(
     const int16_t *src, uint64_t src_len, const int16_t *coeffs, uint64_t coeffs_len, uint64_t decimation_factor,
     int16_t *dst, uint64_t dst_len, uint64_t *written
 );
+// printed until here
 
 // An interpolating FIR over one block, with L the factor and K = coeffs_len / L: output i * L + p is the cut of L times
 // the sum over t < K of src[i + t] * coeffs[t * L + p] / 32768, each product rounded down by itself. As many outputs as
 // (src_len - K + 1) * L and places in dst.
 // Refusals: 5, 6, 7, 8.
+// printed: function gauge_raw_polyphase_interpolate_q15
 uint64_t gauge_raw_polyphase_interpolate_q15(
     const int16_t *src, uint64_t src_len, const int16_t *coeffs, uint64_t coeffs_len, uint64_t interpolation_factor,
     int16_t *dst, uint64_t dst_len, uint64_t *written
 );
+// printed until here
 
 // Fills dst: output i is between the two samples at i * ratio_q16 / 65536, rounded down; past the end the last sample.
 // Refusals: 7, 9.
+// printed: function gauge_raw_resample_linear_q15
 uint64_t gauge_raw_resample_linear_q15(
     const int16_t *src, uint64_t src_len, int16_t *dst, uint64_t dst_len, int32_t ratio_q16, uint64_t *written
 );
+// printed until here
 
 // The decimating FIR one sample at a time.
+// printed: state fir_decimator
 typedef struct {
-    int16_t taps[64];
+    int16_t taps[GAUGE_MOST_TAPS];
     uint64_t tap_count;
     uint64_t factor;
-    int16_t delay[64];
+    int16_t delay[GAUGE_MOST_TAPS];
     uint64_t wait;
 } GaugeFirDecimator;
 
 #define GAUGE_FIR_DECIMATOR_FIELDS(s) (s)->taps, &(s)->tap_count, &(s)->factor, (s)->delay, &(s)->wait
+// printed until here
 
-// Opens a FIR of at most GAUGE_MOST_TAPS taps, which are copied, and a factor of 1 to GAUGE_MOST_FACTOR. No taps mean
-// off: the factor is not looked at, the state is all zeros, and every sample is handed on. So a state whose opening was
-// refused hands samples on too.
-// Refusals: 5, 6; the state is then all zeros.
+// Opens a FIR of 1 to GAUGE_MOST_TAPS taps, which are copied, and a factor of 1 to GAUGE_MOST_FACTOR. No taps mean off
+// in the line alone; here they are refused.
+// Refusals: 5, 6; the state is then all zeros, which every call refuses by 15.
 static inline uint64_t
 GaugeFirDecimator_new(GaugeFirDecimator *state, const int16_t *taps, uint64_t taps_len, uint64_t factor) {
     return gauge_raw_fir_decimator_new(taps, taps_len, factor, GAUGE_FIR_DECIMATOR_FIELDS(state));

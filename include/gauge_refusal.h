@@ -6,38 +6,25 @@
 #ifndef GAUGE_REFUSAL_H
 #define GAUGE_REFUSAL_H
 
+#include "gauge_limits.h"
 #include <stdint.h>
 
-#define GAUGE_MOST_STAGES 8
-#define GAUGE_MOST_FACTOR 4096
-#define GAUGE_MOST_GAIN_BITS 31
-// A FIR of the line.
-#define GAUGE_MOST_TAPS 64
-// Samples, places or taps of a block.
-#define GAUGE_MOST_BLOCK 65536
-#define GAUGE_MOST_HALF_BAND_TAPS 23
-#define GAUGE_MOST_DEPTH 5
-#define GAUGE_LEAST_PHASES 2
-#define GAUGE_MOST_PHASES 64
-#define GAUGE_MOST_PHASE_TAPS 16
-// Steps of a resampler in the line.
-#define GAUGE_LEAST_STEP (1.0f / 64.0f)
-#define GAUGE_MOST_STEP 64.0f
-
+// printed: refusals c
 enum GaugeRefusal {
     // The call did what it was asked to.
     GAUGE_NOT_REFUSED = 0,
     // CIC stages not 1 to GAUGE_MOST_STAGES.
     GAUGE_REFUSED_STAGES = 1,
-    // CIC factor r not 1 to GAUGE_MOST_FACTOR.
+    // CIC factor not 1 to GAUGE_MOST_FACTOR.
     GAUGE_REFUSED_FACTOR = 2,
     // Scaled sums: gain bits over GAUGE_MOST_GAIN_BITS.
     GAUGE_REFUSED_GAIN_BITS = 3,
-    // CIC interpolator: span shorter than r.
+    // CIC interpolator: span shorter than the factor.
     GAUGE_REFUSED_SPAN = 4,
     // FIR factor not 1 to GAUGE_MOST_FACTOR.
     GAUGE_REFUSED_FIR_FACTOR = 5,
-    // FIR taps: none, or over GAUGE_MOST_BLOCK; in the line only over GAUGE_MOST_TAPS.
+    // FIR taps: none, or over GAUGE_MOST_BLOCK; over GAUGE_MOST_TAPS one sample at a time; in the line only over
+    // GAUGE_MOST_TAPS.
     GAUGE_REFUSED_TAPS = 6,
     // Samples of a block: none, or samples or span over GAUGE_MOST_BLOCK.
     GAUGE_REFUSED_SAMPLES = 7,
@@ -62,10 +49,43 @@ enum GaugeRefusal {
 
 // The name of a number that a call answered; "unknown" for a number that none answers.
 static inline const char *gauge_refusal_name(uint64_t number) {
-    static const char *const names[] = {
-        "not refused",  "Stages", "Factor",       "GainBits", "Span",   "FirFactor", "Taps", "Samples",
-        "TapsMultiple", "Ratio",  "HalfBandTaps", "Depth",    "Phases", "Prototype", "Step", "State"};
-    return number < sizeof names / sizeof names[0] ? names[number] : "unknown";
+    switch (number) {
+    case GAUGE_NOT_REFUSED:
+        return "not refused";
+    case GAUGE_REFUSED_STAGES:
+        return "Stages";
+    case GAUGE_REFUSED_FACTOR:
+        return "Factor";
+    case GAUGE_REFUSED_GAIN_BITS:
+        return "GainBits";
+    case GAUGE_REFUSED_SPAN:
+        return "Span";
+    case GAUGE_REFUSED_FIR_FACTOR:
+        return "FirFactor";
+    case GAUGE_REFUSED_TAPS:
+        return "Taps";
+    case GAUGE_REFUSED_SAMPLES:
+        return "Samples";
+    case GAUGE_REFUSED_TAPS_MULTIPLE:
+        return "TapsMultiple";
+    case GAUGE_REFUSED_RATIO:
+        return "Ratio";
+    case GAUGE_REFUSED_HALF_BAND_TAPS:
+        return "HalfBandTaps";
+    case GAUGE_REFUSED_DEPTH:
+        return "Depth";
+    case GAUGE_REFUSED_PHASES:
+        return "Phases";
+    case GAUGE_REFUSED_PROTOTYPE:
+        return "Prototype";
+    case GAUGE_REFUSED_STEP:
+        return "Step";
+    case GAUGE_REFUSED_STATE:
+        return "State";
+    default:
+        return "unknown";
+    }
 }
+// printed until here
 
 #endif

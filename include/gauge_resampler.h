@@ -3,6 +3,7 @@
 #ifndef GAUGE_RESAMPLER_H
 #define GAUGE_RESAMPLER_H
 
+#include "gauge_fp.h"
 #include "gauge_raw.h"
 #include "gauge_refusal.h"
 #include <stdint.h>
@@ -13,25 +14,42 @@ extern "C" {
 
 // Fills dst: output i is at i * ratio, rounded to a float, between the two samples there; past the end the last sample.
 // Refusals: 7, 9.
+// printed: function gauge_raw_resample_linear_f32
 uint64_t gauge_raw_resample_linear_f32(
     const float *src, uint64_t src_len, float *dst, uint64_t dst_len, float ratio, uint64_t *written
 );
+// printed until here
 
 // A polyphase resampler. mu is the place of the next output: below 1 it is due.
+//
+// The prototype: tap t of phase p stands at t * phases + p, and tap t meets the t-th sample before the newest. An
+// output mu after the newest sample reads phase (1 - mu) * phases, so a later output reads a lower phase. A filter h as
+// design programs give it, for `phases` times the input rate, is therefore laid with each row reversed:
+//
+//   prototype[t * phases + p] = h[(t + 1) * phases - p]        0 where h has no such place; h[0] is not used
+//
+//            p = 0    1        2        ..   phases - 1
+//   t = 0    h[P]     h[P-1]   h[P-2]   ..   h[1]              P: phases
+//   t = 1    h[2P]    h[2P-1]  h[2P-2]  ..   h[P+1]
+//
+// Laid in its own order, h makes levels that jump. Phases wrap, as in the Rust original: an output with mu below
+// 1 / phases is drawn between the last phase and phase 0 of the same samples, and one at mu = 0 is drawn on from phases
+// 0 and 1.
+// printed: state polyphase_resamp
 typedef struct {
     uint64_t phases;
     uint64_t taps;
     float mu;
     float step;
-    float delay[16];
-    float prototype[1024];
+    float delay[GAUGE_MOST_PHASE_TAPS];
+    float prototype[GAUGE_MOST_PROTOTYPE];
 } GaugePolyphaseResamp;
 
 #define GAUGE_POLYPHASE_RESAMP_FIELDS(s) &(s)->phases, &(s)->taps, &(s)->mu, &(s)->step, (s)->delay, (s)->prototype
+// printed until here
 
 // Opens a resampler of GAUGE_LEAST_PHASES to GAUGE_MOST_PHASES phases of 1 to GAUGE_MOST_PHASE_TAPS taps, `step` input
-// samples for each output, any finite number above zero. Tap t of phase p stands at t * phases + p of the prototype,
-// which is copied.
+// samples for each output, any finite number above zero. The prototype is laid as above and copied.
 // Refusals: 12, 13, 14; the state is then all zeros.
 static inline uint64_t GaugePolyphaseResamp_from_taps(
     GaugePolyphaseResamp *state, uint64_t phases, uint64_t taps, const float *prototype, uint64_t prototype_len,

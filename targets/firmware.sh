@@ -1,11 +1,12 @@
-#!/bin/sh
+#!/usr/bin/env bash
 # Leaves in target/firmware libgauge_line.a, the proved module for Cortex-M4F, with its headers, and table.md: code size and stack of each function. Needs the kit, and readelf of binutils.
-set -eu
-cd "$(dirname "$0")/.."
-to=$PWD/target/targets
-out=target/firmware
+set -euo pipefail
+. "$(dirname "$0")/../host/common.sh"
+to=$target/targets
+out=$target/firmware
 . targets/machines.sh
 
+need readelf "binutils has it; the table is made of what it says"
 targets/module.sh
 rm -rf "$out"
 mkdir -p "$out"

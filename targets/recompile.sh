@@ -1,8 +1,8 @@
-#!/bin/sh
+#!/usr/bin/env bash
 # recompile.sh TRIPLE OBJECT [WORDS..]: compiles the proved module, which module.sh left, for another machine. The words go to clang.
-set -eu
-cd "$(dirname "$0")/.."
-triple=$1 object=$2 from=target/targets
+set -euo pipefail
+. "$(dirname "$0")/../host/common.sh"
+triple=$1 object=$2 from=$target/targets
 shift 2
 
 # Triple, layout and processor are x86-64's. Probes of the stack stay where the system has a guard page for them to meet.

@@ -1,11 +1,24 @@
 #!/usr/bin/env bash
-# The whole gate: layout, proofs, must-fail edits, programs, then the archive: compared with the Rust (seeds as arguments), and called from C and Rust. The last line is rt ci's.
+# The whole gate: what needs no proof, then proofs, must-fail edits and programs, then the archive: compared with the Rust (seeds as arguments), called from C and Rust, installed, and
+# run on another machine. What was left out is said before the last line, which is rt ci's.
 set -euo pipefail
-cd "$(dirname "$0")/.."
-rt fmt --check
+. "$(dirname "$0")/../host/common.sh"
+[[ $target == "$PWD/target" ]] || stop "the gate writes to target/, which rt ci removes first: run it without TARGET"
+need_rt
+need_cargo
+
 log=$(mktemp)
-trap 'rm -f "$log"' EXIT
+GAUGE_SKIPPED=$(mktemp)
+export GAUGE_SKIPPED
+trap 'rm -f "$log" "$GAUGE_SKIPPED"' EXIT
+host/kit.sh 2> >(tee -a "$GAUGE_SKIPPED" >&2)
+tests/quick.sh
 rt ci 2>&1 | tee "$log"
+if [[ -f tests/edits ]]; then
+    tests/edits
+else
+    skip "crates/*/edits" "no tests/edits"
+fi
 
 # Always the archive of what was just proved.
 unset GAUGE_ARCHIVE
@@ -13,4 +26,7 @@ GAUGE_ARCHIVE=$(host/archive.sh)
 export GAUGE_ARCHIVE
 tests/oracle/run.sh "$@"
 tests/host/run.sh
+tests/build/run.sh
+targets/run.sh cortex_m4
+awk '!said[$0]++' "$GAUGE_SKIPPED"
 tail -n 1 "$log"

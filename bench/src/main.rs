@@ -1,6 +1,6 @@
 //! Races our archive against the unchanged Rust originals, in one process, and prints what a sample costs on each side.
 
-#![deny(unsafe_code)]
+#![forbid(unsafe_code)]
 
 mod blocks;
 mod case;
@@ -8,13 +8,10 @@ mod cases;
 mod once;
 mod options;
 mod original;
-// The archive's functions are foreign: their wrappers hold all the unsafe code there is.
-#[allow(unsafe_code)]
-mod port;
+mod ours;
 mod race;
 mod report;
 mod samples;
-mod settings;
 
 use options::Options;
 use std::process::ExitCode;

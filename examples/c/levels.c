@@ -1,6 +1,5 @@
 // Feeds a buffer of cell samples through a gauge line in pieces and prints the levels that come out.
 #include "gauge_line.h"
-#include <inttypes.h>
 #include <stdio.h>
 
 #define SAMPLES 1500
@@ -39,7 +38,7 @@ static GaugePiece piece_at(const int32_t *samples, uint64_t from) {
 }
 
 static void print_feed(GaugePiece piece, uint64_t taken, const float *levels, uint64_t written) {
-    printf("%3" PRIu64 " of %3" PRIu64 ":", taken, piece.len);
+    printf("%3llu of %3llu:", (unsigned long long)taken, (unsigned long long)piece.len);
     for (uint64_t i = 0; i < written; i++) {
         printf(" %.6f", levels[i]);
     }
@@ -76,7 +75,7 @@ int main(void) {
         refused = feed_all(&line, samples);
     }
     if (refused != GAUGE_NOT_REFUSED) {
-        fprintf(stderr, "refused: %" PRIu64 ", %s\n", refused, gauge_refusal_name(refused));
+        fprintf(stderr, "refused: %llu, %s\n", (unsigned long long)refused, gauge_refusal_name(refused));
         return 1;
     }
     return 0;

@@ -16,6 +16,7 @@ typedef struct {
 } Opening;
 
 // Lines with each part on and off, then one refused for each reason.
+// clang-format off
 static const Opening openings[] = {
     {{1, 1, 0, 0, 0, 0, 0.0f}, 0, 0},
     {{3, 16, 2, 2, 0, 0, 0.0f}, 64, 0},
@@ -37,6 +38,7 @@ static const Opening openings[] = {
     {{1, 1, 0, 0, 4, 4, 1.0f}, 0, 15},
     {{1, 1, 0, 0, 4, 4, 64.5f}, 0, 16},
 };
+// clang-format on
 
 static int16_t taps[GAUGE_MOST_TAPS + 1];
 static float prototype[1024];

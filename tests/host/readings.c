@@ -89,8 +89,10 @@ static void fir_decimator(void) {
     CHECK(GaugeFirDecimator_process_sample(&state, -1, &made, &value) == GAUGE_NOT_REFUSED);
     CHECK(made == 1 && value == -2 && state.wait == 3);
     CHECK(GaugeFirDecimator_reset(&state) == GAUGE_NOT_REFUSED && state.wait == 2 && state.delay[0] == 0);
-    CHECK(GaugeFirDecimator_new(&state, NULL, 0, 0) == GAUGE_NOT_REFUSED);
-    CHECK(GaugeFirDecimator_process_sample(&state, 7, &made, &value) == GAUGE_NOT_REFUSED && made == 1 && value == 7);
+    CHECK(GaugeFirDecimator_new(&state, NULL, 0, 0) == GAUGE_REFUSED_FIR_FACTOR);
+    CHECK(GaugeFirDecimator_new(&state, NULL, 0, 1) == GAUGE_REFUSED_TAPS && state.factor == 0);
+    CHECK(GaugeFirDecimator_process_sample(&state, 7, &made, &value) == GAUGE_REFUSED_STATE && made == 0 && value == 0);
+    CHECK(GaugeFirDecimator_reset(&state) == GAUGE_REFUSED_STATE);
 }
 
 static void half_band_stages(void) {
@@ -135,6 +137,10 @@ static void half_band_cascades(void) {
     stream.counts[1] = 2;
     CHECK(GaugeHbfStream_process_sample(&stream, 1.0f, &made, &value) == GAUGE_REFUSED_STATE && stream.counts[1] == 2);
 
+    CHECK(GaugeHbfStream_new(&stream, 0) == GAUGE_REFUSED_DEPTH && stream.depth == 0);
+    CHECK(GaugeHbfStream_process_sample(&stream, 1.0f, &made, &value) == GAUGE_REFUSED_STATE && made == 0);
+    CHECK(GaugeHbfStream_reset(&stream) == GAUGE_REFUSED_STATE);
+
     CHECK(GaugeHbfIntCascade_new(&up, 0) == GAUGE_REFUSED_DEPTH);
     CHECK(GaugeHbfIntCascade_new(&up, 1) == GAUGE_NOT_REFUSED);
     CHECK(GaugeHbfIntCascade_process(&up, src, 4, dst, 4, &written) == GAUGE_NOT_REFUSED && written == 4);
@@ -142,7 +148,7 @@ static void half_band_cascades(void) {
 }
 
 static void half_band_values(void) {
-    float taps[45];
+    float taps[GAUGE_HBF_TABLE];
     uint64_t length;
     gauge_raw_hbf_tap_table(taps);
     CHECK(taps[42] == 0.01186105f && taps[44] == 0.58622005f);
@@ -221,7 +227,8 @@ static void pieces_and_names(void) {
     CHECK(gauge_next_piece(last, 3, waiting).samples == waiting.samples);
     CHECK(gauge_next_piece(last, 9, waiting).len == 2);
     CHECK(strcmp(gauge_refusal_name(GAUGE_REFUSED_GAIN_BITS), "GainBits") == 0);
-    CHECK(strcmp(gauge_refusal_name(16), "unknown") == 0);
+    CHECK(strcmp(gauge_refusal_name(GAUGE_NOT_REFUSED), "not refused") == 0);
+    CHECK(strcmp(gauge_refusal_name(UINT64_MAX), "unknown") == 0);
 }
 
 int main(void) {

@@ -1,17 +1,11 @@
 #!/usr/bin/env bash
-# The interfaces for C and Rust: declarations, programs, pages, the crate; the fitter's tool and the demo; what the pages say. GAUGE_ARCHIVE names another archive to link.
+# The interfaces for C and Rust, the fitter's tool, the demo and the pages, checked; arguments name some of the checks, as cargo test takes them. GAUGE_ARCHIVE names another archive to link,
+# GAUGE_TARGET another folder than target/ for what is built.
 set -euo pipefail
+export LC_ALL=C
 cd "$(dirname "$0")/../.."
 
 GAUGE_ARCHIVE=$(host/archive.sh)
 export GAUGE_ARCHIVE
-
-tests/host/declarations.sh
-tests/host/differences.sh
-tests/host/symbols.sh
-tests/host/c.sh
-tests/host/targets.sh
-tests/host/cargo.sh
-tests/host/gauge.sh
-tests/host/demo.sh
-tests/host/pages.sh
+RUSTFLAGS="-D warnings" CARGO_TARGET_DIR=${GAUGE_TARGET:-target}/host/tests \
+    cargo test --offline --quiet --manifest-path tests/host/Cargo.toml -- "$@"

@@ -2,11 +2,12 @@
 # Builds target/oracle/oracle with rustc alone: the unchanged Rust as a crate of its own, then the program over it and over the archive.
 # GAUGE_ARCHIVE names another archive to link.
 set -euo pipefail
-cd "$(dirname "$0")/../.."
+. "$(dirname "$0")/../../host/common.sh"
 
 from=tests/oracle
-to=target/oracle
+to=$target/oracle
 
+need_cargo
 (cd "$from/rust" && sha256sum --check --quiet SHA256SUMS)
 
 mkdir -p "$to/embedded_dsp"
@@ -31,8 +32,11 @@ fi
 
 archive=$(host/archive.sh)
 
+mkdir -p "$to/gauge_raw"
+cp host/gauge-line/src/raw.rs host/gauge-line/src/limits.rs "$to/gauge_raw/"
+printf 'pub mod limits;\nmod raw;\npub use raw::*;\n' >"$to/gauge_raw/lib.rs"
 rustc --edition 2024 -O --crate-name gauge_raw --crate-type rlib \
-    -o "$to/libgauge_raw.rlib" host/gauge-line/src/raw.rs
+    -o "$to/libgauge_raw.rlib" "$to/gauge_raw/lib.rs"
 rustc "${flags[@]}" -C opt-level=3 --crate-name oracle -L "dependency=$to" \
     --extern "embedded_dsp=$to/libembedded_dsp.rlib" \
     --extern "resamplers=$to/libresamplers.rlib" \

@@ -1,9 +1,9 @@
 #!/usr/bin/env bash
 # Compares the port with the unchanged Rust: the archive in one process with it, and the Rattle program `replay` over a list. Arguments: seeds of the former.
 set -euo pipefail
-cd "$(dirname "$0")/../.."
+. "$(dirname "$0")/../../host/common.sh"
 
-oracle=target/oracle/oracle
+oracle=$target/oracle/oracle
 stored=(--seed 1 --cases 60000 --each 24)
 listed=20000
 compared=(--cases 300000 --samples 60000000)
@@ -15,12 +15,12 @@ tests/oracle/build.sh
 "$oracle" list "${stored[@]}" | cmp - crates/replay/stdin
 
 # Nothing is proved again that has not changed.
-if ! rt check replay >target/oracle/check.log 2>&1; then
-    tail -n 20 target/oracle/check.log
+if ! in_target check replay >"$target/oracle/check.log" 2>&1; then
+    tail -n 20 "$target/oracle/check.log"
     exit 1
 fi
 
-said=$("$oracle" list --seed 2 --cases "$listed" | target/bin/replay) || true
+said=$("$oracle" list --seed 2 --cases "$listed" | "$target/bin/replay") || true
 echo "replay, seed 2: $said"
 [ "$said" = "$listed records, 0 differences" ]
 

@@ -3,8 +3,10 @@
 use super::{BLOCK, BLOCKS, STREAM};
 use crate::blocks::{Cut, side};
 use crate::case::{Case, Unit};
+use crate::original;
+use crate::ours::{accepted, ours, took_all};
 use crate::samples::cells;
-use crate::{original, port};
+use gauge_line::{CicDecimator, CicInterpolator};
 
 pub fn cases() -> Vec<Case> {
     vec![
@@ -24,7 +26,12 @@ fn decimator<const N: usize>(r: usize) -> Case {
         name: format!("CicDecimator N={N} r={r}"),
         unit: Unit::Input,
         blocks: BLOCKS,
-        ours: Box::new(move |block| side(port::CicDecimator::new(N, r), cut(block), cells)),
+        ours: Box::new(move |block| {
+            let converter = ours(CicDecimator::new(N, r), |cic, src, dst| {
+                took_all(src, cic.process_block(src, dst))
+            });
+            side(converter, cut(block), cells)
+        }),
         rust: Box::new(move |block| {
             side(original::CicDecimatorLoop::<N>::new(r), cut(block), cells)
         }),
@@ -38,7 +45,12 @@ fn interpolator<const N: usize>(r: usize) -> Case {
         unit: Unit::Output,
         // A call is one sample, so a shorter block would be the same calls.
         blocks: &[BLOCK],
-        ours: Box::new(move |block| side(port::CicInterpolator::new(N, r), cut(block), cells)),
+        ours: Box::new(move |block| {
+            let converter = ours(CicInterpolator::new(N, r), move |cic, src, dst| {
+                sample_by_sample(cic, r, src, dst)
+            });
+            side(converter, cut(block), cells)
+        }),
         rust: Box::new(move |block| {
             side(
                 original::CicInterpolatorLoop::<N>::new(r),
@@ -47,4 +59,13 @@ fn interpolator<const N: usize>(r: usize) -> Case {
             )
         }),
     }
+}
+
+// There is no block form.
+fn sample_by_sample(cic: &mut CicInterpolator, r: usize, src: &[i32], dst: &mut [i32]) -> usize {
+    let mut written = 0;
+    for (&sample, outputs) in src.iter().zip(dst.chunks_exact_mut(r)) {
+        written += accepted(cic.process_sample(sample, outputs));
+    }
+    written
 }

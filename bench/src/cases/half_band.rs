@@ -3,7 +3,7 @@
 use super::{BLOCKS, STREAM};
 use crate::blocks::{Cut, side};
 use crate::case::{Case, Unit};
-use crate::port;
+use crate::ours::{accepted, ours};
 use crate::samples::levels;
 use embedded_dsp::resampling::{HBF_TAPS, HbfDec, HbfDecCascade, HbfInt, HbfIntCascade};
 
@@ -37,7 +37,11 @@ fn decimator<const M: usize>(taps: [f32; M]) -> Case {
         name: format!("HbfDec M={M}"),
         unit: Unit::Input,
         blocks: BLOCKS,
-        ours: Box::new(move |block| side(port::HbfDec::new(&taps), down(block, 1), levels)),
+        ours: Box::new(move |block| {
+            let opened = gauge_line::HbfDec::new(&taps);
+            let converter = ours(opened, |hbf, src, dst| accepted(hbf.process(src, dst)));
+            side(converter, down(block, 1), levels)
+        }),
         rust: Box::new(move |block| side(HbfDec::new(taps), down(block, 1), levels)),
     }
 }
@@ -47,7 +51,11 @@ fn interpolator<const M: usize>(taps: [f32; M]) -> Case {
         name: format!("HbfInt M={M}"),
         unit: Unit::Output,
         blocks: BLOCKS,
-        ours: Box::new(move |block| side(port::HbfInt::new(&taps), up(block, 1), levels)),
+        ours: Box::new(move |block| {
+            let opened = gauge_line::HbfInt::new(&taps);
+            let converter = ours(opened, |hbf, src, dst| accepted(hbf.process(src, dst)));
+            side(converter, up(block, 1), levels)
+        }),
         rust: Box::new(move |block| side(HbfInt::new(taps), up(block, 1), levels)),
     }
 }
@@ -58,7 +66,11 @@ fn decimator_cascade<const DEPTH: usize>() -> Case {
         name: format!("HbfDecCascade depth {DEPTH}"),
         unit: Unit::Input,
         blocks: BLOCKS,
-        ours: Box::new(move |block| side(port::HbfDecCascade::new(DEPTH), cut(block), levels)),
+        ours: Box::new(move |block| {
+            let opened = gauge_line::HbfDecCascade::new(DEPTH);
+            let converter = ours(opened, |hbf, src, dst| accepted(hbf.process(src, dst)));
+            side(converter, cut(block), levels)
+        }),
         rust: Box::new(move |block| side(HbfDecCascade::<DEPTH>::new(), cut(block), levels)),
     }
 }
@@ -69,7 +81,11 @@ fn interpolator_cascade<const DEPTH: usize>() -> Case {
         name: format!("HbfIntCascade depth {DEPTH}"),
         unit: Unit::Output,
         blocks: BLOCKS,
-        ours: Box::new(move |block| side(port::HbfIntCascade::new(DEPTH), cut(block), levels)),
+        ours: Box::new(move |block| {
+            let opened = gauge_line::HbfIntCascade::new(DEPTH);
+            let converter = ours(opened, |hbf, src, dst| accepted(hbf.process(src, dst)));
+            side(converter, cut(block), levels)
+        }),
         rust: Box::new(move |block| side(HbfIntCascade::<DEPTH>::new(), cut(block), levels)),
     }
 }

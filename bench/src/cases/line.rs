@@ -2,10 +2,11 @@
 
 use crate::blocks::{Cut, side};
 use crate::case::{Case, Unit};
+use crate::original;
+use crate::ours::{self, took_all};
 use crate::race::Side;
 use crate::samples::{cells, prototype, taps, to_q15};
-use crate::settings::Settings;
-use crate::{original, port};
+use gauge_line::{Line, Settings};
 
 /// The lengths of pieces, the whole stream first.
 pub const PIECES: [usize; 4] = [65_536, 4_096, 64, 1];
@@ -59,7 +60,8 @@ fn cut(settings: Settings, piece: usize) -> Cut {
 
 fn ours(settings: Settings, tap_count: usize, piece: usize) -> Box<dyn Side> {
     let prototype = prototype(settings.phases * settings.phase_taps);
-    let line = port::Line::open(settings, &taps(tap_count), &prototype);
+    let opened = Line::open(settings, &taps(tap_count), &prototype);
+    let line = ours::ours(opened, |line, src, dst| took_all(src, line.feed(src, dst)));
     side(line, cut(settings, piece), cells)
 }
 

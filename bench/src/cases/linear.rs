@@ -3,8 +3,10 @@
 use super::{BLOCKS, STREAM};
 use crate::blocks::{Cut, side};
 use crate::case::{Case, Unit};
+use crate::original;
+use crate::ours::{accepted, ours};
 use crate::samples::{fixed, levels, to_q15};
-use crate::{original, port};
+use gauge_line::{resample_linear_f32, resample_linear_q15};
 
 pub fn cases() -> Vec<Case> {
     vec![
@@ -25,7 +27,12 @@ fn linear_q15(ratio_q16: i32) -> Case {
         name: format!("resample_linear_q15 ratio {ratio}"),
         unit: Unit::Output,
         blocks: BLOCKS,
-        ours: Box::new(move |block| side(port::LinearQ15(ratio_q16), cut(block, ratio), fixed)),
+        ours: Box::new(move |block| {
+            let converter = ours(Ok(()), move |_, src: &[i16], dst: &mut [i16]| {
+                accepted(resample_linear_q15(src, dst, ratio_q16))
+            });
+            side(converter, cut(block, ratio), fixed)
+        }),
         rust: Box::new(move |block| {
             let converter = original::LinearQ15(ratio_q16);
             side(converter, cut(block, ratio), |n| to_q15(fixed(n)))
@@ -39,7 +46,12 @@ fn linear_f32(ratio: f32) -> Case {
         name: format!("resample_linear_f32 ratio {ratio}"),
         unit: Unit::Output,
         blocks: BLOCKS,
-        ours: Box::new(move |block| side(port::LinearF32(ratio), cut(block), levels)),
+        ours: Box::new(move |block| {
+            let converter = ours(Ok(()), move |_, src: &[f32], dst: &mut [f32]| {
+                accepted(resample_linear_f32(src, dst, ratio))
+            });
+            side(converter, cut(block), levels)
+        }),
         rust: Box::new(move |block| side(original::LinearF32(ratio), cut(block), levels)),
     }
 }

@@ -3,8 +3,10 @@
 use super::{BLOCKS, STREAM};
 use crate::blocks::{Cut, side};
 use crate::case::{Case, Unit};
+use crate::original;
+use crate::ours::{accepted, ours};
 use crate::samples::{fixed, taps, to_q15};
-use crate::{original, port};
+use gauge_line::{polyphase_decimate_q15, polyphase_interpolate_q15};
 
 pub fn cases() -> Vec<Case> {
     vec![
@@ -31,7 +33,9 @@ fn decimation(count: usize, factor: usize) -> Case {
         unit: Unit::Input,
         blocks: BLOCKS,
         ours: Box::new(move |block| {
-            let converter = port::PolyphaseDecimate::new(taps(count), factor);
+            let converter = ours(Ok(taps(count)), move |taps, src, dst| {
+                accepted(polyphase_decimate_q15(src, taps, factor, dst))
+            });
             side(converter, cut(block), fixed)
         }),
         rust: Box::new(move |block| {
@@ -53,7 +57,9 @@ fn interpolation(count: usize, factor: usize) -> Case {
         unit: Unit::Output,
         blocks: BLOCKS,
         ours: Box::new(move |block| {
-            let converter = port::PolyphaseInterpolate::new(taps(count), factor);
+            let converter = ours(Ok(taps(count)), move |taps, src, dst| {
+                accepted(polyphase_interpolate_q15(src, taps, factor, dst))
+            });
             side(converter, cut(block), fixed)
         }),
         rust: Box::new(move |block| {

@@ -3,8 +3,10 @@
 use super::{BLOCKS, STREAM};
 use crate::blocks::{Cut, side};
 use crate::case::{Case, Unit};
+use crate::original;
+use crate::ours::{ours, took_all};
 use crate::samples::{levels, prototype};
-use crate::{original, port};
+use gauge_line::PolyphaseResampF32;
 
 pub fn cases() -> Vec<Case> {
     vec![
@@ -24,7 +26,10 @@ fn resampler<const P: usize, const T: usize>(step: f32) -> Case {
         unit: Unit::Output,
         blocks: BLOCKS,
         ours: Box::new(move |block| {
-            let converter = port::Resampler::new(P, T, &prototype(P * T), step);
+            let opened = PolyphaseResampF32::from_taps(P, T, &prototype(P * T), step);
+            let converter = ours(opened, |resampler, src, dst| {
+                took_all(src, resampler.process_block(src, dst))
+            });
             side(converter, cut(block), levels)
         }),
         rust: Box::new(move |block| {

@@ -2,11 +2,11 @@
 
 use super::resampler::resampler;
 use crate::blocks::Converter;
-use crate::settings::Settings;
 use embedded_dsp::resampling::{
     CicDecimator, HbfDecCascade, PolyphaseResampF32, polyphase_decimate_q15,
 };
 use embedded_dsp::types::q15;
+use gauge_line::Settings;
 
 type Cascade = Box<dyn Converter<Sample = f32, Output = f32>>;
 

@@ -1,4 +1,5 @@
 //! The demo: a simulated recording through the gauge line, beside what a line with a holding integrator would have shown. Arguments: a settings file and a directory for the files.
+#![forbid(unsafe_code)]
 
 mod holding;
 mod recording;
@@ -71,6 +72,7 @@ fn picture(
             places.levels("levels, holding integrator (wrong)", "#d62728", 4.5, held),
             places.levels("levels", "#003f7d", 1.6, levels),
         ],
+        ..Drawing::default()
     };
     Ok(drawing.svg())
 }
@@ -118,4 +120,35 @@ fn write_text(name: &str, text: &str) -> Result<(), Fault> {
     let mut target = Target::create(name)?;
     target.write(text.as_bytes())?;
     target.finish()
+}
+
+#[cfg(test)]
+mod tests {
+    use super::*;
+    use gauge_line::{Line, Settings};
+
+    // A ramp through the resampler of the demo alone: 1600 a value is 1500 a level at a step of 15/16, with nothing lost to rounding.
+    #[test]
+    fn a_ramp_comes_out_even() {
+        let place = concat!(env!("CARGO_MANIFEST_DIR"), "/tail.settings");
+        let file = LineFile::read(place).unwrap();
+        assert_eq!(file.settings.step, 0.9375);
+        let alone = Settings {
+            stages: 1,
+            r: 1,
+            depth: 0,
+            ..file.settings
+        };
+        let mut line = Line::open(alone, &[], &file.prototype).unwrap();
+        let ramp: Vec<i32> = (-20..=20).map(|at| 1600 * at).collect();
+        let levels = levels_of(&mut line, &ramp).unwrap();
+        // The first levels still weigh zeros from before the start.
+        let rises = levels[2..].windows(2).map(|pair| pair[1] - pair[0]);
+        let rises: Vec<f32> = rises.collect();
+        assert!(rises.len() > 2 * 16);
+        assert!(
+            rises.iter().all(|rise| *rise == 1500.0 / 32768.0),
+            "{rises:?}"
+        );
+    }
 }

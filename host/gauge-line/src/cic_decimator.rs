@@ -1,5 +1,6 @@
 //! The CIC decimator.
 
+use crate::limits::MOST_STAGES;
 use crate::moved::Moved;
 use crate::raw;
 use crate::refusal::{Refusal, answered};
@@ -9,8 +10,8 @@ use crate::refusal::{Refusal, answered};
 pub struct CicDecimator {
     stages: u64,
     r: u64,
-    integrators: [i32; 8],
-    combs: [i32; 8],
+    integrators: [i32; MOST_STAGES],
+    combs: [i32; MOST_STAGES],
     sample_counter: u64,
 }
 
@@ -36,8 +37,8 @@ impl CicDecimator {
         let mut state = CicDecimator {
             stages: 0,
             r: 0,
-            integrators: [0; 8],
-            combs: [0; 8],
+            integrators: [0; MOST_STAGES],
+            combs: [0; MOST_STAGES],
             sample_counter: 0,
         };
         // SAFETY: the fields are this function's own.
@@ -109,6 +110,7 @@ impl CicDecimator {
     /// assert_eq!(cic.process_sample(1)?, Some(i32::MIN));
     /// # Ok::<(), gauge_line::Refusal>(())
     /// ```
+    #[inline]
     pub fn process_sample(&mut self, input: i32) -> Result<Option<i32>, Refusal> {
         let (mut made, mut sum) = (0, 0);
         // SAFETY: every place is borrowed for this call alone.
@@ -132,6 +134,7 @@ impl CicDecimator {
     /// assert_eq!(cic.process_sample_scaled(0)?, Some(-1));
     /// # Ok::<(), gauge_line::Refusal>(())
     /// ```
+    #[inline]
     pub fn process_sample_scaled(&mut self, input: i32) -> Result<Option<i32>, Refusal> {
         let (mut made, mut sum) = (0, 0);
         // SAFETY: every place is borrowed for this call alone.
@@ -158,6 +161,7 @@ impl CicDecimator {
     /// assert_eq!(sums, [10, 26, 0]);
     /// # Ok::<(), gauge_line::Refusal>(())
     /// ```
+    #[inline]
     pub fn process_block(&mut self, src: &[i32], dst: &mut [i32]) -> Result<Moved, Refusal> {
         let (mut taken, mut written) = (0, 0);
         // SAFETY: each pointer is lent with the length of its own slice, and the fields are borrowed for this call alone.

@@ -1,5 +1,6 @@
 //! The CIC interpolator.
 
+use crate::limits::MOST_STAGES;
 use crate::raw;
 use crate::refusal::{Refusal, answered};
 
@@ -8,8 +9,8 @@ use crate::refusal::{Refusal, answered};
 pub struct CicInterpolator {
     stages: u64,
     r: u64,
-    combs: [i32; 8],
-    integrators: [i32; 8],
+    combs: [i32; MOST_STAGES],
+    integrators: [i32; MOST_STAGES],
 }
 
 impl CicInterpolator {
@@ -20,8 +21,8 @@ impl CicInterpolator {
         let mut state = CicInterpolator {
             stages: 0,
             r: 0,
-            combs: [0; 8],
-            integrators: [0; 8],
+            combs: [0; MOST_STAGES],
+            integrators: [0; MOST_STAGES],
         };
         // SAFETY: the fields are this function's own.
         let number = unsafe {
@@ -91,6 +92,7 @@ impl CicInterpolator {
     /// assert_eq!(out, [3, 6, 0]);
     /// # Ok::<(), gauge_line::Refusal>(())
     /// ```
+    #[inline]
     pub fn process_sample(&mut self, input: i32, out_buf: &mut [i32]) -> Result<usize, Refusal> {
         let mut written = 0;
         // SAFETY: the pointer is lent with the length of its own slice, and the fields are borrowed for this call alone.

@@ -1,28 +1,29 @@
 //! The decimating FIR one sample at a time.
 
+use crate::limits::MOST_TAPS;
 use crate::raw;
 use crate::refusal::{Refusal, answered};
 
 /// A FIR on Q15 samples that thins them by a factor, as the line has it.
 #[derive(Clone, Debug, PartialEq, Eq)]
 pub struct FirDecimator {
-    taps: [i16; 64],
+    taps: [i16; MOST_TAPS],
     tap_count: u64,
     factor: u64,
-    delay: [i16; 64],
+    delay: [i16; MOST_TAPS],
     wait: u64,
 }
 
 impl FirDecimator {
-    /// Opens a FIR of at most 64 taps, which are copied, and a factor of 1 to 4,096. No taps mean off: the factor is not looked at, and every sample is handed on.
+    /// Opens a FIR of 1 to [`MOST_TAPS`] taps, which are copied, and a factor of 1 to 4,096. No taps mean off in the line alone; here they are refused.
     ///
     /// Refused: `FirFactor`, `Taps`.
     pub fn new(taps: &[i16], factor: usize) -> Result<FirDecimator, Refusal> {
         let mut state = FirDecimator {
-            taps: [0; 64],
+            taps: [0; MOST_TAPS],
             tap_count: 0,
             factor: 0,
-            delay: [0; 64],
+            delay: [0; MOST_TAPS],
             wait: 0,
         };
         // SAFETY: the pointer is lent with the length of its own slice, and the fields are this function's own.
@@ -69,6 +70,7 @@ impl FirDecimator {
     /// assert_eq!(outputs, [Ok(None), Ok(Some(200)), Ok(None), Ok(Some(600))]);
     /// # Ok::<(), gauge_line::Refusal>(())
     /// ```
+    #[inline]
     pub fn process_sample(&mut self, sample: i16) -> Result<Option<i16>, Refusal> {
         let (mut made, mut value) = (0, 0);
         // SAFETY: every place is borrowed for this call alone.
@@ -97,7 +99,7 @@ mod tests {
         let state = FirDecimator::new(&[11, 12], 7).unwrap();
         assert_eq!((state.tap_count, state.factor, state.wait), (2, 7, 2));
         assert_eq!(state.taps[..3], [11, 12, 0]);
-        assert_eq!(state.delay, [0; 64]);
+        assert_eq!(state.delay, [0; MOST_TAPS]);
     }
 
     #[test]
@@ -111,9 +113,18 @@ mod tests {
     }
 
     #[test]
-    fn no_taps_mean_off() {
-        let mut state = FirDecimator::new(&[], 0).unwrap();
-        assert_eq!(state.process_sample(5), Ok(Some(5)));
+    fn no_taps_are_refused() {
+        assert_eq!(FirDecimator::new(&[], 1), Err(Refusal::Taps));
+        assert_eq!(FirDecimator::new(&[], 0), Err(Refusal::FirFactor));
+    }
+
+    #[test]
+    fn zeros_are_refused() {
+        let mut state = FirDecimator::new(&[11], 1).unwrap();
+        (state.taps, state.tap_count) = ([0; MOST_TAPS], 0);
+        (state.factor, state.wait) = (0, 0);
+        assert_eq!(state.process_sample(5), Err(Refusal::State));
+        assert_eq!(state.reset(), Err(Refusal::State));
     }
 
     #[test]

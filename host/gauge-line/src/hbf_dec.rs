@@ -1,5 +1,6 @@
 //! One half-band stage that halves the rate.
 
+use crate::limits::{HBF_DEC_DELAY, MOST_HALF_BAND_TAPS};
 use crate::raw;
 use crate::refusal::{Refusal, answered};
 
@@ -7,8 +8,8 @@ use crate::refusal::{Refusal, answered};
 #[derive(Clone, Debug, PartialEq)]
 pub struct HbfDec {
     m: u64,
-    coeffs: [f32; 23],
-    delay: [f32; 96],
+    coeffs: [f32; MOST_HALF_BAND_TAPS],
+    delay: [f32; HBF_DEC_DELAY],
 }
 
 impl HbfDec {
@@ -18,8 +19,8 @@ impl HbfDec {
     pub fn new(taps: &[f32]) -> Result<HbfDec, Refusal> {
         let mut state = HbfDec {
             m: 0,
-            coeffs: [0.0; 23],
-            delay: [0.0; 96],
+            coeffs: [0.0; MOST_HALF_BAND_TAPS],
+            delay: [0.0; HBF_DEC_DELAY],
         };
         // SAFETY: the pointer is lent with the length of its own slice, and the fields are this function's own.
         let number = unsafe {
@@ -54,6 +55,7 @@ impl HbfDec {
     /// assert_eq!(stage.process_pair(0.0, 0.0)?, 0.25);
     /// # Ok::<(), gauge_line::Refusal>(())
     /// ```
+    #[inline]
     pub fn process_pair(&mut self, a: f32, b: f32) -> Result<f32, Refusal> {
         let mut value = 0.0;
         // SAFETY: every place is borrowed for this call alone.
@@ -81,6 +83,7 @@ impl HbfDec {
     /// assert_eq!(out, [0.25, 0.25, 0.0, 0.0]);
     /// # Ok::<(), gauge_line::Refusal>(())
     /// ```
+    #[inline]
     pub fn process(&mut self, src: &[f32], dst: &mut [f32]) -> Result<usize, Refusal> {
         let mut written = 0;
         // SAFETY: each pointer is lent with the length of its own slice, and the fields are borrowed for this call alone.
@@ -109,7 +112,7 @@ mod tests {
         let state = HbfDec::new(&[0.1, 0.2]).unwrap();
         assert_eq!(state.m, 2);
         assert_eq!(state.coeffs[..3], [0.1, 0.2, 0.0]);
-        assert_eq!(state.delay, [0.0; 96]);
+        assert_eq!(state.delay, [0.0; HBF_DEC_DELAY]);
     }
 
     #[test]

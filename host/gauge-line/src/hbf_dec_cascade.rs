@@ -1,5 +1,6 @@
 //! A cascade of half-band stages that thins blocks.
 
+use crate::limits::HBF_DEC_DELAYS;
 use crate::raw;
 use crate::refusal::{Refusal, answered};
 
@@ -7,7 +8,7 @@ use crate::refusal::{Refusal, answered};
 #[derive(Clone, Debug, PartialEq)]
 pub struct HbfDecCascade {
     depth: u64,
-    delays: [f32; 480],
+    delays: [f32; HBF_DEC_DELAYS],
 }
 
 impl HbfDecCascade {
@@ -17,7 +18,7 @@ impl HbfDecCascade {
     pub fn new(depth: usize) -> Result<HbfDecCascade, Refusal> {
         let mut state = HbfDecCascade {
             depth: 0,
-            delays: [0.0; 480],
+            delays: [0.0; HBF_DEC_DELAYS],
         };
         // SAFETY: the fields are this function's own.
         let number = unsafe {
@@ -31,7 +32,8 @@ impl HbfDecCascade {
     /// Refused: `State`.
     pub fn reset(&mut self) -> Result<(), Refusal> {
         // SAFETY: the fields are borrowed for this call alone.
-        let number = unsafe { raw::gauge_raw_hbf_dec_cascade_reset(&mut self.depth, &mut self.delays) };
+        let number =
+            unsafe { raw::gauge_raw_hbf_dec_cascade_reset(&mut self.depth, &mut self.delays) };
         answered(number, ())
     }
 
@@ -46,6 +48,7 @@ impl HbfDecCascade {
     /// assert!((out[16] - 1.0).abs() < 1e-6);
     /// # Ok::<(), gauge_line::Refusal>(())
     /// ```
+    #[inline]
     pub fn process(&mut self, src: &[f32], dst: &mut [f32]) -> Result<usize, Refusal> {
         let mut written = 0;
         // SAFETY: each pointer is lent with the length of its own slice, and the fields are borrowed for this call alone.

@@ -1,5 +1,6 @@
 //! One half-band stage that doubles the rate.
 
+use crate::limits::{HBF_INT_DELAY, MOST_HALF_BAND_TAPS};
 use crate::raw;
 use crate::refusal::{Refusal, answered};
 
@@ -7,8 +8,8 @@ use crate::refusal::{Refusal, answered};
 #[derive(Clone, Debug, PartialEq)]
 pub struct HbfInt {
     m: u64,
-    coeffs: [f32; 23],
-    delay: [f32; 48],
+    coeffs: [f32; MOST_HALF_BAND_TAPS],
+    delay: [f32; HBF_INT_DELAY],
 }
 
 impl HbfInt {
@@ -18,8 +19,8 @@ impl HbfInt {
     pub fn new(taps: &[f32]) -> Result<HbfInt, Refusal> {
         let mut state = HbfInt {
             m: 0,
-            coeffs: [0.0; 23],
-            delay: [0.0; 48],
+            coeffs: [0.0; MOST_HALF_BAND_TAPS],
+            delay: [0.0; HBF_INT_DELAY],
         };
         // SAFETY: the pointer is lent with the length of its own slice, and the fields are this function's own.
         let number = unsafe {
@@ -53,6 +54,7 @@ impl HbfInt {
     /// assert_eq!(stage.process_sample(1.0)?, (1.0, 0.5));
     /// # Ok::<(), gauge_line::Refusal>(())
     /// ```
+    #[inline]
     pub fn process_sample(&mut self, x: f32) -> Result<(f32, f32), Refusal> {
         let (mut even, mut odd) = (0.0, 0.0);
         // SAFETY: every place is borrowed for this call alone.
@@ -80,6 +82,7 @@ impl HbfInt {
     /// assert_eq!(out, [1.0, 0.5, 0.0, 0.5, 0.0]);
     /// # Ok::<(), gauge_line::Refusal>(())
     /// ```
+    #[inline]
     pub fn process(&mut self, src: &[f32], dst: &mut [f32]) -> Result<usize, Refusal> {
         let mut written = 0;
         // SAFETY: each pointer is lent with the length of its own slice, and the fields are borrowed for this call alone.
@@ -108,7 +111,7 @@ mod tests {
         let state = HbfInt::new(&[0.1, 0.2]).unwrap();
         assert_eq!(state.m, 2);
         assert_eq!(state.coeffs[..3], [0.1, 0.2, 0.0]);
-        assert_eq!(state.delay, [0.0; 48]);
+        assert_eq!(state.delay, [0.0; HBF_INT_DELAY]);
     }
 
     #[test]

@@ -1,5 +1,6 @@
 //! A cascade of half-band stages that makes more of blocks.
 
+use crate::limits::HBF_INT_DELAYS;
 use crate::raw;
 use crate::refusal::{Refusal, answered};
 
@@ -7,7 +8,7 @@ use crate::refusal::{Refusal, answered};
 #[derive(Clone, Debug, PartialEq)]
 pub struct HbfIntCascade {
     depth: u64,
-    delays: [f32; 240],
+    delays: [f32; HBF_INT_DELAYS],
 }
 
 impl HbfIntCascade {
@@ -17,7 +18,7 @@ impl HbfIntCascade {
     pub fn new(depth: usize) -> Result<HbfIntCascade, Refusal> {
         let mut state = HbfIntCascade {
             depth: 0,
-            delays: [0.0; 240],
+            delays: [0.0; HBF_INT_DELAYS],
         };
         // SAFETY: the fields are this function's own.
         let number = unsafe {
@@ -31,7 +32,8 @@ impl HbfIntCascade {
     /// Refused: `State`.
     pub fn reset(&mut self) -> Result<(), Refusal> {
         // SAFETY: the fields are borrowed for this call alone.
-        let number = unsafe { raw::gauge_raw_hbf_int_cascade_reset(&mut self.depth, &mut self.delays) };
+        let number =
+            unsafe { raw::gauge_raw_hbf_int_cascade_reset(&mut self.depth, &mut self.delays) };
         answered(number, ())
     }
 
@@ -45,6 +47,7 @@ impl HbfIntCascade {
     /// assert_eq!(cascade.process(&[1.0, 1.0, 1.0], &mut out)?, 8);
     /// # Ok::<(), gauge_line::Refusal>(())
     /// ```
+    #[inline]
     pub fn process(&mut self, src: &[f32], dst: &mut [f32]) -> Result<usize, Refusal> {
         let mut written = 0;
         // SAFETY: each pointer is lent with the length of its own slice, and the fields are borrowed for this call alone.

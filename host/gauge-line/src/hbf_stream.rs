@@ -1,5 +1,6 @@
 //! The decimating cascade one sample at a time.
 
+use crate::limits::{HBF_DEC_DELAYS, MOST_DEPTH};
 use crate::raw;
 use crate::refusal::{Refusal, answered};
 
@@ -7,21 +8,21 @@ use crate::refusal::{Refusal, answered};
 #[derive(Clone, Debug, PartialEq)]
 pub struct HbfStream {
     depth: u64,
-    delays: [f32; 480],
-    held: [f32; 5],
-    counts: [u64; 5],
+    delays: [f32; HBF_DEC_DELAYS],
+    held: [f32; MOST_DEPTH],
+    counts: [u64; MOST_DEPTH],
 }
 
 impl HbfStream {
-    /// Opens a cascade of depth 0 to 5; 0 is off and hands every sample on.
+    /// Opens a cascade of depth 1 to 5. Depth 0 is off in the line alone; here it is refused.
     ///
     /// Refused: `Depth`.
     pub fn new(depth: usize) -> Result<HbfStream, Refusal> {
         let mut state = HbfStream {
             depth: 0,
-            delays: [0.0; 480],
-            held: [0.0; 5],
-            counts: [0; 5],
+            delays: [0.0; HBF_DEC_DELAYS],
+            held: [0.0; MOST_DEPTH],
+            counts: [0; MOST_DEPTH],
         };
         // SAFETY: the fields are this function's own.
         let number = unsafe {
@@ -62,6 +63,7 @@ impl HbfStream {
     /// assert!(stream.process_sample(1.0)?.is_some());
     /// # Ok::<(), gauge_line::Refusal>(())
     /// ```
+    #[inline]
     pub fn process_sample(&mut self, x: f32) -> Result<Option<f32>, Refusal> {
         let (mut made, mut value) = (0, 0.0);
         // SAFETY: every place is borrowed for this call alone.
@@ -106,6 +108,15 @@ mod tests {
             .unwrap();
         let made = [1.0, 2.0, 3.0, 4.0].map(|x| stream.process_sample(x).unwrap());
         assert_eq!(made, [None, None, None, Some(block[0])]);
+    }
+
+    #[test]
+    fn no_stages_are_refused() {
+        assert_eq!(HbfStream::new(0), Err(Refusal::Depth));
+        let mut state = HbfStream::new(1).unwrap();
+        state.depth = 0;
+        assert_eq!(state.process_sample(3.0), Err(Refusal::State));
+        assert_eq!(state.reset(), Err(Refusal::State));
     }
 
     #[test]

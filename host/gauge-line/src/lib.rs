@@ -3,12 +3,15 @@
 //!
 //! [`Line`] takes cell samples and gives levels; the other types are its parts and their inverses. docs/rust.md is the page for a user.
 //!
-//! Only depth 5 of the half-band cascade holds 140 dB up to 0.4 of its output rate: [`passband`] has the figures of each depth.
+//! What changes a result without a refusal stands where it is set: the range of samples at [`Settings`], the layout of a prototype at [`PolyphaseResampF32`], the passband of a
+//! depth in [`passband`] (only depth 5 of the half-band cascade holds 140 dB up to 0.4 of its output rate). Floats must be rounded to nearest and subnormal numbers kept:
+//! [`fp_environment_ok`] says whether they are.
 #![no_std]
 #![warn(missing_docs)]
 
 mod cic_decimator;
 mod cic_interpolator;
+mod environment;
 mod fir_decimator;
 mod hbf_dec;
 mod hbf_dec_cascade;
@@ -28,6 +31,7 @@ mod values;
 
 pub use cic_decimator::CicDecimator;
 pub use cic_interpolator::CicInterpolator;
+pub use environment::fp_environment_ok;
 pub use fir_decimator::FirDecimator;
 pub use hbf_dec::HbfDec;
 pub use hbf_dec_cascade::HbfDecCascade;
@@ -43,6 +47,9 @@ pub use resample_linear::{resample_linear_f32, resample_linear_q15};
 pub use values::{
     cut_q15, hbf_dec_response_length, hbf_int_response_length, hbf_tap_table, q15_to_f32,
 };
+
+/// The version of the crate and of its archive.
+pub const VERSION: &str = env!("CARGO_PKG_VERSION");
 
 // The page's examples are doc tests too.
 #[cfg(doctest)]

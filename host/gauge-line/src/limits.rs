@@ -1,4 +1,6 @@
-//! The limits past which an opening or a block is refused.
+//! The limits past which an opening or a block is refused, and the lengths of the arrays in a state.
+//!
+//! Printed by host/bindings/run.sh from the constants of crates/.
 
 /// Stages of a CIC converter, from 1.
 pub const MOST_STAGES: usize = 8;
@@ -20,7 +22,19 @@ pub const LEAST_PHASES: usize = 2;
 pub const MOST_PHASES: usize = 64;
 /// Taps of a resampler's phase, from 1.
 pub const MOST_PHASE_TAPS: usize = 16;
-/// Step of a resampler in the line, at least.
-pub const LEAST_STEP: f32 = 1.0 / 64.0;
+/// Taps of a resampler's prototype.
+pub const MOST_PROTOTYPE: usize = 1024;
+/// Step of a resampler in the line, at least: 1/64.
+pub const LEAST_STEP: f32 = 0.015625;
 /// Step of a resampler in the line, at most.
 pub const MOST_STEP: f32 = 64.0;
+/// Places of a halving stage's delay.
+pub const HBF_DEC_DELAY: usize = 96;
+/// Places of a doubling stage's delay.
+pub const HBF_INT_DELAY: usize = 48;
+/// Places of a decimating cascade's delays.
+pub const HBF_DEC_DELAYS: usize = 480;
+/// Places of an interpolating cascade's delays.
+pub const HBF_INT_DELAYS: usize = 240;
+/// Taps of all stages of a cascade.
+pub const HBF_TABLE: usize = 45;

@@ -1,13 +1,34 @@
 //! The gauge line.
 
+use crate::limits::{
+    HBF_DEC_DELAYS, MOST_DEPTH, MOST_PHASE_TAPS, MOST_PROTOTYPE, MOST_STAGES, MOST_TAPS,
+};
 use crate::moved::Moved;
 use crate::raw;
 use crate::refusal::{Refusal, answered};
 
-/// What a line is opened with, beside its FIR taps and its prototype. The limits stand in [`limits`](crate::limits).
+/// What a line is opened with, beside its FIR taps and its prototype. The limits stand in [`limits`](crate::limits). By default each sample makes a level: one stage, every
+/// factor 1, no half-band stages, no resampler.
+///
+/// Range of samples: sums are modulo 2^32 and are divided by 2^g, where g, the gain bits, is the least with 2^g not below r^stages. From samples of −2^(31 − g) to
+/// 2^(31 − g) − 1 every sum is exact. Beyond, a steady sample x comes round as soon as x × r^stages leaves i32. Where g is over 16, no sample of the exact range reaches full scale.
+///
+/// ```
+/// use gauge_line::{Line, Settings};
+///
+/// // 18 gain bits: samples of -8192 to 8191.
+/// let settings = Settings { stages: 3, r: 64, ..Settings::default() };
+/// for (steady, level) in [(8191, 0.25 - 1.0 / 32768.0), (8192, -0.25), (16384, 0.0)] {
+///     let mut line = Line::open(settings, &[], &[])?;
+///     let mut out = [0.0; 4];
+///     line.feed(&[steady; 4 * 64], &mut out)?;
+///     assert_eq!(out[3], level);
+/// }
+/// # Ok::<(), gauge_line::Refusal>(())
+/// ```
 #[derive(Clone, Copy, Debug, PartialEq)]
 pub struct Settings {
-    /// CIC stages, 1 to 8.
+    /// CIC stages, 1 to 8. With r they set the range of samples.
     pub stages: usize,
     /// CIC factor, 1 to 4,096; r^stages is at most 2^31.
     pub r: usize,
@@ -21,6 +42,20 @@ pub struct Settings {
     pub phase_taps: usize,
     /// Input samples for each output of the resampler, 1/64 to 64.
     pub step: f32,
+}
+
+impl Default for Settings {
+    fn default() -> Settings {
+        Settings {
+            stages: 1,
+            r: 1,
+            factor: 1,
+            depth: 0,
+            phases: 0,
+            phase_taps: 0,
+            step: 1.0,
+        }
+    }
 }
 
 /// What one step of the line did.
@@ -53,47 +88,47 @@ pub enum Step {
 pub struct Line {
     stages: u64,
     r: u64,
-    integrators: [i32; 8],
-    combs: [i32; 8],
+    integrators: [i32; MOST_STAGES],
+    combs: [i32; MOST_STAGES],
     sample_counter: u64,
-    taps: [i16; 64],
+    taps: [i16; MOST_TAPS],
     tap_count: u64,
     factor: u64,
-    fir_delay: [i16; 64],
+    fir_delay: [i16; MOST_TAPS],
     wait: u64,
     depth: u64,
-    delays: [f32; 480],
-    held: [f32; 5],
-    counts: [u64; 5],
+    delays: [f32; HBF_DEC_DELAYS],
+    held: [f32; MOST_DEPTH],
+    counts: [u64; MOST_DEPTH],
     phases: u64,
     phase_taps: u64,
     mu: f32,
     step: f32,
-    delay: [f32; 16],
-    prototype: [f32; 1024],
+    delay: [f32; MOST_PHASE_TAPS],
+    prototype: [f32; MOST_PROTOTYPE],
 }
 
 const ZEROS: Line = Line {
     stages: 0,
     r: 0,
-    integrators: [0; 8],
-    combs: [0; 8],
+    integrators: [0; MOST_STAGES],
+    combs: [0; MOST_STAGES],
     sample_counter: 0,
-    taps: [0; 64],
+    taps: [0; MOST_TAPS],
     tap_count: 0,
     factor: 0,
-    fir_delay: [0; 64],
+    fir_delay: [0; MOST_TAPS],
     wait: 0,
     depth: 0,
-    delays: [0.0; 480],
-    held: [0.0; 5],
-    counts: [0; 5],
+    delays: [0.0; HBF_DEC_DELAYS],
+    held: [0.0; MOST_DEPTH],
+    counts: [0; MOST_DEPTH],
     phases: 0,
     phase_taps: 0,
     mu: 0.0,
     step: 0.0,
-    delay: [0.0; 16],
-    prototype: [0.0; 1024],
+    delay: [0.0; MOST_PHASE_TAPS],
+    prototype: [0.0; MOST_PROTOTYPE],
 };
 
 // A function of the archive on a line: what stands before its fields, the fields in the order in which they cross, what stands behind.
@@ -127,8 +162,8 @@ macro_rules! on_line {
 }
 
 impl Line {
-    /// Opens a line. `taps` are the FIR's, in Q15 (32768ths), at most 64; none turn the FIR off. `prototype` is the resampler's, phases × phase_taps long, tap t of phase p at
-    /// t × phases + p. Both are copied. A part that is off hands its values on.
+    /// Opens a line. `taps` are the FIR's, in Q15 (32768ths), at most [`MOST_TAPS`]; none turn the FIR off. `prototype` is the resampler's, phases × phase_taps long, tap t of phase p at
+    /// t × phases + p: [`PolyphaseResampF32`](crate::PolyphaseResampF32) says how a filter design is laid into it. Both are copied. A part that is off hands its values on.
     ///
     /// Refused: `Stages`, `Factor`, `GainBits`, `FirFactor`, `Taps`, `Depth`, `Phases`, `Prototype`, `Step`.
     ///
@@ -168,7 +203,8 @@ impl Line {
     /// the levels stay as they were. Both may be of any length.
     ///
     /// Over every list of feeds of an opened line: no feed is refused; the levels written so far are the first ones of those that all samples taken so far give when each part
-    /// is run over them as one list, however they were cut into feeds; and where a place of out stayed unwritten, they are all of them and every sample lent was taken.
+    /// is run over them as one list, however they were cut into feeds; where a place of out stayed unwritten, they are all of them and every sample lent was taken; and after a
+    /// feed that filled out and took a sample, the samples taken so far without the last one give fewer levels than were written: no sample is taken before it is needed.
     ///
     /// Refused: `State`.
     ///
@@ -182,6 +218,7 @@ impl Line {
     /// assert_eq!(out, [0.25, 0.5, 9.0]);
     /// # Ok::<(), gauge_line::Refusal>(())
     /// ```
+    #[inline]
     pub fn feed(&mut self, samples: &[i32], out: &mut [f32]) -> Result<Moved, Refusal> {
         let (mut taken, mut written) = (0, 0);
         // SAFETY: each pointer is lent with the length of its own slice, and the fields are borrowed for this call alone.
@@ -217,6 +254,7 @@ impl Line {
     /// assert_eq!(line.step(&[16384, 0], 1, true)?, Step::Wrote(-0.5));
     /// # Ok::<(), gauge_line::Refusal>(())
     /// ```
+    #[inline]
     pub fn step(&mut self, samples: &[i32], at: usize, place: bool) -> Result<Step, Refusal> {
         let (mut taken, mut written, mut value) = (0, 0, 0.0);
         // SAFETY: the pointer is lent with the length of its own slice, and the fields are borrowed for this call alone.
@@ -307,8 +345,16 @@ mod tests {
         assert_eq!((line.depth, line.phases, line.phase_taps), (2, 4, 1));
         assert_eq!((line.mu, line.step), (1.0, 1.5));
         assert_eq!(line.taps[..3], [11, 12, 0]);
-        assert_eq!(line.fir_delay, [0; 64]);
+        assert_eq!(line.fir_delay, [0; MOST_TAPS]);
         assert_eq!(line.prototype[..5], [0.1, 0.2, 0.3, 0.4, 0.0]);
+    }
+
+    #[test]
+    fn by_default_each_sample_makes_a_level() {
+        let mut line = Line::open(Settings::default(), &[], &[]).unwrap();
+        let mut out = [0.0; 2];
+        line.feed(&[16384, -8192], &mut out).unwrap();
+        assert_eq!(out, [0.5, -0.25]);
     }
 
     #[test]

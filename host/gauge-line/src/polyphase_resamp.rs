@@ -1,18 +1,33 @@
 //! The polyphase resampler.
 
+use crate::limits::{MOST_PHASE_TAPS, MOST_PROTOTYPE};
 use crate::moved::Moved;
 use crate::raw;
 use crate::refusal::{Refusal, answered};
 
 /// A polyphase resampler on f32, `step` input samples for each output, with linear interpolation between neighbouring phases.
+///
+/// The prototype: tap t of phase p stands at t × phases + p, and tap t meets the t-th sample before the newest. An output mu after the newest sample reads phase (1 − mu) × phases,
+/// so a later output reads a lower phase. A filter h as design programs give it, for `phases` times the input rate, is therefore laid with each row reversed:
+///
+/// ```text
+/// prototype[t * phases + p] = h[(t + 1) * phases - p]        0 where h has no such place; h[0] is not used
+///
+///          p = 0    1        2        ..   phases - 1
+/// t = 0    h[P]     h[P-1]   h[P-2]   ..   h[1]              P: phases
+/// t = 1    h[2P]    h[2P-1]  h[2P-2]  ..   h[P+1]
+/// ```
+///
+/// Laid in its own order, h makes levels that jump. Phases wrap, as in the Rust original: an output with mu below 1 / phases is drawn between the last phase and phase 0 of the same
+/// samples, and one at mu = 0 is drawn on from phases 0 and 1.
 #[derive(Clone, Debug, PartialEq)]
 pub struct PolyphaseResampF32 {
     phases: u64,
     taps: u64,
     mu: f32,
     step: f32,
-    delay: [f32; 16],
-    prototype: [f32; 1024],
+    delay: [f32; MOST_PHASE_TAPS],
+    prototype: [f32; MOST_PROTOTYPE],
 }
 
 // A function of the archive on a resampler: what stands before its fields, the fields in the order in which they cross, what stands behind.
@@ -32,7 +47,7 @@ macro_rules! on_resampler {
 }
 
 impl PolyphaseResampF32 {
-    /// Opens a resampler of 2 to 64 phases of 1 to 16 taps, with any finite step above zero. Tap t of phase p stands at t × phases + p of the prototype, which is copied.
+    /// Opens a resampler of 2 to 64 phases of 1 to 16 taps, with any finite step above zero. The prototype is laid as above and copied.
     ///
     /// Refused: `Phases`, `Prototype`, `Step`.
     pub fn from_taps(
@@ -46,8 +61,8 @@ impl PolyphaseResampF32 {
             taps: 0,
             mu: 0.0,
             step: 0.0,
-            delay: [0.0; 16],
-            prototype: [0.0; 1024],
+            delay: [0.0; MOST_PHASE_TAPS],
+            prototype: [0.0; MOST_PROTOTYPE],
         };
         // SAFETY: the pointer is lent with the length of its own slice, and the fields are this function's own.
         let number = unsafe {
@@ -90,6 +105,7 @@ impl PolyphaseResampF32 {
     /// assert_eq!(out, [-0.5]);
     /// # Ok::<(), gauge_line::Refusal>(())
     /// ```
+    #[inline]
     pub fn process_block(&mut self, src: &[f32], dst: &mut [f32]) -> Result<Moved, Refusal> {
         let (mut taken, mut written) = (0, 0);
         // SAFETY: each pointer is lent with the length of its own slice, and the fields are borrowed for this call alone.
@@ -123,6 +139,7 @@ impl PolyphaseResampF32 {
     /// assert_eq!(out, [-0.5, 0.0, 0.0]);
     /// # Ok::<(), gauge_line::Refusal>(())
     /// ```
+    #[inline]
     pub fn push(&mut self, x: f32, out: &mut [f32]) -> Result<usize, Refusal> {
         let mut written = 0;
         // SAFETY: the pointer is lent with the length of its own slice, and the fields are borrowed for this call alone.

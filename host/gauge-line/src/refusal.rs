@@ -13,6 +13,7 @@ use core::fmt;
 /// assert_eq!((refusal.number(), refusal.name()), (1, "Stages"));
 /// assert_eq!(refusal.to_string(), "refusal 1, Stages: CIC stages not 1 to 8");
 /// ```
+// printed: refusals rust
 #[derive(Clone, Copy, Debug, PartialEq, Eq, Hash)]
 pub enum Refusal {
     /// CIC stages not 1 to 8.
@@ -25,7 +26,7 @@ pub enum Refusal {
     Span = 4,
     /// FIR factor not 1 to 4,096.
     FirFactor = 5,
-    /// FIR taps: none, or over 65,536; in the line and [`FirDecimator`](crate::FirDecimator) only over 64.
+    /// FIR taps: none, or over 65,536; over 64 one sample at a time; in the line only over 64.
     Taps = 6,
     /// Samples of a block: none, or samples or span over 65,536.
     Samples = 7,
@@ -43,7 +44,7 @@ pub enum Refusal {
     Prototype = 13,
     /// Step not finite or not above zero; in the line not 1/64 to 64.
     Step = 14,
-    /// A state with settings that its opening refuses, or a counter out of range. No opening makes one.
+    /// Settings in a state that its opening refuses, or a counter out of range: the state was not opened, was refused at its opening, or was damaged.
     State = 15,
 }
 
@@ -93,14 +94,15 @@ const TABLE: [(Refusal, &str, &str); 15] = [
         "settings that the opening refuses, or a counter out of range",
     ),
 ];
+// printed until here
 
 impl Refusal {
-    /// The number that the archive answers, 1 to 15.
+    /// The number that the archive answers, from 1.
     pub fn number(self) -> u64 {
         self as u64
     }
 
-    /// The refusal of a number, 1 to 15.
+    /// The refusal of a number.
     pub fn from_number(number: u64) -> Option<Refusal> {
         let at = usize::try_from(number).ok()?.checked_sub(1)?;
         TABLE.get(at).map(|row| row.0)
@@ -136,7 +138,7 @@ pub(crate) fn answered<T>(number: u64, value: T) -> Result<T, Refusal> {
     if number == 0 {
         return Ok(value);
     }
-    Err(Refusal::from_number(number).expect("the archive answers 0 to 15"))
+    Err(Refusal::from_number(number).expect("the archive answers 0 or a number of the table"))
 }
 
 #[cfg(test)]
@@ -154,6 +156,6 @@ mod tests {
             assert_eq!(Refusal::from_number(place as u64 + 1), Some(row.0));
         }
         assert_eq!(Refusal::from_number(0), None);
-        assert_eq!(Refusal::from_number(16), None);
+        assert_eq!(Refusal::from_number(TABLE.len() as u64 + 1), None);
     }
 }

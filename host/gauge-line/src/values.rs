@@ -1,5 +1,6 @@
 //! Single values: the cut to 16 bits, a level as f32, the response lengths and the taps of the half-band stages.
 
+use crate::limits::HBF_TABLE;
 use crate::raw;
 use crate::refusal::{Refusal, answered};
 
@@ -62,8 +63,8 @@ pub fn hbf_int_response_length(depth: usize) -> Result<usize, Refusal> {
 /// ```
 /// assert_eq!(gauge_line::hbf_tap_table()[42..], [0.01186105, -0.09808109, 0.58622005]);
 /// ```
-pub fn hbf_tap_table() -> [f32; 45] {
-    let mut taps = [0.0; 45];
+pub fn hbf_tap_table() -> [f32; HBF_TABLE] {
+    let mut taps = [0.0; HBF_TABLE];
     // SAFETY: the place is this function's own.
     unsafe { raw::gauge_raw_hbf_tap_table(&mut taps) };
     taps

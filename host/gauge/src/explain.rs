@@ -1,27 +1,40 @@
 //! `gauge explain`: what a settings file makes.
 
 use crate::fault::Fault;
+use crate::lay::laid;
 use crate::line_file::LineFile;
 use crate::options::Options;
-use crate::section::{Section, first_level, sections, whole};
+use crate::ramp::{Unevenness, unevenness};
+use crate::range::{self, Range, steady_levels};
+use crate::rate::{Unit, rate};
+use crate::section::{HALF_BAND, Section, first_level, sections, whole};
 use crate::target::Target;
 use gauge_line::passband::{PASSBANDS, STAGE_TAPS};
-use gauge_line::{CicDecimator, Line, limits};
+use gauge_line::{CicDecimator, Line, Refusal, limits};
+use std::cmp::Ordering;
 use std::fmt::Write;
+
+// With more gain bits the greatest sum of 32 bits is, scaled, below 16-bit full scale.
+const FULL_SCALE_GAIN_BITS: u32 = 16;
+// A sample whose level is told where the line can take it.
+const HALF_SCALE: i64 = 16384;
+// Rises that are off by less than this part of an even one pass for even.
+const EVEN: f64 = 0.05;
 
 /// Prints what the settings file of the arguments makes.
 pub fn explain(arguments: &[String]) -> Result<(), Fault> {
-    let options = Options::parse(arguments, &["--settings"])?;
+    let options = Options::parse(arguments, &["--settings", "--rate"])?;
     let name = options.needed("--settings")?;
+    let unit = Unit::of(rate(&options)?);
     let file = LineFile::read(name)?;
     file.open()?;
     let mut out = Target::create("-")?;
-    out.write(explanation(name, &file)?.as_bytes())?;
+    out.write(explanation(name, &file, unit)?.as_bytes())?;
     out.finish()
 }
 
 /// What a settings file that was not refused makes, in words.
-pub fn explanation(name: &str, file: &LineFile) -> Result<String, Fault> {
+pub fn explanation(name: &str, file: &LineFile, unit: Unit) -> Result<String, Fault> {
     let refused = |refusal| Fault::file(name, refusal);
     let sections = sections(file).map_err(refused)?;
     let cic = CicDecimator::new(file.settings.stages, file.settings.r).map_err(refused)?;
@@ -31,9 +44,14 @@ pub fn explanation(name: &str, file: &LineFile) -> Result<String, Fault> {
         size_of::<Line>(),
         limits::MOST_GAIN_BITS
     );
-    add_table(&mut text, &sections);
-    add_start(&mut text, file, &sections);
-    add_passband(&mut text, file.settings.depth);
+    add_table(&mut text, &sections, unit);
+    add_start(&mut text, file, &sections, unit);
+    add_ranges(&mut text, file, bits);
+    add_levels(&mut text, file)?;
+    if file.settings.phases > 0 {
+        add_ramp(&mut text, file).map_err(refused)?;
+    }
+    add_passband(&mut text, file, &sections, unit);
     Ok(text)
 }
 
@@ -44,57 +62,163 @@ macro_rules! add {
     };
 }
 
-fn add_table(text: &mut String, sections: &[Section]) {
+fn add_table(text: &mut String, sections: &[Section], unit: Unit) {
     add!(
         text,
         "{:18}{:>16}{:>18}{:>16}{:>10}",
         "section",
         "samples a value",
-        "values a sample",
-        "delay, samples",
+        format!("values a {}", unit.name()),
+        format!("delay, {}s", unit.name()),
         "gain"
     );
     for section in sections {
-        add_row(text, section);
+        add_row(text, section, unit);
     }
-    let whole = whole(sections);
-    add_row(text, &whole);
+    add_row(text, &whole(sections), unit);
     add!(text, "");
     add!(
         text,
-        "Delay: how late a slow change shows. Gain: a steady sample of 16384 gives a level of {:.4} where no value is cut to 16 bits.",
-        0.5 * whole.gain
+        "Delay: how late a slow change shows. Gain: what it is multiplied by, where no sum leaves 32 bits and no value is cut to 16."
     );
 }
 
-fn add_row(text: &mut String, section: &Section) {
+fn add_row(text: &mut String, section: &Section, unit: Unit) {
     // Weights that sum to 0 have no centre.
     let delay = if section.delay.is_finite() {
-        format!("{:.1}", section.delay)
+        unit.time(section.delay)
     } else {
         "none".to_string()
     };
     add!(
         text,
-        "{:18}{:>16}{:>18.8}{delay:>16}{:>10.4}",
+        "{:18}{:>16}{:>18}{delay:>16}{:>10.4}",
         section.name,
         // Without the digits that an f32 step leaves behind.
         (section.samples_per_value * 1e4).round() / 1e4,
-        1.0 / section.samples_per_value,
+        unit.frequency(1.0 / section.samples_per_value),
         section.gain
     );
 }
 
-fn add_start(text: &mut String, file: &LineFile, sections: &[Section]) {
+fn add_start(text: &mut String, file: &LineFile, sections: &[Section], unit: Unit) {
+    let (first, reach) = (first_level(file), whole(sections).reach);
     add!(
         text,
-        "The first level comes with sample {}. Up to sample {} levels still weigh zeros from before the start.",
-        first_level(file),
-        whole(sections).reach
+        "The first level comes with sample {first}{}. Up to sample {reach}{} levels still weigh zeros from before the start.",
+        unit.within(first as f64),
+        unit.within(reach)
     );
 }
 
-fn add_passband(text: &mut String, depth: usize) {
+// The samples that a line can take.
+fn add_ranges(text: &mut String, file: &LineFile, bits: u32) {
+    let (stages, r) = (file.settings.stages, file.settings.r);
+    let ranges = [
+        ("in any order: every sum is exact", range::exact(stages, r)),
+        ("steady: the sum keeps to 32 bits", range::steady(stages, r)),
+        ("steady: and is not cut to 16 bits", range::uncut(stages, r)),
+    ];
+    add!(text, "");
+    add!(text, "{:36}{:>12}{:>12}", "samples", "least", "greatest");
+    for (what, range) in ranges {
+        let (least, greatest) = range.unwrap_or_default();
+        add!(text, "{what:36}{least:>12}{greatest:>12}");
+    }
+    if bits > FULL_SCALE_GAIN_BITS {
+        add!(
+            text,
+            "Warning: {bits} gain bits are over {FULL_SCALE_GAIN_BITS}, so no sample reaches 16-bit full scale: behind the CIC decimator levels stay within {0} of 0.",
+            2f64.powi(FULL_SCALE_GAIN_BITS as i32 - bits as i32)
+        );
+    }
+}
+
+// Levels of steady samples, as the line gives them.
+fn add_levels(text: &mut String, file: &LineFile) -> Result<(), Fault> {
+    let range = range::uncut(file.settings.stages, file.settings.r);
+    add!(text, "");
+    add!(
+        text,
+        "{:>20}   level, as the line gives it",
+        "steady sample"
+    );
+    for sample in told(range.unwrap_or_default()) {
+        let levels = steady_levels(file, sample as i32)?;
+        add!(text, "{sample:>20}   {}", level_text(levels));
+    }
+    Ok(())
+}
+
+// A level, or the least and the greatest. Taps near the end of f32 can leave none.
+fn level_text((low, high): (f32, f32)) -> String {
+    match low.partial_cmp(&high) {
+        Some(Ordering::Equal) => format!("{low}"),
+        Some(Ordering::Less) => format!("{low} to {high}"),
+        _ => "not a number".to_string(),
+    }
+}
+
+// The steady samples whose levels are told: the ends of a range, and half scale where it is within.
+fn told((least, greatest): Range) -> Vec<i64> {
+    let half = Some(HALF_SCALE).filter(|half| (least..=greatest).contains(half));
+    let mut told: Vec<i64> = [Some(least), half, Some(greatest)]
+        .into_iter()
+        .flatten()
+        .collect();
+    told.dedup();
+    told
+}
+
+// How even the levels of a ramp are, and what is the matter where they are not.
+fn add_ramp(text: &mut String, file: &LineFile) -> Result<(), Refusal> {
+    let (phases, taps, step) = (
+        file.settings.phases,
+        file.settings.phase_taps,
+        file.settings.step,
+    );
+    let uneven = |prototype: &[f32]| unevenness(phases, taps, prototype, step);
+    add!(text, "");
+    let Some(off) = uneven(&file.prototype)? else {
+        add!(
+            text,
+            "Ramp: the resampler's gain is 0 or past f32, so levels don't follow it."
+        );
+        return Ok(());
+    };
+    add!(
+        text,
+        "Ramp: the resampler's rises are off by at most {:.1} % of an even one, by {:.1} % on average.",
+        100.0 * off.worst,
+        100.0 * off.mean
+    );
+    let natural = uneven(&laid(&file.prototype, phases, taps))?;
+    if off.worst > EVEN {
+        let whole = (f64::from(step) * phases as f64).fract() == 0.0;
+        add!(text, "Warning: {}", matter(off, natural, whole));
+    }
+    Ok(())
+}
+
+// What makes levels uneven: the order of the prototype, where it would be better as a natural one that is laid; else the phases that wrap.
+fn matter(off: Unevenness, natural: Option<Unevenness>, whole: bool) -> String {
+    match natural {
+        Some(laid) if laid.mean < off.mean / 2.0 => format!(
+            "taken as `natural` and laid, h[(t + 1) * phases - p] at t * phases + p, this prototype would be off by {:.1} %, by {:.1} % on average.",
+            100.0 * laid.worst,
+            100.0 * laid.mean
+        ),
+        _ if whole => {
+            "a level that falls on a value is drawn on from phases 0 and 1, as if the prototype were straight from value to value.".to_string()
+        }
+        _ => {
+            "past the last phase the reading wraps to phase 0, which belongs one value later. A step of whole 1 / phases reads nothing between phases.".to_string()
+        }
+    }
+}
+
+fn add_passband(text: &mut String, file: &LineFile, sections: &[Section], unit: Unit) {
+    let depth = file.settings.depth;
     let Some(figures) = depth.checked_sub(1).and_then(|at| PASSBANDS.get(at)) else {
         return;
     };
@@ -103,9 +227,10 @@ fn add_passband(text: &mut String, depth: usize) {
     add!(text, "");
     add!(
         text,
-        "Depth {depth}: half-band stages of {} taps, out of {}. Of the cascade's output rate:",
+        "Depth {depth}: half-band stages of {} taps, out of {}. Of the cascade's output rate{}:",
         taps(depth),
-        taps(limits::MOST_DEPTH)
+        taps(limits::MOST_DEPTH),
+        output_rate(sections, unit)
     );
     add!(
         text,
@@ -131,6 +256,17 @@ fn add_passband(text: &mut String, depth: usize) {
     }
 }
 
+// The rate of the half-band cascade in hertz, where that of the samples is known.
+fn output_rate(sections: &[Section], unit: Unit) -> String {
+    let cascade = sections.iter().find(|section| section.name == HALF_BAND);
+    match (unit, cascade) {
+        (Unit::Second(_), Some(cascade)) => {
+            format!(" of {} Hz", unit.frequency(1.0 / cascade.samples_per_value))
+        }
+        _ => String::new(),
+    }
+}
+
 #[cfg(test)]
 mod tests {
     use super::*;
@@ -138,15 +274,63 @@ mod tests {
     const FULL: &str = "stages = 3\nr = 4\ntaps = 8192 8192 8192 8192\nfactor = 2\ndepth = 2\nphases = 2\nphase_taps = 2\nprototype = 1 0.5 0 0.5\nstep = 1.5\n";
     const PLAIN: &str = "stages = 2\nr = 5\n";
 
+    fn explained(settings: &str, unit: Unit) -> String {
+        let file = LineFile::parse("f", settings).unwrap();
+        explanation("f", &file, unit).unwrap()
+    }
+
     #[test]
     fn each_part_of_the_explanation_is_there() {
-        let file = LineFile::parse("f", FULL).unwrap();
-        let text = explanation("f", &file).unwrap();
+        let text = explained(FULL, Unit::Sample);
         assert!(text.starts_with("f: a state of 6544 bytes, 6 gain bits of at most 31\n"));
         assert!(text.contains("worst alias into 0 to 0.4    -15.0 dB"));
-        let file = LineFile::parse("f", &FULL.replace("1.5", "0.1")).unwrap();
-        assert!(explanation("f", &file).unwrap().contains(" 3.2 "));
-        let file = LineFile::parse("f", PLAIN).unwrap();
-        assert!(!explanation("f", &file).unwrap().contains("alias"));
+        assert!(explained(&FULL.replace("1.5", "0.1"), Unit::Sample).contains(" 3.2 "));
+        assert!(!explained(PLAIN, Unit::Sample).contains("alias"));
+        assert!(!explained(PLAIN, Unit::Sample).contains("Ramp"));
+    }
+
+    #[test]
+    fn a_rate_gives_seconds_and_hertz() {
+        let text = explained(FULL, Unit::Second(64.0));
+        assert!(text.contains("values a second") && text.contains("delay, seconds"));
+        assert!(text.contains("comes with sample 40 (0.625 s)."));
+        assert!(text.contains("output rate of 2 Hz:"));
+    }
+
+    #[test]
+    fn full_scale_out_of_reach_is_told() {
+        assert!(
+            explained("stages = 3\nr = 64\n", Unit::Sample)
+                .contains("levels stay within 0.25 of 0")
+        );
+        assert!(!explained("stages = 2\nr = 256\n", Unit::Sample).contains("Warning"));
+    }
+
+    #[test]
+    fn a_prototype_in_natural_order_is_told() {
+        let natural = "stages=1\nr=1\nphases=4\nphase_taps=2\nstep=0.75\nprototype=0 0.25 0.5 0.75 1 0.75 0.5 0.25\n";
+        assert!(
+            explained(natural, Unit::Sample).contains("this prototype would be off by 0.0 %, ")
+        );
+        let laid = natural
+            .replace("0 0.25 0.5 0.75 1", "1 0.75 0.5 0.25 0")
+            .replace("0 0.75 0.5 0.25", "0 0.25 0.5 0.75");
+        let text = explained(&laid, Unit::Sample);
+        assert!(text.contains("off by at most 0.0 %") && !text.contains("Warning"));
+        let curved = laid
+            .replace("1 0.75 0.5 0.25 0 0.25", "1 0.9 0.5 0.1 0 0.1")
+            .replace("0.5 0.75", "0.5 0.9");
+        assert!(explained(&curved, Unit::Sample).contains("drawn on from phases 0 and 1"));
+        assert!(
+            explained(&laid.replace("step=0.75", "step=0.7"), Unit::Sample)
+                .contains("the reading wraps")
+        );
+        assert!(
+            explained(
+                &laid.replace("0.25 0 0.25 0.5", "0.25 0 -2.5 -0.75"),
+                Unit::Sample
+            )
+            .contains("gain is 0")
+        );
     }
 }

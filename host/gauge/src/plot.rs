@@ -1,43 +1,168 @@
 //! `gauge plot`: samples and levels as a drawing.
 
+use crate::axis::Span;
 use crate::convert::levels_of;
-use crate::fault::Fault;
+use crate::fault::{Fault, front};
 use crate::format::Format;
 use crate::line_file::LineFile;
 use crate::options::Options;
+use crate::range::scale;
+use crate::rate::rate;
 use crate::samples::Samples;
 use crate::section::{first_level, sections, whole};
-use crate::svg::{Drawing, Series};
+use crate::svg::{Drawing, Series, Stretch};
 use crate::target::Target;
 
-const OPTIONS: [&str; 4] = ["--settings", "--in", "--out", "--format"];
+const OPTIONS: [&str; 7] = [
+    "--settings",
+    "--in",
+    "--out",
+    "--format",
+    "--rate",
+    "--title",
+    "--range",
+];
 
 /// What levels are in parts of, for a drawing.
 pub const LEVEL: &str = "level, in parts of full scale (32768)";
+
+// Units of time in seconds, upward.
+const TIMES: [(&str, f64); 6] = [
+    ("time, microseconds", 1e-6),
+    ("time, milliseconds", 1e-3),
+    ("time, seconds", 1.0),
+    ("time, minutes", 60.0),
+    ("time, hours", 3600.0),
+    ("time, days", 86400.0),
+];
 
 /// Draws a recording and its levels as the arguments say.
 pub fn plot(arguments: &[String]) -> Result<(), Fault> {
     let options = Options::parse(arguments, &OPTIONS)?;
     let format = Format::named(options.get("--format").unwrap_or("text"))?;
     let name = options.needed("--settings")?;
+    let rate = rate(&options)?;
+    let range = options.get("--range").map(range).transpose()?;
     let file = LineFile::read(name)?;
     let mut line = file.open()?;
     let samples = Samples::open(options.get("--in").unwrap_or("-"), format)?.all()?;
     let mut target = Target::create(options.get("--out").unwrap_or("-"))?;
     let levels = levels_of(&mut line, &samples)?;
-    let places = Places::of(&file, 1.0)?;
-    let drawing = Drawing {
-        title: name,
-        x_name: "sample",
-        y_name: LEVEL,
-        mark: None,
-        series: vec![
-            places.samples(&samples),
-            places.levels("levels", "#005a9c", 2.0, &levels),
-        ],
-    };
+    let across = Across::of(rate, range, samples.len());
+    let title = options.get("--title").unwrap_or(name);
+    let drawing = drawing(&file, &samples, &levels, title, &across)?;
     target.write(drawing.svg().as_bytes())?;
     target.finish()
+}
+
+fn drawing<'a>(
+    file: &LineFile,
+    samples: &[i32],
+    levels: &[f32],
+    title: &'a str,
+    across: &Across,
+) -> Result<Drawing<'a>, Fault> {
+    let places = Places::of(file, across.unit)?;
+    let drawn = places.levels("levels", "#005a9c", 2.0, levels);
+    Ok(Drawing {
+        title,
+        x_name: across.name,
+        whole: across.whole,
+        range: across.range,
+        y_name: LEVEL,
+        note: note(file, samples, levels, &drawn).or_else(|| across.note(&drawn)),
+        ends: ends(&drawn.points, scale(file)?),
+        series: vec![places.samples(samples), drawn],
+        mark: None,
+    })
+}
+
+// Why there is no line of levels, where there is none.
+fn note(file: &LineFile, samples: &[i32], levels: &[f32], drawn: &Series) -> Option<String> {
+    if samples.is_empty() {
+        Some("no samples".to_string())
+    } else if levels.is_empty() {
+        let (first, all) = (first_level(file), samples.len());
+        Some(format!(
+            "no level: the first comes with sample {first}, and there are {all}"
+        ))
+    } else if drawn.points.is_empty() {
+        Some("every level so far tells of the time before the first sample".to_string())
+    } else {
+        None
+    }
+}
+
+// Where levels stand at an end of the scale or past it, from left to right. Half a 32768th is left to rounding.
+fn ends(levels: &[(f64, f64)], (least, greatest): (f32, f32)) -> Vec<Stretch> {
+    const HALF: f64 = 0.5 / 32768.0;
+    let (low, high) = (f64::from(least) + HALF, f64::from(greatest) - HALF);
+    let end = |level: f64| match level {
+        // A line whose taps leave nothing has no scale.
+        _ if low >= high => None,
+        _ if level >= high => Some(true),
+        _ if level <= low => Some(false),
+        _ => None,
+    };
+    let runs = levels.chunk_by(|a, b| end(a.1) == end(b.1));
+    let stretch = |run: &[(f64, f64)]| {
+        let upper = end(run[0].1)?;
+        let (from, to) = (run[0].0, run[run.len() - 1].0);
+        Some(Stretch { from, to, upper })
+    };
+    runs.filter_map(stretch).collect()
+}
+
+// FROM..TO, either of which may be left out.
+fn range(value: &str) -> Result<Span, Fault> {
+    let end = |text: &str, missing: f64| match text {
+        "" => Some(missing),
+        _ => text.parse().ok().filter(|end: &f64| end.is_finite()),
+    };
+    let ends = value.split_once("..");
+    let ends = ends.and_then(|(from, to)| Some((end(from, 0.0)?, end(to, f64::INFINITY)?)));
+    let wrong = || Fault::usage(format!("--range {} is not FROM..TO, upward", front(value)));
+    // Nearer ends would leave places that f64 can't tell.
+    let apart = |(from, to): &Span| to - from >= 1e-12 * from.abs().max(1.0);
+    ends.filter(apart).ok_or_else(wrong)
+}
+
+// The axis across: samples, or the time that is drawn in a unit that suits it.
+struct Across {
+    name: &'static str,
+    whole: bool,
+    // Samples in a unit of the axis.
+    unit: f64,
+    range: Option<Span>,
+}
+
+impl Across {
+    // A range is in samples, or in seconds where the rate is known, and ends with the recording at the latest.
+    fn of(rate: Option<f64>, range: Option<Span>, samples: usize) -> Across {
+        let a_unit = rate.unwrap_or(1.0);
+        let end = samples.saturating_sub(1) as f64 / a_unit;
+        // Behind the end there is still a sample's width to draw, and one that f64 can tell.
+        let least = |from: f64| (1.0 / a_unit).max(1e-9 * from.abs());
+        let range = range.map(|(from, to)| (from, to.min(end.max(from + least(from)))));
+        let length = range.map_or(end, |(from, to)| to - from);
+        let suits = |time: &&(&str, f64)| length >= 3.0 * time.1;
+        let (name, seconds) = TIMES.iter().rev().find(suits).unwrap_or(&TIMES[0]);
+        let (name, seconds) = rate.map_or(("sample", 1.0), |_| (*name, *seconds));
+        Across {
+            name,
+            whole: rate.is_none(),
+            unit: a_unit * seconds,
+            range: range.map(|(from, to)| (from / seconds, to / seconds)),
+        }
+    }
+
+    // Whether the range that is drawn has no levels.
+    fn note(&self, drawn: &Series) -> Option<String> {
+        let (from, to) = self.range?;
+        let inside = |point: &(f64, f64)| (from..=to).contains(&point.0);
+        let any = drawn.points.iter().any(inside);
+        (!any).then(|| "no level in this range".to_string())
+    }
 }
 
 /// Where the samples and levels of a line stand in a drawing.
@@ -96,5 +221,68 @@ impl Places {
             width,
             points: points.filter(|(at, _)| *at >= 0.0).collect(),
         }
+    }
+}
+
+#[cfg(test)]
+mod tests {
+    use super::*;
+
+    #[test]
+    fn a_range_has_two_ends_upward() {
+        assert_eq!(range("1..2.5"), Ok((1.0, 2.5)));
+        assert_eq!(range("..3"), Ok((0.0, 3.0)));
+        assert_eq!(range("3.."), Ok((3.0, f64::INFINITY)));
+        for wrong in [
+            "",
+            "3",
+            "2..1",
+            "1..1",
+            "a..b",
+            "nan..",
+            "1..inf",
+            "1...2",
+            "0..1e-300",
+        ] {
+            assert!(range(wrong).is_err(), "{wrong}");
+        }
+    }
+
+    #[test]
+    fn time_is_told_in_a_unit_that_suits_it() {
+        let name = |rate, samples| Across::of(Some(rate), None, samples).name;
+        assert_eq!(name(8.0, 345_600), "time, hours");
+        assert_eq!(name(8.0, 100), "time, seconds");
+        assert_eq!(name(48_000.0, 480), "time, milliseconds");
+        assert_eq!(name(1.0, 0), "time, microseconds");
+        assert_eq!(Across::of(None, None, 345_600).name, "sample");
+        let part = Across::of(Some(8.0), Some((600.0, f64::INFINITY)), 8 * 3600 + 1);
+        assert_eq!(
+            (part.name, part.range),
+            ("time, minutes", Some((10.0, 60.0)))
+        );
+        for from in [0.0, 9.0, 1e9, 1e300] {
+            let behind = Across::of(Some(1e12), Some((from, f64::INFINITY)), 3);
+            assert!(behind.range.is_some_and(|(from, to)| from < to), "{from}");
+        }
+    }
+
+    #[test]
+    fn runs_at_the_ends_of_the_scale_are_found() {
+        let top = 32767.0 / 32768.0;
+        let levels = [0.0, top, top, 1.5, 0.99, -1.0, top, 0.0];
+        let levels: Vec<(f64, f64)> = levels
+            .iter()
+            .enumerate()
+            .map(|(k, l)| (k as f64, *l))
+            .collect();
+        let stretch = |from, to, upper| Stretch { from, to, upper };
+        let wanted = [
+            stretch(1.0, 3.0, true),
+            stretch(5.0, 5.0, false),
+            stretch(6.0, 6.0, true),
+        ];
+        assert_eq!(ends(&levels, (-1.0, top as f32)), wanted);
+        assert_eq!(ends(&levels, (0.0, 0.0)), []);
     }
 }

@@ -4,6 +4,9 @@ use crate::line_file::LineFile;
 use gauge_line::passband::STAGE_TAPS;
 use gauge_line::{CicDecimator, Refusal, hbf_tap_table};
 
+/// The name of the section that a depth turns on.
+pub const HALF_BAND: &str = "half-band cascade";
+
 /// One section as a filter. Times are in samples of the recording.
 pub struct Section {
     /// What it is.
@@ -101,7 +104,7 @@ fn half_band(file: &LineFile, rate: f64) -> Section {
         rate *= 2.0;
     }
     Section {
-        name: "half-band cascade",
+        name: HALF_BAND,
         samples_per_value: rate,
         delay,
         reach,

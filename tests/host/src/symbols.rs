@@ -1,0 +1,36 @@
+//! The archive has the functions that crates/gauge_line/src exports and no others, wants three functions of the C library at most, and has no data that can be written.
+
+use crate::support::{archive, command, printed, root};
+
+/// The functions that the archive defines, in order.
+pub fn archived() -> Vec<String> {
+    let listed = printed(command("nm").args(["-g", "--defined-only"]).arg(archive()));
+    let mut names: Vec<String> = listed
+        .lines()
+        .filter_map(|line| line.split_once(" T ").map(|(_, name)| name.to_string()))
+        .collect();
+    names.sort();
+    names
+}
+
+#[test]
+fn the_archive_has_the_exported_functions() {
+    let mut exported = bindings::names(&root()).unwrap();
+    exported.sort();
+    assert!(!exported.is_empty());
+    assert_eq!(exported, archived());
+}
+
+// Symbols beside code and constants: functions of the C library.
+#[test]
+fn the_archive_has_no_state() {
+    let wanted = ["memcpy", "memmove", "memset"];
+    for line in printed(command("nm").arg(archive())).lines() {
+        let words: Vec<&str> = line.split_whitespace().collect();
+        let [.., kind, name] = words[..] else {
+            continue;
+        };
+        let known = matches!(kind, "T" | "t" | "R" | "r") || kind == "U" && wanted.contains(&name);
+        assert!(known, "{line}");
+    }
+}
