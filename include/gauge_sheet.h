@@ -44,6 +44,10 @@ GaugeSheet_entry(const GaugeSheet *sheet, uint64_t k, uint64_t *offset, uint64_t
 // again. Refusals: 16 where there are over GAUGE_MOST_ENTRIES lengths; 17 where they do not add up to the bytes, the
 // sheet would pass 2^32 - 1 bytes or the span is too short for it. The span is then as it was, and `written` is 0.
 // printed: function gauge_raw_sheet_write
+uint64_t gauge_raw_sheet_write(
+    const uint8_t *joined, uint64_t joined_len, const uint64_t *lengths, uint64_t lengths_len, uint8_t *span,
+    uint64_t span_len, uint64_t *written
+);
 // printed until here
 
 #ifdef __cplusplus

@@ -34,9 +34,8 @@ impl<'a> Sheet<'a> {
     pub fn read(bytes: &'a [u8]) -> Result<Self, Refusal> {
         let mut count = 0;
         // SAFETY: the pointer is lent with the length of its slice.
-        let number = unsafe {
-            raw::gauge_raw_sheet_count(bytes.as_ptr(), bytes.len() as u64, &mut count)
-        };
+        let number =
+            unsafe { raw::gauge_raw_sheet_count(bytes.as_ptr(), bytes.len() as u64, &mut count) };
         answered(number, Sheet { bytes, count })
     }
 

@@ -41,7 +41,10 @@ fn every_pair_is_compared() {
     assert_eq!(count(&sheet(&hidden, 36)), Err(Refusal::Entries));
     let clear = [(26, 10), (30, 0), (36, 1)];
     assert_eq!(count(&sheet(&clear, 37)), Ok(3));
-    assert_eq!(count(&sheet(&[(19, 0), (18, 1)], 19)), Err(Refusal::Entries));
+    assert_eq!(
+        count(&sheet(&[(19, 0), (18, 1)], 19)),
+        Err(Refusal::Entries)
+    );
 }
 
 #[test]
@@ -71,11 +74,26 @@ fn the_wanted_entry() {
 #[test]
 fn a_writer_leaves_a_refused_span_alone() {
     let mut span = [9; 15];
-    assert_eq!(Sheet::write(b"abcde", &[5], &mut span[..14]), Err(Refusal::Entries));
-    assert_eq!(Sheet::write(b"abcde", &[4], &mut span), Err(Refusal::Entries));
-    assert_eq!(Sheet::write(b"abcde", &[6, usize::MAX], &mut span), Err(Refusal::Entries));
-    assert_eq!(Sheet::write(b"abcde", &[0; 33], &mut span), Err(Refusal::Directory));
-    assert_eq!(Sheet::write(b"abcde", &[0; 40], &mut span), Err(Refusal::Directory));
+    assert_eq!(
+        Sheet::write(b"abcde", &[5], &mut span[..14]),
+        Err(Refusal::Entries)
+    );
+    assert_eq!(
+        Sheet::write(b"abcde", &[4], &mut span),
+        Err(Refusal::Entries)
+    );
+    assert_eq!(
+        Sheet::write(b"abcde", &[6, usize::MAX], &mut span),
+        Err(Refusal::Entries)
+    );
+    assert_eq!(
+        Sheet::write(b"abcde", &[0; 33], &mut span),
+        Err(Refusal::Directory)
+    );
+    assert_eq!(
+        Sheet::write(b"abcde", &[0; 40], &mut span),
+        Err(Refusal::Directory)
+    );
     assert_eq!(span, [9; 15]);
     assert_eq!(Sheet::write(b"abcde", &[5], &mut span), Ok(15));
 }
@@ -92,5 +110,8 @@ fn places_behind_a_sheet_stay() {
 fn a_sheet_past_32_bits_is_refused() {
     let joined = vec![0; (1 << 32) - 10];
     let mut span = vec![0; 16];
-    assert_eq!(Sheet::write(&joined, &[joined.len()], &mut span), Err(Refusal::Entries));
+    assert_eq!(
+        Sheet::write(&joined, &[joined.len()], &mut span),
+        Err(Refusal::Entries)
+    );
 }

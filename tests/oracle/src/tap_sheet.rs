@@ -125,7 +125,10 @@ fn refusal<T>(answer: &Result<T, u32>) -> u32 {
 fn number(directory: &mut &[u8], bytes: usize) -> Result<u64, u32> {
     let (front, rest) = directory.split_at_checked(bytes).ok_or(16u32)?;
     *directory = rest;
-    Ok(front.iter().rev().fold(0, |n, byte| n << 8 | u64::from(*byte)))
+    Ok(front
+        .iter()
+        .rev()
+        .fold(0, |n, byte| n << 8 | u64::from(*byte)))
 }
 
 /// Offsets and lengths as the directory has them.
@@ -162,7 +165,11 @@ fn sound(sheet: &[u8], entries: &[(u64, u64)]) -> bool {
 
 fn entries(sheet: &[u8]) -> Result<Vec<(u64, u64)>, u32> {
     let found = directory(sheet)?;
-    if sound(sheet, &found) { Ok(found) } else { Err(17) }
+    if sound(sheet, &found) {
+        Ok(found)
+    } else {
+        Err(17)
+    }
 }
 
 impl Reader {
