@@ -1,22 +1,23 @@
 //! `gauge explain`: what a settings file makes.
 
 use crate::fault::Fault;
+use crate::job::opened;
 use crate::line_file::LineFile;
 use crate::options::Options;
 use crate::section::{Section, first_level, sections, whole};
 use crate::target::Target;
 use gauge_line::passband::{PASSBANDS, STAGE_TAPS};
 use gauge_line::{CicDecimator, Line, limits};
+use std::ffi::OsString;
 use std::fmt::Write;
 
 /// Prints what the settings file of the arguments makes.
-pub fn explain(arguments: &[String]) -> Result<(), Fault> {
-    let options = Options::parse(arguments, &["--settings"])?;
-    let name = options.needed("--settings")?;
-    let file = LineFile::read(name)?;
-    file.open()?;
+pub fn explain(arguments: &[OsString]) -> Result<(), Fault> {
+    let options = Options::parse(arguments, &["--settings"], "--settings")?;
+    let (file, _) = opened(&options)?;
+    let name = options.needed("--settings")?.to_string_lossy();
     let mut out = Target::create("-")?;
-    out.write(explanation(name, &file)?.as_bytes())?;
+    out.write(explanation(&name, &file)?.as_bytes())?;
     out.finish()
 }
 

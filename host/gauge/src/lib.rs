@@ -1,20 +1,32 @@
 //! The fitter's tool: recorded cell samples to levels through a gauge line that a settings file describes. docs/gauge.md is the page for a user.
+#![forbid(unsafe_code)]
 #![warn(missing_docs)]
 
 pub mod command;
 pub mod convert;
+mod csv;
+mod cuts;
 mod entries;
 mod explain;
 pub mod fault;
 pub mod format;
+mod job;
+pub mod lay;
 pub mod levels;
 pub mod line_file;
+mod nearest;
 mod numbers;
 mod options;
 pub mod plot;
 mod progress;
+mod reason;
 mod run;
+mod same_file;
 mod samples;
 mod section;
 pub mod svg;
+mod tally;
 pub mod target;
+mod text;
+mod wav;
+mod whole;

@@ -2,33 +2,28 @@
 
 use crate::convert::levels_of;
 use crate::fault::Fault;
-use crate::format::Format;
+use crate::job::{self, Job};
 use crate::line_file::LineFile;
 use crate::options::Options;
-use crate::samples::Samples;
 use crate::section::{first_level, sections, whole};
 use crate::svg::{Drawing, Series};
-use crate::target::Target;
-
-const OPTIONS: [&str; 4] = ["--settings", "--in", "--out", "--format"];
+use std::ffi::OsString;
 
 /// What levels are in parts of, for a drawing.
 pub const LEVEL: &str = "level, in parts of full scale (32768)";
 
 /// Draws a recording and its levels as the arguments say.
-pub fn plot(arguments: &[String]) -> Result<(), Fault> {
-    let options = Options::parse(arguments, &OPTIONS)?;
-    let format = Format::named(options.get("--format").unwrap_or("text"))?;
-    let name = options.needed("--settings")?;
-    let file = LineFile::read(name)?;
-    let mut line = file.open()?;
-    let samples = Samples::open(options.get("--in").unwrap_or("-"), format)?.all()?;
-    let mut target = Target::create(options.get("--out").unwrap_or("-"))?;
-    let levels = levels_of(&mut line, &samples)?;
-    let places = Places::of(&file, 1.0)?;
+pub fn plot(arguments: &[OsString]) -> Result<(), Fault> {
+    let options = Options::parse(arguments, &job::OPTIONS, "--in")?;
+    let name = options.needed("--settings")?.to_string_lossy();
+    let mut job = Job::of(&options)?;
+    let samples = job.samples.all()?;
+    let levels = levels_of(&mut job.line, &samples)?;
+    let (x_name, unit) = job.rate.map_or(("sample", 1.0), |rate| ("seconds", rate));
+    let places = Places::of(&job.file, unit)?;
     let drawing = Drawing {
-        title: name,
-        x_name: "sample",
+        title: &name,
+        x_name,
         y_name: LEVEL,
         mark: None,
         series: vec![
@@ -36,8 +31,8 @@ pub fn plot(arguments: &[String]) -> Result<(), Fault> {
             places.levels("levels", "#005a9c", 2.0, &levels),
         ],
     };
-    target.write(drawing.svg().as_bytes())?;
-    target.finish()
+    job.target.write(drawing.svg().as_bytes())?;
+    job.target.finish()
 }
 
 /// Where the samples and levels of a line stand in a drawing.
