@@ -4,7 +4,6 @@
 
 use crate::line_file::LineFile;
 use gauge_line::{CicDecimator, Refusal};
-use std::collections::VecDeque;
 
 /// Counts the values that a line cuts.
 pub struct Cuts {
@@ -13,8 +12,8 @@ pub struct Cuts {
     r: usize,
     taps: Vec<i16>,
     factor: usize,
-    // The last values, as many as there are taps, and how many are to come before the next output.
-    window: VecDeque<i16>,
+    // The last values, at least as many as there are taps once so many came, and how many are to come before the next output.
+    values: Vec<i16>,
     wait: usize,
     sums: Vec<i32>,
     count: u64,
@@ -30,7 +29,7 @@ impl Cuts {
             r: file.settings.r,
             taps: file.taps.clone(),
             factor: file.settings.factor,
-            window: VecDeque::from(vec![0; file.taps.len()]),
+            values: Vec::new(),
             wait: file.taps.len(),
             sums: Vec::new(),
             count: 0,
@@ -54,16 +53,18 @@ impl Cuts {
         let mut sums = std::mem::take(&mut self.sums);
         sums.resize(samples.len() / self.r + 2, 0);
         let moved = self.cic.process_block(samples, &mut sums)?;
+        let old = self.values.len().saturating_sub(self.taps.len());
+        self.values.drain(..old);
         for sum in &sums[..moved.written] {
-            let value = self.cut(i64::from(*sum >> self.gain_bits));
+            let value = self.cut(*sum >> self.gain_bits);
             self.filter(value);
         }
         self.sums = sums;
         Ok(())
     }
 
-    fn cut(&mut self, value: i64) -> i16 {
-        let held = value.clamp(i64::from(i16::MIN), i64::from(i16::MAX));
+    fn cut(&mut self, value: i32) -> i16 {
+        let held = value.clamp(i32::from(i16::MIN), i32::from(i16::MAX));
         self.count += u64::from(held != value);
         held as i16
     }
@@ -73,14 +74,16 @@ impl Cuts {
         if self.taps.is_empty() {
             return;
         }
-        self.window.pop_front();
-        self.window.push_back(value);
+        self.values.push(value);
         self.wait -= 1;
         if self.wait == 0 {
             self.wait = self.factor;
-            let products = self.window.iter().zip(&self.taps);
-            let sum = products.map(|(s, c)| i64::from((i32::from(*s) * i32::from(*c)) >> 15));
-            let sum = sum.sum();
+            let window = &self.values[self.values.len() - self.taps.len()..];
+            let products = window.iter().zip(&self.taps);
+            // At most 64 products of at most 2^15 each.
+            let sum: i32 = products
+                .map(|(s, c)| (i32::from(*s) * i32::from(*c)) >> 15)
+                .sum();
             self.cut(sum);
         }
     }

@@ -266,10 +266,12 @@ fn text_sample(word: &str) -> Result<i32, String> {
 
 // The sample of a frame, with its sign.
 fn number(frame: &[u8], frames: Frames) -> i32 {
-    let own = &frame[frames.from..frames.from + frames.width];
-    let mut bytes = [0; 4];
-    bytes[4 - frames.width..].copy_from_slice(own);
-    i32::from_le_bytes(bytes) >> (8 * (4 - frames.width))
+    match frame[frames.from..frames.from + frames.width] {
+        [a, b] => i32::from(i16::from_le_bytes([a, b])),
+        [a, b, c] => i32::from_le_bytes([0, a, b, c]) >> 8,
+        [a, b, c, d] => i32::from_le_bytes([a, b, c, d]),
+        _ => 0,
+    }
 }
 
 #[cfg(test)]

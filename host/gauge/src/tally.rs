@@ -4,6 +4,7 @@ use crate::cuts::Cuts;
 use crate::fault::{Fault, tell};
 use crate::line_file::LineFile;
 use crate::section::first_level;
+use std::ops::RangeInclusive;
 
 /// Counts what a run takes and makes.
 pub struct Tally {
@@ -45,17 +46,23 @@ impl Tally {
 
     /// Counts samples that the line takes.
     pub fn take(&mut self, samples: &[i32]) -> Result<(), Fault> {
+        let (least, greatest) = reach(samples);
+        self.reach = (self.reach.0.min(least), self.reach.1.max(greatest));
         let (low, high) = self.cuts.exact_range();
-        for sample in samples {
-            self.samples += 1;
-            self.reach = (self.reach.0.min(*sample), self.reach.1.max(*sample));
-            if !(low..=high).contains(sample) {
-                self.outside += 1;
-                self.first_outside.get_or_insert((self.samples, *sample));
-            }
+        if least < low || greatest > high {
+            self.take_outside(samples, low..=high);
         }
+        self.samples += samples.len() as u64;
         let counted = self.cuts.take(samples);
         counted.map_err(|refusal| Fault::file("the line", refusal))
+    }
+
+    fn take_outside(&mut self, samples: &[i32], range: RangeInclusive<i32>) {
+        let outside = |sample: &&i32| !range.contains(sample);
+        self.outside += samples.iter().filter(outside).count() as u64;
+        if let (None, Some(at)) = (self.first_outside, samples.iter().position(|s| outside(&s))) {
+            self.first_outside = Some((self.samples + at as u64 + 1, samples[at]));
+        }
     }
 
     /// Counts levels that the line writes.
@@ -109,6 +116,15 @@ impl Tally {
         }
         all
     }
+}
+
+// The least and the greatest sample.
+fn reach(samples: &[i32]) -> (i32, i32) {
+    samples
+        .iter()
+        .fold((i32::MAX, i32::MIN), |(least, greatest), sample| {
+            (least.min(*sample), greatest.max(*sample))
+        })
 }
 
 // "no values", "1 value", "2 values".

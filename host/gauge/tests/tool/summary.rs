@@ -5,7 +5,7 @@ use crate::scratch::{Scratch, as_text, told};
 fn ends(scratch: &Scratch, settings: &str, samples: &[i32], said: &[&str]) {
     scratch.write("a.settings", settings);
     scratch.write("samples.txt", as_text(samples));
-    let run = scratch.gauge("run --settings a.settings samples.txt --out levels.txt");
+    let run = scratch.gauge("run --settings a.settings --in samples.txt --out levels.txt");
     assert!(run.status.success());
     let told = told(&run);
     let lines: Vec<&str> = told.lines().collect();
@@ -82,7 +82,7 @@ fn settings_that_nothing_looks_at_are_warned_of() {
         let input = if command == "explain" {
             ""
         } else {
-            "samples.txt"
+            "--in samples.txt"
         };
         let run = scratch.gauge(&format!("{command} --settings a.settings {input}"));
         assert!(run.status.success());

@@ -125,7 +125,7 @@ fn a_signal_leaves_nothing_behind() {
 fn a_leftover_of_the_same_process_id_does_not_block() {
     let scratch = Scratch::new("leftover");
     scratch.write("samples.txt", as_text(&samples()));
-    let line = "touch .gauge-$$-0 .gauge-$$-1 levels.txt.$$.part; exec \"$GAUGE\" run --settings line.settings samples.txt --out levels.txt";
+    let line = "touch .gauge-$$-0 .gauge-$$-1 levels.txt.$$.part; exec \"$GAUGE\" run --settings line.settings --in samples.txt --out levels.txt";
     let run = scratch.shell(line);
     assert!(run.status.success(), "{}", told(&run));
     assert!(scratch.read("levels.txt").len() > 100);
@@ -177,13 +177,14 @@ fn a_full_standard_error_is_no_panic() {
     );
 }
 
-// A sample is a level before the next one comes.
+// A sample is a level before the next one comes; a tool that waits for more is ended.
 #[test]
 fn a_live_pipe_gets_each_level_at_once() {
     let scratch = Scratch::with_one("live");
-    let mut tool = scratch
-        .command()
+    let mut tool = Command::new("timeout")
+        .args(["20", env!("CARGO_BIN_EXE_gauge")])
         .args(["run", "--settings", "one.settings"])
+        .current_dir(scratch.place(""))
         .stdin(Stdio::piped())
         .stdout(Stdio::piped())
         .stderr(Stdio::null())
