@@ -36,8 +36,8 @@ impl Column {
         let names = cells(row, between)?;
         let at = self.place(&names)?;
         self.found = Some((between, at));
-        let letter = |c: char| c.is_alphabetic() || c == '_';
-        Ok(names[at].is_empty() || names[at].starts_with(letter))
+        let is_named = self.wanted.as_deref() == Some(&names[at]);
+        Ok(is_named || !names.iter().any(|cell| is_like_a_number(cell)))
     }
 
     fn place(&self, names: &[String]) -> Result<usize, String> {
@@ -74,12 +74,33 @@ fn sample_at(row: &str, between: char, at: usize) -> Result<i32, String> {
     if cell.is_empty() {
         return Err(format!("column {} is empty", at + 1));
     }
-    // Where cells stand between semicolons, a comma may be a decimal one.
-    if between == ',' {
-        whole::sample(cell)
-    } else {
-        whole::sample(&cell.replacen(',', ".", 1))
+    match between {
+        ',' => whole::sample(cell),
+        _ => whole::sample(&with_point(cell)?),
     }
+}
+
+// A cell that no header has: a row with one is data, even where it is no sample.
+fn is_like_a_number(cell: &str) -> bool {
+    let sign = |c: char| matches!(c, '+' | '-' | '.' | '\u{2010}'..='\u{2015}' | '\u{2212}');
+    let nothing = ["nan", "inf"]
+        .iter()
+        .any(|word| cell.eq_ignore_ascii_case(word));
+    nothing || cell.starts_with(|c: char| c.is_ascii_digit() || sign(c))
+}
+
+// Where no comma stands between cells, it may be a decimal one. In 16,000 it may as well divide thousands.
+fn with_point(cell: &str) -> Result<String, String> {
+    let thousands = |(front, back): (&str, &str)| {
+        (1..=3).contains(&front.len()) && !front.starts_with('0') && back.len() == 3
+    };
+    let digits = cell.trim_start_matches(['+', '-']);
+    if digits.split_once(',').is_some_and(thousands) {
+        return Err(format!(
+            "{cell} may be a decimal or have its thousands divided"
+        ));
+    }
+    Ok(cell.replacen(',', ".", 1))
 }
 
 // Semicolons where a row has any outside quotes, else tabs, else commas.
@@ -135,12 +156,18 @@ mod tests {
         assert_eq!(samples(Some("2"), &rows[1..]), Ok(vec![5, -6]));
         assert_eq!(samples(None, &["level", "5"]), Ok(vec![5]));
         assert_eq!(samples(None, &["5", "6"]), Ok(vec![5, 6]));
+        assert_eq!(samples(Some("°C"), &["t,°C", "1,5"]), Ok(vec![5]));
+        assert_eq!(samples(Some("2nd"), &["1st,2nd", "1,5"]), Ok(vec![5]));
     }
 
     #[test]
     fn quotes_semicolons_and_tabs_are_read() {
-        let rows = ["\"time; UTC\";\"level\"", "\"13:00; 1\";\"5,0\""];
-        assert_eq!(samples(Some("level"), &rows), Ok(vec![5]));
+        let rows = [
+            "\"time; UTC\";\"level\"",
+            "\"13:00; 1\";\"5,0\"",
+            "1;8192,000",
+        ];
+        assert_eq!(samples(Some("level"), &rows), Ok(vec![5, 8192]));
         assert_eq!(samples(Some("2"), &["a\tb", "1\t5"]), Ok(vec![5]));
     }
 
@@ -175,6 +202,22 @@ mod tests {
                 Some("1"),
                 &["1.5,2"],
                 "1.5 is not a whole number of 32 bits",
+            ),
+            (
+                Some("2"),
+                &["1,nan"],
+                "nan is not a whole number of 32 bits",
+            ),
+            (Some("1"), &[",5"], "column 1 is empty"),
+            (
+                None,
+                &["\u{2212}5"],
+                "\u{2212}5 is not a whole number of 32 bits (it has a Unicode minus, U+2212)",
+            ),
+            (
+                Some("2"),
+                &["t;level", "1;-16,000"],
+                "-16,000 may be a decimal or have its thousands divided",
             ),
         ] {
             assert_eq!(samples(column, rows), Err(said.to_string()));

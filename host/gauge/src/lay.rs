@@ -1,9 +1,10 @@
 //! A prototype in natural order, as filter design gives it, laid as the resampler reads it.
 
-/// The prototype h of `phases` × `taps` numbers laid so that h[(t + 1) × P − p] stands at t × P + p: each row of a tap backwards, from the next row's first number on.
+/// The prototype h of `phases` × `taps` numbers laid so that `h[(t + 1) × P − p]` stands at t × P + p: the row of each tap backwards.
 ///
-/// A level is due with the newest value mu of an interval old, and reads phase q = (1 − mu) × P; tap t then weighs a value t + mu intervals old, which is h at (t + mu) × P = (t + 1) × P − q. So h[0]
-/// is read nowhere, and behind the end of h stands 0; a list of one number more has h[P × T] there, as symmetric filters of odd length do. A list of any other length comes back as it is, for the opening to refuse.
+/// A level that is due mu of an interval behind the newest value reads phase q = (1 − mu) × P. Tap t then weighs a value t + mu intervals old, whose number in h is (t + mu) × P = (t + 1) × P − q. So
+/// `h[0]` is read nowhere, and 0 stands where h has ended, at phase 0 of the last tap; a list of one number more has its last one there, as symmetric filters of odd length do. A list of any other length
+/// comes back as it is, for the opening to refuse.
 pub fn laid(natural: &[f32], phases: usize, taps: usize) -> Vec<f32> {
     let whole = phases.checked_mul(taps);
     let fits = whole.is_some_and(|whole| natural.len() == whole || natural.len() == whole + 1);
@@ -37,8 +38,8 @@ mod tests {
         (0..PHASES * TAPS).map(tap).collect()
     }
 
-    // The levels of a wave of so many turns a value, from where every delay is filled.
-    fn levels(prototype: &[f32], turns: f64) -> Vec<f64> {
+    // The levels of a wave of so many turns a value, numbered, from where every delay is filled.
+    fn levels(prototype: &[f32], turns: f64) -> Vec<(usize, f64)> {
         let mut resampler = PolyphaseResampF32::from_taps(PHASES, TAPS, prototype, STEP).unwrap();
         let wave: Vec<f32> = (0..2000)
             .map(|n| (2.0 * PI * turns * f64::from(n)).sin() as f32)
@@ -46,42 +47,44 @@ mod tests {
         let mut out = [0.0; 4000];
         let moved = resampler.process_block(&wave, &mut out).unwrap();
         assert_eq!(moved.taken, wave.len());
-        out[2 * TAPS..moved.written]
-            .iter()
-            .map(|level| f64::from(*level))
-            .collect()
+        let levels = out[..moved.written].iter().map(|level| f64::from(*level));
+        levels.enumerate().skip(2 * TAPS).collect()
     }
 
-    // The power of the wave in the levels over the power of all else, in dB.
-    fn signal_to_noise(levels: &[f64], turns: f64) -> f64 {
-        let angle = |k: usize| 2.0 * PI * turns * f64::from(STEP) * k as f64;
-        let mean =
-            |f: &dyn Fn(usize) -> f64| (0..levels.len()).map(f).sum::<f64>() / levels.len() as f64;
-        let (cos, sin) = (|k: usize| angle(k).cos(), |k: usize| angle(k).sin());
-        let (cc, ss, cs) = (
-            mean(&|k| cos(k) * cos(k)),
-            mean(&|k| sin(k) * sin(k)),
-            mean(&|k| cos(k) * sin(k)),
+    // The power of the wave in the levels over the power of all else, in dB: the wave that is nearest by least squares.
+    fn clean(levels: &[(usize, f64)], turns: f64) -> f64 {
+        let turn = |k: usize| (2.0 * PI * turns * f64::from(STEP) * k as f64).sin_cos();
+        let sum = |of: &dyn Fn(f64, f64, f64) -> f64| -> f64 {
+            let values = levels.iter().map(|(k, level)| (turn(*k), *level));
+            values.map(|((sin, cos), level)| of(sin, cos, level)).sum()
+        };
+        let (ss, cc, sc) = (
+            sum(&|sin, _, _| sin * sin),
+            sum(&|_, cos, _| cos * cos),
+            sum(&|sin, cos, _| sin * cos),
         );
-        let (yc, ys) = (mean(&|k| levels[k] * cos(k)), mean(&|k| levels[k] * sin(k)));
-        let (a, b) = (
-            (yc * ss - ys * cs) / (cc * ss - cs * cs),
-            (ys * cc - yc * cs) / (cc * ss - cs * cs),
-        );
-        let signal = mean(&|k| (a * cos(k) + b * sin(k)).powi(2));
-        let noise = mean(&|k| (levels[k] - a * cos(k) - b * sin(k)).powi(2));
-        10.0 * (signal / noise).log10()
+        let (ys, yc) = (sum(&|sin, _, y| y * sin), sum(&|_, cos, y| y * cos));
+        let whole = ss * cc - sc * sc;
+        let (a, b) = ((ys * cc - yc * sc) / whole, (yc * ss - ys * sc) / whole);
+        let wave = sum(&|sin, cos, _| (a * sin + b * cos).powi(2));
+        let rest = sum(&|sin, cos, y| (y - a * sin - b * cos).powi(2));
+        10.0 * (wave / rest).log10()
     }
 
-    // A wave of 50 values a turn, and one of 12.5.
+    // docs/float.md has these figures. At this step every 16th level falls on a value, where phases wrap.
     #[test]
     fn a_laid_prototype_follows_a_wave_and_a_natural_one_does_not() {
         let natural = windowed_sinc();
         let laid = laid(&natural, PHASES, TAPS);
-        for (turns, good, bad) in [(0.02, 54.0, 23.0), (0.08, 30.0, 11.0)] {
-            let clean = |prototype: &[f32]| signal_to_noise(&levels(prototype, turns), turns);
-            assert!(clean(&laid) > good, "{turns}: {}", clean(&laid));
-            assert!(clean(&natural) < bad, "{turns}: {}", clean(&natural));
+        for (turns, wanted) in [(0.02, [54.3, 67.9, 22.8]), (0.08, [30.4, 66.2, 10.6])] {
+            let all = levels(&laid, turns);
+            let between: Vec<(usize, f64)> =
+                all.iter().copied().filter(|(k, _)| k % 16 > 0).collect();
+            let figures =
+                [&all, &between, &levels(&natural, turns)].map(|levels| clean(levels, turns));
+            for (figure, wanted) in figures.into_iter().zip(wanted) {
+                assert!((figure - wanted).abs() < 0.1, "{turns}: {figure} {wanted}");
+            }
         }
     }
 
