@@ -171,55 +171,59 @@ mod tests {
         assert_eq!(samples(Some("2"), &["a\tb", "1\t5"]), Ok(vec![5]));
     }
 
+    // The column that is asked for, rows, and what is told.
+    type Case = (Option<&'static str>, &'static [&'static str], &'static str);
+    const NO_SAMPLES: [Case; 13] = [
+        (
+            None,
+            &["a,b"],
+            "2 columns (a, b); --column says which, by name or number",
+        ),
+        (Some("3"), &["a,b"], "no column 3; there are 2 (a, b)"),
+        (Some("0"), &["a,b"], "no column 0; there are 2 (a, b)"),
+        (
+            Some("levle"),
+            &["time,level"],
+            "no column levle; did you mean level?; they are time, level",
+        ),
+        (Some("b"), &["a,b", "1"], "no column 2; the row has 1"),
+        (Some("b"), &["a,b", "1,"], "column 2 is empty"),
+        (
+            Some("b"),
+            &["a,b", "1,\"2"],
+            "a quote that does not end on its line",
+        ),
+        (
+            Some("b"),
+            &["a,b", "1,1.5"],
+            "1.5 is not a whole number of 32 bits",
+        ),
+        (
+            Some("1"),
+            &["1.5,2"],
+            "1.5 is not a whole number of 32 bits",
+        ),
+        (
+            Some("2"),
+            &["1,nan"],
+            "nan is not a whole number of 32 bits",
+        ),
+        (Some("1"), &[",5"], "column 1 is empty"),
+        (
+            None,
+            &["\u{2212}5"],
+            "\u{2212}5 is not a whole number of 32 bits (it has a Unicode minus, U+2212)",
+        ),
+        (
+            Some("2"),
+            &["t;level", "1;-16,000"],
+            "-16,000 may be a decimal or have its thousands divided",
+        ),
+    ];
+
     #[test]
     fn what_is_no_sample_is_told() {
-        for (column, rows, said) in [
-            (
-                None,
-                &["a,b"][..],
-                "2 columns (a, b); --column says which, by name or number",
-            ),
-            (Some("3"), &["a,b"], "no column 3; there are 2 (a, b)"),
-            (Some("0"), &["a,b"], "no column 0; there are 2 (a, b)"),
-            (
-                Some("levle"),
-                &["time,level"],
-                "no column levle; did you mean level?; they are time, level",
-            ),
-            (Some("b"), &["a,b", "1"], "no column 2; the row has 1"),
-            (Some("b"), &["a,b", "1,"], "column 2 is empty"),
-            (
-                Some("b"),
-                &["a,b", "1,\"2"],
-                "a quote that does not end on its line",
-            ),
-            (
-                Some("b"),
-                &["a,b", "1,1.5"],
-                "1.5 is not a whole number of 32 bits",
-            ),
-            (
-                Some("1"),
-                &["1.5,2"],
-                "1.5 is not a whole number of 32 bits",
-            ),
-            (
-                Some("2"),
-                &["1,nan"],
-                "nan is not a whole number of 32 bits",
-            ),
-            (Some("1"), &[",5"], "column 1 is empty"),
-            (
-                None,
-                &["\u{2212}5"],
-                "\u{2212}5 is not a whole number of 32 bits (it has a Unicode minus, U+2212)",
-            ),
-            (
-                Some("2"),
-                &["t;level", "1;-16,000"],
-                "-16,000 may be a decimal or have its thousands divided",
-            ),
-        ] {
+        for (column, rows, said) in NO_SAMPLES {
             assert_eq!(samples(column, rows), Err(said.to_string()));
         }
     }

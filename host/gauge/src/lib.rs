@@ -6,6 +6,7 @@ pub mod command;
 pub mod convert;
 mod csv;
 mod cuts;
+mod draft;
 mod entries;
 mod explain;
 pub mod fault;

@@ -104,7 +104,7 @@ fn in_order(entry: Option<&Entry>) -> (Prototype, Option<&[u8]>) {
         return (Prototype::Laid, None);
     };
     match entry.value.strip_prefix(b"natural") {
-        Some(rest) if rest.first().is_some_and(u8::is_ascii_whitespace) => {
+        Some(rest) if rest.first().is_none_or(u8::is_ascii_whitespace) => {
             (Prototype::Natural, Some(rest.trim_ascii()))
         }
         _ => (Prototype::Laid, Some(&entry.value)),
@@ -177,48 +177,49 @@ mod tests {
         assert!(file.err().unwrap().to_string().contains("No such file"));
     }
 
-    // 4, 7 to 10 and 15 are of other calls.
+    // Settings, and what is told of them. 4, 7 to 10 and 15 are refusals of other calls.
+    const REFUSED: [(&str, &str); 9] = [
+        (
+            "stages = 9\nr = 2",
+            "f:1: stages = 9: refusal 1, Stages: 1 to 8",
+        ),
+        (
+            "stages = 1\nr = 0",
+            "f:2: r = 0: refusal 2, Factor: 1 to 4096",
+        ),
+        (
+            "stages = 8\nr = 15",
+            "f:2: r = 15: refusal 3, GainBits: 15^8 = 2562890625 is over 2^31",
+        ),
+        (
+            "stages=1\nr=1\ntaps=1",
+            "f:3: no factor: refusal 5, FirFactor: 1 to 4096",
+        ),
+        (
+            "stages=1\nr=1\ndepth=7",
+            "f:3: depth = 7: refusal 11, Depth: at most 5",
+        ),
+        (
+            "stages=1\nr=1\nphases=1",
+            "f:3: phases = 1: refusal 12, Phases: 2 to 64, or 0 for no resampler",
+        ),
+        (
+            "stages=1\nr=1\nphase_taps=17\nphases=2",
+            "f:3: phase_taps = 17: refusal 12, Phases: 1 to 16",
+        ),
+        (
+            "stages=1\nr=1\nprototype=1 2 3\nphases=2\nphase_taps=2",
+            "f:3: prototype = 1 2 3: refusal 13, Prototype: 3 given, 2 × 2 = 4 wanted",
+        ),
+        (
+            "stages=1\nr=1\nprototype=1 0\nphases=2\nphase_taps=1\nstep=nan",
+            "f:6: step = nan: refusal 14, Step: 1/64 to 64",
+        ),
+    ];
+
     #[test]
     fn each_refusal_is_told_at_its_setting_with_its_limit() {
-        let cases = [
-            (
-                "stages = 9\nr = 2",
-                "f:1: stages = 9: refusal 1, Stages: 1 to 8",
-            ),
-            (
-                "stages = 1\nr = 0",
-                "f:2: r = 0: refusal 2, Factor: 1 to 4096",
-            ),
-            (
-                "stages = 8\nr = 15",
-                "f:2: r = 15: refusal 3, GainBits: 15^8 = 2562890625 is over 2^31",
-            ),
-            (
-                "stages=1\nr=1\ntaps=1",
-                "f:3: no factor: refusal 5, FirFactor: 1 to 4096",
-            ),
-            (
-                "stages=1\nr=1\ndepth=7",
-                "f:3: depth = 7: refusal 11, Depth: at most 5",
-            ),
-            (
-                "stages=1\nr=1\nphases=1",
-                "f:3: phases = 1: refusal 12, Phases: 2 to 64, or 0 for no resampler",
-            ),
-            (
-                "stages=1\nr=1\nphase_taps=17\nphases=2",
-                "f:3: phase_taps = 17: refusal 12, Phases: 1 to 16",
-            ),
-            (
-                "stages=1\nr=1\nprototype=1 2 3\nphases=2\nphase_taps=2",
-                "f:3: prototype = 1 2 3: refusal 13, Prototype: 3 given, 2 × 2 = 4 wanted",
-            ),
-            (
-                "stages=1\nr=1\nprototype=1 0\nphases=2\nphase_taps=1\nstep=nan",
-                "f:6: step = nan: refusal 14, Step: 1/64 to 64",
-            ),
-        ];
-        for (text, said) in cases {
+        for (text, said) in REFUSED {
             assert_eq!(fault(text), said);
         }
         let many = format!("stages=1\nr=1\nfactor=1\ntaps={}", "1 ".repeat(65));

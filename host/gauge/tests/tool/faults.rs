@@ -124,7 +124,7 @@ const SETTINGS: [(&str, &str); 35] = [
     ),
     (
         "prototype = natural\n",
-        "bad.settings:1: prototype = natural: ",
+        "bad.settings:1: prototype = natural: no numbers; a line without prototype has no such entry\n",
     ),
     (
         "taps = empty.taps\n",

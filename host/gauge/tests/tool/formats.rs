@@ -57,6 +57,12 @@ fn a_wav_file_is_read_or_refused() {
             refused(&scratch, &format!("a.wav --format {format}"), said);
         }
     }
+}
+
+#[test]
+fn what_a_wav_file_lacks_is_told() {
+    let scratch = Scratch::with_one("lacks");
+    let samples = [16384, -16384, 8192, 0];
     scratch.write("b.wav", wav(2, 24, 8000, &samples));
     assert_eq!(levels(&scratch, "b.wav --channel 2"), [-0.5, 0.0]);
     refused(
