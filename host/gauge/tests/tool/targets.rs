@@ -1,6 +1,6 @@
 //! Where levels go: a file that is whole, in its place, and what it was before in all but its bytes.
 
-use crate::scratch::{Scratch, as_text, samples, told};
+use crate::scratch::{SETTINGS, Scratch, as_text, samples, told};
 use std::fs;
 use std::io::{Read, Write};
 use std::os::unix::ffi::OsStringExt;
@@ -30,38 +30,34 @@ fn a_file_has_what_standard_output_has() {
 fn a_file_that_is_read_is_not_written() {
     let scratch = Scratch::new("same");
     scratch.write("samples.txt", "1\n2\n");
+    scratch.write("h.txt", "0 0.5 1 0.5\n");
+    let settings = SETTINGS.replace("prototype = 1 0.5 0 0.5", "prototype = natural h.txt");
+    scratch.write("line.settings", settings);
     symlink("samples.txt", scratch.place("by-link")).unwrap();
     fs::hard_link(scratch.place("samples.txt"), scratch.place("by-name")).unwrap();
-    let files = ["samples.txt", "line.settings", "smooth.taps"];
+    let files = ["samples.txt", "line.settings", "smooth.taps", "h.txt"];
     let before = files.map(|name| scratch.read(name));
-    let outs = [
-        "samples.txt",
-        "./samples.txt",
-        "by-link",
-        "by-name",
-        "line.settings",
-        "smooth.taps",
-    ];
     for command in ["run", "plot"] {
-        for out in outs {
-            let arguments =
-                format!("{command} --settings line.settings --in samples.txt --out {out}");
-            let run = scratch.gauge(&arguments);
-            assert_eq!(run.status.code(), Some(2), "{arguments}");
-            let said = format!("gauge: --out {out} is the file of ");
-            assert!(told(&run).starts_with(&said), "{}", told(&run));
+        for out in ["./samples.txt", "by-link", "by-name"].iter().chain(&files) {
+            refuses(&scratch, command, out);
         }
-        let by_stream = scratch.shell(&format!(
-            "gauge {command} --settings line.settings --out samples.txt <samples.txt"
-        ));
-        assert_eq!(by_stream.status.code(), Some(2));
-        let appended = scratch.shell(&format!(
-            "gauge {command} --settings line.settings samples.txt >>samples.txt"
-        ));
-        assert_eq!(appended.status.code(), Some(2));
+        let by_stream = format!("{command} --settings line.settings --out h.txt <h.txt");
+        let appended = format!("{command} --settings line.settings --in samples.txt >>samples.txt");
+        for line in [by_stream, appended] {
+            let run = scratch.shell(&format!("gauge {line}"));
+            assert_eq!(run.status.code(), Some(2), "{line}");
+        }
     }
     assert_eq!(files.map(|name| scratch.read(name)), before);
     assert!(scratch.place("by-link").is_symlink());
+}
+
+fn refuses(scratch: &Scratch, command: &str, out: &str) {
+    let arguments = format!("{command} --settings line.settings --in samples.txt --out {out}");
+    let run = scratch.gauge(&arguments);
+    assert_eq!(run.status.code(), Some(2), "{arguments}");
+    let said = format!("gauge: --out {out} is the file of ");
+    assert!(told(&run).starts_with(&said), "{}", told(&run));
 }
 
 #[test]
