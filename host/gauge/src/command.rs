@@ -2,25 +2,40 @@
 
 use crate::explain::explain;
 use crate::fault::{Fault, front};
+use crate::nearest::did_you_mean;
 use crate::plot::plot;
 use crate::run::run;
 use crate::target::Target;
+use std::ffi::OsString;
 
 const HELP: &str = include_str!("help.txt");
+const VERSION: &str = concat!("gauge ", env!("CARGO_PKG_VERSION"), "\n");
+const COMMANDS: [&str; 5] = ["run", "explain", "plot", "help", "version"];
 
 /// Does what the arguments ask for.
-pub fn perform(arguments: &[String]) -> Result<(), Fault> {
-    let asks_for_help = |argument: &String| argument == "--help" || argument == "-h";
-    if arguments.iter().any(asks_for_help) {
+pub fn perform(arguments: &[OsString]) -> Result<(), Fault> {
+    let has = |long: &str, short: &str| arguments.iter().any(|a| a == long || a == short);
+    if has("--help", "-h") {
         return print(HELP);
     }
-    match arguments.split_first() {
-        Some((command, rest)) if command == "run" => run(rest),
-        Some((command, rest)) if command == "explain" => explain(rest),
-        Some((command, rest)) if command == "plot" => plot(rest),
-        Some((command, _)) if command == "help" => print(HELP),
-        Some((command, _)) => Err(Fault::usage(format!("no command {}", front(command)))),
-        None => Err(Fault::usage("no command")),
+    if has("--version", "-V") {
+        return print(VERSION);
+    }
+    let (command, rest) = arguments
+        .split_first()
+        .ok_or_else(|| Fault::usage("no command"))?;
+    let command = command.to_string_lossy();
+    match &*command {
+        "run" => run(rest),
+        "explain" => explain(rest),
+        "plot" => plot(rest),
+        "help" => print(HELP),
+        "version" => print(VERSION),
+        _ => {
+            let hint = did_you_mean(&command, &COMMANDS);
+            let command = front(&command);
+            Err(Fault::usage(format!("no command {command}{hint}")))
+        }
     }
 }
 

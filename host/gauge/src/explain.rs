@@ -1,17 +1,19 @@
 //! `gauge explain`: what a settings file makes.
 
 use crate::fault::Fault;
+use crate::job::opened;
 use crate::lay::laid;
 use crate::line_file::LineFile;
 use crate::options::Options;
 use crate::ramp::{Unevenness, unevenness};
 use crate::range::{self, Range, steady_levels};
-use crate::rate::{Unit, rate};
+use crate::rate::Unit;
 use crate::section::{HALF_BAND, Section, first_level, sections, whole};
 use crate::target::Target;
 use gauge_line::passband::{PASSBANDS, STAGE_TAPS};
 use gauge_line::{CicDecimator, Line, Refusal, limits};
 use std::cmp::Ordering;
+use std::ffi::OsString;
 use std::fmt::Write;
 
 // With more gain bits the greatest sum of 32 bits is, scaled, below 16-bit full scale.
@@ -22,14 +24,13 @@ const HALF_SCALE: i64 = 16384;
 const EVEN: f64 = 0.05;
 
 /// Prints what the settings file of the arguments makes.
-pub fn explain(arguments: &[String]) -> Result<(), Fault> {
-    let options = Options::parse(arguments, &["--settings", "--rate"])?;
-    let name = options.needed("--settings")?;
-    let unit = Unit::of(rate(&options)?);
-    let file = LineFile::read(name)?;
-    file.open()?;
+pub fn explain(arguments: &[OsString]) -> Result<(), Fault> {
+    let options = Options::parse(arguments, &["--settings", "--rate"], "--settings")?;
+    let unit = Unit::of(options.rate()?);
+    let (file, _) = opened(&options)?;
+    let name = options.needed("--settings")?.to_string_lossy();
     let mut out = Target::create("-")?;
-    out.write(explanation(name, &file, unit)?.as_bytes())?;
+    out.write(explanation(&name, &file, unit)?.as_bytes())?;
     out.finish()
 }
 

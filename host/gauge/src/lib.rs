@@ -1,16 +1,22 @@
 //! The fitter's tool: recorded cell samples to levels through a gauge line that a settings file describes. docs/gauge.md is the page for a user.
+#![forbid(unsafe_code)]
 #![warn(missing_docs)]
 
 mod axis;
 pub mod command;
 pub mod convert;
+mod csv;
+mod cuts;
+mod draft;
 mod entries;
 mod explain;
 pub mod fault;
 pub mod format;
+mod job;
 pub mod lay;
 pub mod levels;
 pub mod line_file;
+mod nearest;
 mod numbers;
 mod options;
 pub mod plot;
@@ -18,9 +24,15 @@ mod progress;
 pub mod ramp;
 pub mod range;
 pub mod rate;
+mod reason;
 mod run;
+mod same_file;
 mod samples;
 mod section;
 pub mod svg;
+mod tally;
 pub mod target;
+mod text;
 mod trace;
+mod wav;
+mod whole;

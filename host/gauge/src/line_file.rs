@@ -1,11 +1,23 @@
 //! What a settings file says: settings, taps and prototype, and the line that they open.
 
-use crate::entries::Entries;
+use crate::entries::{Entries, Entry};
 use crate::fault::Fault;
-use crate::numbers::listed;
-use gauge_line::{Line, Refusal, Settings, limits};
-use std::fs;
+use crate::lay::laid;
+use crate::numbers::{List, Number, listed};
+use crate::reason::{name_of, range, reason};
+use crate::text::{read_small, strange, without_mark};
+use gauge_line::{Line, Settings};
+use std::path::{Path, PathBuf};
 use std::str::FromStr;
+
+/// In which order the numbers of a prototype stand in a settings file.
+#[derive(Clone, Copy, Debug, PartialEq, Eq)]
+pub enum Prototype {
+    /// As the resampler reads them: tap t of phase p at t × phases + p.
+    Laid,
+    /// As filter design gives them: `prototype = natural ..`.
+    Natural,
+}
 
 /// What a settings file says. A setting that is missing is 0, which turns its part off or is refused.
 pub struct LineFile {
@@ -13,20 +25,27 @@ pub struct LineFile {
     pub settings: Settings,
     /// FIR taps, in 32768ths.
     pub taps: Vec<i16>,
-    /// The resampler's prototype.
+    /// The resampler's prototype, laid.
     pub prototype: Vec<f32>,
+    /// The order in which the file has the prototype.
+    pub order: Prototype,
+    /// The settings file and those that it names.
+    pub files: Vec<PathBuf>,
     entries: Entries,
 }
 
 impl LineFile {
     /// Reads a settings file and the files that it names.
-    pub fn read(file: &str) -> Result<LineFile, Fault> {
-        let text = fs::read_to_string(file).map_err(|why| Fault::file(file, why))?;
-        LineFile::parse(file, &text)
+    pub fn read(file: impl AsRef<Path>) -> Result<LineFile, Fault> {
+        let file = file.as_ref();
+        let text = read_small(file).map_err(|why| Fault::file(file, why))?;
+        LineFile::parse(file, text)
     }
 
     /// What a text says; the files that it names are beside `file`.
-    pub fn parse(file: &str, text: &str) -> Result<LineFile, Fault> {
+    pub fn parse(file: impl AsRef<Path>, text: impl AsRef<[u8]>) -> Result<LineFile, Fault> {
+        let (file, text) = (file.as_ref(), text.as_ref());
+        let text = without_mark(text).map_err(|what| Fault::file(file, what))?;
         let entries = Entries::parse(file, text)?;
         let settings = Settings {
             stages: number(&entries, "stages", "a whole number")?,
@@ -37,42 +56,84 @@ impl LineFile {
             phase_taps: number(&entries, "phase_taps", "a whole number")?,
             step: number(&entries, "step", "a number")?,
         };
+        let (order, prototype) = in_order(entries.get("prototype"));
+        let taps = entries.get("taps").map(|entry| &entry.value[..]);
+        let taps: List<i16> = list(&entries, "taps", taps)?;
+        let prototype: List<f32> = list(&entries, "prototype", prototype)?;
+        let files = [Some(file.to_path_buf()), taps.file, prototype.file];
         Ok(LineFile {
+            prototype: match order {
+                Prototype::Laid => prototype.numbers,
+                Prototype::Natural => {
+                    laid(&prototype.numbers, settings.phases, settings.phase_taps)
+                }
+            },
             settings,
-            taps: listed(&entries, "taps")?,
-            prototype: listed(&entries, "prototype")?,
+            taps: taps.numbers,
+            order,
+            files: files.into_iter().flatten().collect(),
             entries,
         })
     }
 
     /// Opens the line. A refusal is told at the setting that it is about.
     pub fn open(&self) -> Result<Line, Fault> {
-        Line::open(self.settings, &self.taps, &self.prototype)
-            .map_err(|refusal| self.entries.fault(self.name_of(refusal), refusal))
+        Line::open(self.settings, &self.taps, &self.prototype).map_err(|refusal| {
+            let name = name_of(refusal, self);
+            self.entries.fault(name, reason(refusal, self))
+        })
     }
 
-    // The setting that a refusal of the opening is about.
-    fn name_of(&self, refusal: Refusal) -> &'static str {
-        let phases = limits::LEAST_PHASES..=limits::MOST_PHASES;
-        match refusal {
-            Refusal::Stages => "stages",
-            Refusal::FirFactor => "factor",
-            Refusal::Taps => "taps",
-            Refusal::Depth => "depth",
-            Refusal::Phases if phases.contains(&self.settings.phases) => "phase_taps",
-            Refusal::Phases => "phases",
-            Refusal::Prototype => "prototype",
-            Refusal::Step => "step",
-            _ => "r",
+    /// The settings that are set although the part that would look at them is off.
+    pub fn warnings(&self) -> Vec<Fault> {
+        let mut all = Vec::new();
+        if self.taps.is_empty() {
+            all.extend(self.entries.unseen(&["factor"], "taps"));
         }
+        if self.settings.phases == 0 {
+            let names = ["phase_taps", "prototype", "step"];
+            all.extend(self.entries.unseen(&names, "phases"));
+        }
+        all
     }
+}
+
+// The order of a prototype, and its numbers or the name of their file.
+fn in_order(entry: Option<&Entry>) -> (Prototype, Option<&[u8]>) {
+    let Some(entry) = entry else {
+        return (Prototype::Laid, None);
+    };
+    match entry.value.strip_prefix(b"natural") {
+        Some(rest) if rest.first().is_none_or(u8::is_ascii_whitespace) => {
+            (Prototype::Natural, Some(rest.trim_ascii()))
+        }
+        _ => (Prototype::Laid, Some(&entry.value)),
+    }
+}
+
+// The numbers of a setting, none where it is not set.
+fn list<T: Number>(entries: &Entries, name: &str, value: Option<&[u8]>) -> Result<List<T>, Fault> {
+    let none = List {
+        numbers: Vec::new(),
+        file: None,
+    };
+    value.map_or(Ok(none), |value| listed(entries, name, value))
 }
 
 // The number of a setting, 0 where it is not set.
 fn number<T: FromStr + Default>(entries: &Entries, name: &str, kind: &str) -> Result<T, Fault> {
-    entries.get(name).map_or(Ok(T::default()), |entry| {
-        let parsed = entry.value.parse();
-        parsed.map_err(|_| entries.fault(name, format_args!("not {kind}")))
+    let Some(entry) = entries.get(name) else {
+        return Ok(T::default());
+    };
+    let text = entry.text();
+    text.parse().map_err(|_| {
+        let over = text.len() > 19 && text.bytes().all(|byte| byte.is_ascii_digit());
+        let what = match (&*text, over) {
+            ("", _) => "no value".to_string(),
+            (_, true) => "over 2^64".to_string(),
+            _ => format!("not {kind}{}", strange(&text)),
+        };
+        entries.fault(name, format_args!("{what}; {}", range(name)))
     })
 }
 
@@ -101,46 +162,68 @@ mod tests {
         assert_eq!(file.settings, settings);
         assert_eq!(file.taps, [11, 12]);
         assert_eq!(file.prototype, [0.1, 0.2, 0.3, 0.4]);
+        assert_eq!(file.order, Prototype::Laid);
         assert!(file.open().is_ok());
+        assert!(file.warnings().is_empty());
     }
 
-    // 4, 7 to 10 and 15 are of other calls.
     #[test]
-    fn each_refusal_is_told_at_its_setting() {
-        let cases = [
-            ("stages = 9\nr = 2", "f:1: stages = 9: refusal 1, Stages: "),
-            ("stages = 1\nr = 0", "f:2: r = 0: refusal 2, Factor: "),
-            ("stages = 8\nr = 15", "f:2: r = 15: refusal 3, GainBits: "),
-            (
-                "stages=1\nr=1\ntaps=1",
-                "f:3: no factor: refusal 5, FirFactor: ",
-            ),
-            (
-                "stages=1\nr=1\ndepth=6",
-                "f:3: depth = 6: refusal 11, Depth: ",
-            ),
-            (
-                "stages=1\nr=1\nphases=1",
-                "f:3: phases = 1: refusal 12, Phases: ",
-            ),
-            (
-                "stages=1\nr=1\nphase_taps=17\nphases=2",
-                "f:3: phase_taps = 17: refusal 12, Phases: ",
-            ),
-            (
-                "stages=1\nr=1\nprototype=1\nphases=2\nphase_taps=1",
-                "f:3: prototype = 1: refusal 13, Prototype: ",
-            ),
-            (
-                "stages=1\nr=1\nprototype=1 0\nphases=2\nphase_taps=1\nstep=nan",
-                "f:6: step = nan: refusal 14, Step: ",
-            ),
-        ];
-        for (text, said) in cases {
-            assert!(fault(text).starts_with(said), "{}", fault(text));
+    fn a_natural_prototype_is_laid() {
+        let text = "phases = 2\nphase_taps = 2\nprototype = natural 0 .5 1 .25\n";
+        let file = LineFile::parse("f", text).unwrap();
+        assert_eq!(file.order, Prototype::Natural);
+        assert_eq!(file.prototype, [1.0, 0.5, 0.0, 0.25]);
+        let file = LineFile::parse("f", "prototype = naturally.taps");
+        assert!(file.err().unwrap().to_string().contains("No such file"));
+    }
+
+    // Settings, and what is told of them. 4, 7 to 10 and 15 are refusals of other calls.
+    const REFUSED: [(&str, &str); 9] = [
+        (
+            "stages = 9\nr = 2",
+            "f:1: stages = 9: refusal 1, Stages: 1 to 8",
+        ),
+        (
+            "stages = 1\nr = 0",
+            "f:2: r = 0: refusal 2, Factor: 1 to 4096",
+        ),
+        (
+            "stages = 8\nr = 15",
+            "f:2: r = 15: refusal 3, GainBits: 15^8 = 2562890625 is over 2^31",
+        ),
+        (
+            "stages=1\nr=1\ntaps=1",
+            "f:3: no factor: refusal 5, FirFactor: 1 to 4096",
+        ),
+        (
+            "stages=1\nr=1\ndepth=7",
+            "f:3: depth = 7: refusal 11, Depth: at most 5",
+        ),
+        (
+            "stages=1\nr=1\nphases=1",
+            "f:3: phases = 1: refusal 12, Phases: 2 to 64, or 0 for no resampler",
+        ),
+        (
+            "stages=1\nr=1\nphase_taps=17\nphases=2",
+            "f:3: phase_taps = 17: refusal 12, Phases: 1 to 16",
+        ),
+        (
+            "stages=1\nr=1\nprototype=1 2 3\nphases=2\nphase_taps=2",
+            "f:3: prototype = 1 2 3: refusal 13, Prototype: 3 given, 2 × 2 = 4 wanted",
+        ),
+        (
+            "stages=1\nr=1\nprototype=1 0\nphases=2\nphase_taps=1\nstep=nan",
+            "f:6: step = nan: refusal 14, Step: 1/64 to 64",
+        ),
+    ];
+
+    #[test]
+    fn each_refusal_is_told_at_its_setting_with_its_limit() {
+        for (text, said) in REFUSED {
+            assert_eq!(fault(text), said);
         }
         let many = format!("stages=1\nr=1\nfactor=1\ntaps={}", "1 ".repeat(65));
-        assert!(fault(&many).contains("refusal 6, Taps: "));
+        assert!(fault(&many).ends_with("refusal 6, Taps: 65 given, at most 64"));
     }
 
     #[test]
@@ -148,10 +231,22 @@ mod tests {
         assert_eq!(fault("stages"), "f:1: stages is not name = value");
         assert!(fault("\ngain = 1").starts_with("f:2: no setting gain; they are stages, r, "));
         assert_eq!(fault("r = 1\nr = 2"), "f:2: r is set on line 1 too");
-        assert_eq!(fault("r = -1"), "f:1: r = -1: not a whole number");
         assert_eq!(
-            fault(""),
-            "f:1: no stages: refusal 1, Stages: CIC stages not 1 to 8"
+            fault("r = -1"),
+            "f:1: r = -1: not a whole number; 1 to 4096"
         );
+        assert_eq!(fault(""), "f:1: no stages: refusal 1, Stages: 1 to 8");
+    }
+
+    #[test]
+    fn what_is_set_for_nothing_is_warned_of() {
+        let text = "stages=1\nr=1\nfactor=2\nstep=1.5\n";
+        let file = LineFile::parse("f", text).unwrap();
+        let told: Vec<String> = file.warnings().iter().map(Fault::to_string).collect();
+        let said = [
+            "f:3: warning: factor is not looked at without taps",
+            "f:4: warning: step is not looked at without phases",
+        ];
+        assert_eq!(told, said);
     }
 }

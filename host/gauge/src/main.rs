@@ -1,17 +1,18 @@
 //! `gauge`: does what its arguments ask, or says in one line on standard error why not and ends with status 2.
+#![forbid(unsafe_code)]
 
+use gauge::fault::{Fault, tell};
 use std::env;
+use std::ffi::OsString;
 use std::process::ExitCode;
 
 fn main() -> ExitCode {
-    let arguments: Vec<String> = env::args_os()
-        .skip(1)
-        .map(|argument| argument.to_string_lossy().into_owned())
-        .collect();
+    let arguments: Vec<OsString> = env::args_os().skip(1).collect();
     match gauge::command::perform(&arguments) {
-        Ok(()) => ExitCode::SUCCESS,
+        // Who closes the pipe has read enough.
+        Ok(()) | Err(Fault::ReaderGone) => ExitCode::SUCCESS,
         Err(fault) => {
-            eprintln!("{fault}");
+            tell(fault);
             ExitCode::from(2)
         }
     }

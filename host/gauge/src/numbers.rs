@@ -2,9 +2,8 @@
 
 use crate::entries::Entries;
 use crate::fault::{Fault, front};
-use crate::format::content;
-use std::fs;
-use std::path::Path;
+use crate::text::{content, read_small, strange};
+use std::path::{Path, PathBuf};
 use std::str::FromStr;
 
 /// A number that may stand in a list.
@@ -32,27 +31,60 @@ impl Number for f32 {
     }
 }
 
-/// The numbers of a setting, none where it is not set. A value that begins with a digit or a sign is a list; any other names a file beside the settings.
-pub fn listed<T: Number>(entries: &Entries, name: &str) -> Result<Vec<T>, Fault> {
-    let Some(entry) = entries.get(name) else {
-        return Ok(Vec::new());
-    };
-    let inline = entry
-        .value
-        .starts_with(|c: char| c.is_ascii_digit() || c == '+' || c == '-');
-    if inline || entry.value.is_empty() {
-        return words(&entry.value).map_err(|what| entries.fault(name, what));
+/// The numbers of a list, and the file that they stand in where they have one of their own.
+pub struct List<T> {
+    pub numbers: Vec<T>,
+    pub file: Option<PathBuf>,
+}
+
+/// The numbers of a setting's value: a list where it begins with a digit, a sign or a point, else the name of a file beside the settings.
+pub fn listed<T: Number>(entries: &Entries, name: &str, value: &[u8]) -> Result<List<T>, Fault> {
+    let text = String::from_utf8_lossy(value);
+    let fault = |what: String| entries.fault(name, what);
+    if value.is_empty() {
+        let what = format!("no numbers; a line without {name} has no such entry");
+        return Err(fault(what));
     }
-    let path = Path::new(&entries.file).with_file_name(&entry.value);
-    let text = fs::read_to_string(&path).map_err(|why| entries.fault(name, why))?;
-    lines(&path.to_string_lossy(), &text)
+    if is_inline(value) {
+        let numbers = words(&text).map_err(fault)?;
+        return Ok(List {
+            numbers,
+            file: None,
+        });
+    }
+    if text.starts_with(|c: char| !strange(&c.to_string()).is_empty()) {
+        let has = strange(&text);
+        let what =
+            format!("neither numbers nor the name of a file{has}; a file of that name is ./");
+        return Err(fault(what + &front(&text)));
+    }
+    let file = entries.beside(value);
+    let bytes = read_small(&file).map_err(|why| fault(why.to_string()))?;
+    let numbers = lines(&file, &bytes)?;
+    if numbers.is_empty() {
+        let what = format!("no numbers; a line without {name} does not name it");
+        return Err(Fault::file(&file, what));
+    }
+    Ok(List {
+        numbers,
+        file: Some(file),
+    })
+}
+
+fn is_inline(value: &[u8]) -> bool {
+    match value {
+        [b'.', next, ..] => next.is_ascii_digit(),
+        [first, ..] => first.is_ascii_digit() || *first == b'+' || *first == b'-',
+        [] => false,
+    }
 }
 
 // The numbers of a file, any count of them a line.
-fn lines<T: Number>(file: &str, text: &str) -> Result<Vec<T>, Fault> {
+fn lines<T: Number>(file: &Path, text: &[u8]) -> Result<Vec<T>, Fault> {
     let mut all = Vec::new();
-    for (at, line) in text.lines().enumerate() {
-        let numbers = words(content(line)).map_err(|what| Fault::line(file, at + 1, what))?;
+    for (at, line) in text.split(|byte| *byte == b'\n').enumerate() {
+        let line = String::from_utf8_lossy(content(line));
+        let numbers = words(&line).map_err(|what| Fault::line(file, at + 1, what))?;
         all.extend(numbers);
     }
     Ok(all)
@@ -60,11 +92,11 @@ fn lines<T: Number>(file: &str, text: &str) -> Result<Vec<T>, Fault> {
 
 // The numbers of a line, with blanks or commas between them, or what is wrong with one.
 fn words<T: Number>(line: &str) -> Result<Vec<T>, String> {
-    line.split([' ', '\t', ','])
+    line.split([' ', '\t', ',', '\r'])
         .filter(|word| !word.is_empty())
         .map(|word| {
             let number = word.parse().ok().filter(T::is_usable);
-            number.ok_or_else(|| format!("{} is not {}", front(word), T::KIND))
+            number.ok_or_else(|| format!("{} is not {}{}", front(word), T::KIND, strange(word)))
         })
         .collect()
 }
@@ -76,7 +108,7 @@ mod tests {
     #[test]
     fn numbers_stand_with_blanks_or_commas_between_them() {
         assert_eq!(words::<i16>("1, -2\t3"), Ok(vec![1, -2, 3]));
-        assert_eq!(words::<f32>(""), Ok(vec![]));
+        assert_eq!(words::<f32>(".5 -.25"), Ok(vec![0.5, -0.25]));
     }
 
     #[test]
@@ -89,11 +121,12 @@ mod tests {
 
     #[test]
     fn a_file_of_numbers_has_comments_and_line_numbers() {
+        let file = Path::new("f");
         assert_eq!(
-            lines::<i16>("f", "# two\n1 2\n\n3 # last"),
+            lines::<i16>(file, b"# two\n1 2\r\n\n3 # last"),
             Ok(vec![1, 2, 3])
         );
-        let fault = lines::<i16>("f", "1\nx").unwrap_err();
+        let fault = lines::<i16>(file, b"1\nx").unwrap_err();
         assert!(fault.to_string().starts_with("f:2: x is not"));
     }
 }

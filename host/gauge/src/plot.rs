@@ -3,25 +3,13 @@
 use crate::axis::Span;
 use crate::convert::levels_of;
 use crate::fault::{Fault, front};
-use crate::format::Format;
+use crate::job::{self, Job};
 use crate::line_file::LineFile;
 use crate::options::Options;
 use crate::range::scale;
-use crate::rate::rate;
-use crate::samples::Samples;
 use crate::section::{first_level, sections, whole};
 use crate::svg::{Drawing, Series, Stretch};
-use crate::target::Target;
-
-const OPTIONS: [&str; 7] = [
-    "--settings",
-    "--in",
-    "--out",
-    "--format",
-    "--rate",
-    "--title",
-    "--range",
-];
+use std::ffi::OsString;
 
 /// What levels are in parts of, for a drawing.
 pub const LEVEL: &str = "level, in parts of full scale (32768)";
@@ -37,22 +25,19 @@ const TIMES: [(&str, f64); 6] = [
 ];
 
 /// Draws a recording and its levels as the arguments say.
-pub fn plot(arguments: &[String]) -> Result<(), Fault> {
-    let options = Options::parse(arguments, &OPTIONS)?;
-    let format = Format::named(options.get("--format").unwrap_or("text"))?;
-    let name = options.needed("--settings")?;
-    let rate = rate(&options)?;
-    let range = options.get("--range").map(range).transpose()?;
-    let file = LineFile::read(name)?;
-    let mut line = file.open()?;
-    let samples = Samples::open(options.get("--in").unwrap_or("-"), format)?.all()?;
-    let mut target = Target::create(options.get("--out").unwrap_or("-"))?;
-    let levels = levels_of(&mut line, &samples)?;
-    let across = Across::of(rate, range, samples.len());
-    let title = options.get("--title").unwrap_or(name);
-    let drawing = drawing(&file, &samples, &levels, title, &across)?;
-    target.write(drawing.svg().as_bytes())?;
-    target.finish()
+pub fn plot(arguments: &[OsString]) -> Result<(), Fault> {
+    let known = [&job::OPTIONS[..], &["--title", "--range"]].concat();
+    let options = Options::parse(arguments, &known, "--in")?;
+    let name = options.needed("--settings")?.to_string_lossy();
+    let title = options.text("--title")?.unwrap_or(&name);
+    let range = options.text("--range")?.map(range).transpose()?;
+    let mut job = Job::of(&options)?;
+    let samples = job.samples.all()?;
+    let levels = levels_of(&mut job.line, &samples)?;
+    let across = Across::of(job.rate, range, samples.len());
+    let drawing = drawing(&job.file, &samples, &levels, title, &across)?;
+    job.target.write(drawing.svg().as_bytes())?;
+    job.target.finish()
 }
 
 fn drawing<'a>(

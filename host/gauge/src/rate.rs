@@ -1,24 +1,5 @@
 //! Samples a second, and times and frequencies told by them.
 
-use crate::fault::{Fault, front};
-use crate::options::Options;
-
-/// The rate of a recording that `--rate` gives, in samples a second.
-pub fn rate(options: &Options) -> Result<Option<f64>, Fault> {
-    let Some(value) = options.get("--rate") else {
-        return Ok(None);
-    };
-    let rate = value.parse().ok();
-    let rate = rate.filter(|rate: &f64| rate.is_finite() && *rate > 0.0);
-    let wrong = || {
-        Fault::usage(format!(
-            "--rate {} is not a number of hertz above 0",
-            front(value)
-        ))
-    };
-    rate.ok_or_else(wrong).map(Some)
-}
-
 /// What times are told in: samples, or seconds where the rate is known.
 #[derive(Clone, Copy, Debug, PartialEq)]
 pub enum Unit {
@@ -91,17 +72,5 @@ mod tests {
             told,
             ["0", "2.5", "0.333333", "123457", "1000000000", "0.0001"]
         );
-    }
-
-    #[test]
-    fn a_rate_is_a_number_above_zero() {
-        let options = |value: &str| {
-            let arguments = ["--rate", value].map(String::from);
-            rate(&Options::parse(&arguments, &["--rate"]).unwrap())
-        };
-        assert_eq!(options("0.5"), Ok(Some(0.5)));
-        for wrong in ["0", "-1", "nan", "inf", "8Hz", ""] {
-            assert!(options(wrong).is_err(), "{wrong}");
-        }
     }
 }

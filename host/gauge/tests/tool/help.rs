@@ -16,6 +16,10 @@ fn its_settings_open_a_line_and_its_fault_is_told() {
     assert!(help.status.success() && help.stderr.is_empty());
     assert_eq!(scratch.gauge("help"), help);
     assert_eq!(scratch.gauge("run --help"), help);
+    let version = scratch.gauge("--version");
+    let said = concat!("gauge ", env!("CARGO_PKG_VERSION"), "\n");
+    assert_eq!(version.stdout, said.as_bytes());
+    assert_eq!(scratch.gauge("version"), version);
 
     let help = String::from_utf8(help.stdout).unwrap();
     scratch.write("line.settings", example(&help, "    stages = "));

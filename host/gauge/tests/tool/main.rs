@@ -2,9 +2,12 @@
 
 mod drawing;
 mod faults;
+mod formats;
 mod help;
 mod layout;
 mod pieces;
+mod random;
 mod range;
 mod scratch;
+mod summary;
 mod targets;

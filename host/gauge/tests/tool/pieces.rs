@@ -1,11 +1,11 @@
 //! How a recording is cut and written down changes no level.
 
-use crate::scratch::{Scratch, as_text, samples};
+use crate::scratch::{Scratch, as_text, samples, told};
 
 const CUTTINGS: [&str; 5] = [
     "--piece 1 --span 1",
     "--piece 1",
-    "--span 1",
+    "--span=1",
     "--piece 7 --span 3",
     "--piece 900",
 ];
@@ -17,7 +17,7 @@ fn every_cutting_gives_the_same_levels() {
     let whole = scratch.gauge("run --settings line.settings --in samples.txt");
     assert!(whole.status.success() && whole.stdout.len() > 100);
     for cutting in CUTTINGS {
-        let run = format!("run --settings line.settings --in samples.txt {cutting}");
+        let run = format!("run --settings line.settings samples.txt {cutting}");
         assert_eq!(scratch.gauge(&run), whole, "{cutting}");
     }
 }
@@ -49,6 +49,10 @@ fn no_samples_give_no_levels() {
     let scratch = Scratch::new("none");
     let run = scratch.gauge("run --settings line.settings");
     assert!(run.status.success() && run.stdout.is_empty());
+    assert_eq!(
+        told(&run),
+        "gauge: no samples, no levels; the first comes with sample 40\n"
+    );
     let plot = scratch.gauge("plot --settings line.settings --out none.svg");
     assert!(plot.status.success());
     assert!(scratch.read("none.svg").ends_with(b"</svg>\n"));

@@ -1,0 +1,191 @@
+//! What a run took and made, for the line at its end.
+
+use crate::cuts::Cuts;
+use crate::fault::{Fault, tell};
+use crate::line_file::LineFile;
+use crate::section::first_level;
+use std::ops::RangeInclusive;
+
+/// Counts what a run takes and makes.
+pub struct Tally {
+    cuts: Cuts,
+    first_level: usize,
+    samples: u64,
+    // The least and the greatest sample.
+    reach: (i32, i32),
+    // How many samples left the exact range, and the first of them with its number, from 1.
+    outside: u64,
+    first_outside: Option<(u64, i32)>,
+    levels: u64,
+    least: f32,
+    greatest: f32,
+    not_finite: u64,
+}
+
+impl Tally {
+    /// For the line of a settings file.
+    pub fn of(file: &LineFile) -> Result<Tally, Fault> {
+        Ok(Tally {
+            cuts: Cuts::of(file).map_err(|refusal| Fault::file("the line", refusal))?,
+            first_level: first_level(file),
+            samples: 0,
+            reach: (i32::MAX, i32::MIN),
+            outside: 0,
+            first_outside: None,
+            levels: 0,
+            least: f32::INFINITY,
+            greatest: f32::NEG_INFINITY,
+            not_finite: 0,
+        })
+    }
+
+    /// The samples taken so far.
+    pub fn samples(&self) -> u64 {
+        self.samples
+    }
+
+    /// Counts samples that the line takes.
+    pub fn take(&mut self, samples: &[i32]) -> Result<(), Fault> {
+        let (least, greatest) = reach(samples);
+        self.reach = (self.reach.0.min(least), self.reach.1.max(greatest));
+        let (low, high) = self.cuts.exact_range();
+        if least < low || greatest > high {
+            self.take_outside(samples, low..=high);
+        }
+        self.samples += samples.len() as u64;
+        let counted = self.cuts.take(samples);
+        counted.map_err(|refusal| Fault::file("the line", refusal))
+    }
+
+    fn take_outside(&mut self, samples: &[i32], range: RangeInclusive<i32>) {
+        let outside = |sample: &&i32| !range.contains(sample);
+        self.outside += samples.iter().filter(outside).count() as u64;
+        if let (None, Some(at)) = (self.first_outside, samples.iter().position(|s| outside(&s))) {
+            self.first_outside = Some((self.samples + at as u64 + 1, samples[at]));
+        }
+    }
+
+    /// Counts levels that the line writes.
+    pub fn write(&mut self, levels: &[f32]) {
+        self.levels += levels.len() as u64;
+        for level in levels {
+            self.least = self.least.min(*level);
+            self.greatest = self.greatest.max(*level);
+            self.not_finite += u64::from(!level.is_finite());
+        }
+    }
+
+    /// Tells all of it on standard error: one line, and one for each thing to beware of.
+    pub fn tell(&self) {
+        tell(format_args!("gauge: {}", self.summary()));
+        for warning in self.warnings() {
+            tell(format_args!("gauge: warning: {warning}"));
+        }
+    }
+
+    fn summary(&self) -> String {
+        let samples = counted(self.samples, "sample");
+        if self.levels == 0 {
+            let first = self.first_level;
+            return format!("{samples}, no levels; the first comes with sample {first}");
+        }
+        let levels = counted(self.levels, "level");
+        let cut = counted(self.cuts.count(), "value");
+        let (least, greatest) = (self.least, self.greatest);
+        format!("{samples}, {levels} from {least} to {greatest}, {cut} cut to 16 bits")
+    }
+
+    fn warnings(&self) -> Vec<String> {
+        let mut all = Vec::new();
+        if self.cuts.count() > 0 {
+            let cut = counted(self.cuts.count(), "value");
+            let hint = shift_hint(self.reach);
+            all.push(format!(
+                "{cut} past the ends of 16 bits, held at -32768 and 32767{hint}"
+            ));
+        }
+        if let Some((at, sample)) = self.first_outside {
+            let ((low, high), count) = (self.cuts.exact_range(), counted(self.outside, "sample"));
+            all.push(format!("{count} outside {low} to {high}, the first at {at}: {sample}; sums of such samples may leave 32 bits and come round, and then levels are wrong"));
+        }
+        if self.not_finite > 0 {
+            let count = counted(self.not_finite, "level");
+            all.push(format!(
+                "{count} not finite: the prototype's numbers are too large"
+            ));
+        }
+        all
+    }
+}
+
+// The least and the greatest sample.
+fn reach(samples: &[i32]) -> (i32, i32) {
+    samples
+        .iter()
+        .fold((i32::MAX, i32::MIN), |(least, greatest), sample| {
+            (least.min(*sample), greatest.max(*sample))
+        })
+}
+
+// "no values", "1 value", "2 values".
+fn counted(count: u64, what: &str) -> String {
+    match count {
+        0 => format!("no {what}s"),
+        1 => format!("1 {what}"),
+        _ => format!("{count} {what}s"),
+    }
+}
+
+// The shift that brings samples over 16 bits within them.
+fn shift_hint((least, greatest): (i32, i32)) -> String {
+    let shift = (0..=16).find(|shift| {
+        let fits = |sample: i32| i16::try_from(sample >> shift).is_ok();
+        fits(least) && fits(greatest)
+    });
+    match shift {
+        Some(shift) if shift > 0 => format!(
+            "; samples are from {least} to {greatest}, and --shift {shift} brings them within"
+        ),
+        _ => String::new(),
+    }
+}
+
+#[cfg(test)]
+mod tests {
+    use super::*;
+
+    fn tally(settings: &str, samples: &[i32], levels: &[f32]) -> Tally {
+        let file = LineFile::parse("f", settings).unwrap();
+        let mut tally = Tally::of(&file).unwrap();
+        tally.take(samples).unwrap();
+        tally.write(levels);
+        tally
+    }
+
+    #[test]
+    fn a_quiet_run_has_one_line() {
+        let tally = tally("stages=1\nr=2", &[1, 2, 3], &[0.5]);
+        let said = "3 samples, 1 level from 0.5 to 0.5, no values cut to 16 bits";
+        assert_eq!(tally.summary(), said);
+        assert!(tally.warnings().is_empty());
+    }
+
+    #[test]
+    fn no_levels_are_told() {
+        let tally = tally("stages=1\nr=20\ndepth=1", &[1, 2, 3], &[]);
+        let said = "3 samples, no levels; the first comes with sample 40";
+        assert_eq!(tally.summary(), said);
+    }
+
+    #[test]
+    fn what_to_beware_of_is_told() {
+        let cut = tally("stages=1\nr=1", &[8_388_607], &[1.0]).warnings();
+        assert_eq!(cut.len(), 1);
+        assert!(cut[0].starts_with("1 value past") && cut[0].contains("--shift 8 "));
+        let outside = tally("stages=3\nr=64", &[8191, -8193, 9000], &[0.0]).warnings();
+        assert_eq!(outside.len(), 1);
+        assert!(outside[0].starts_with("2 samples outside -8192 to 8191, the first at 2: -8193;"));
+        let infinite = tally("stages=1\nr=1", &[1], &[f32::NAN]).warnings();
+        assert!(infinite[0].starts_with("1 level not finite"));
+    }
+}
