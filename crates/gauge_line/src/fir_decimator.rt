@@ -1,8 +1,9 @@
 // `FirDecimator`: taps, tap_count, factor, delay, wait.
 ghost use mathlib.Core.Path.{_≡_};
 ghost use lib.IntN.{pos};
-ghost use Rattle.q15.specs.FirDecimator.{firState, firOpened, firReset, firStep};
+ghost use Rattle.q15.specs.FirDecimator.{firOpened, firReset, firStep, Streams};
 ghost use Rattle.gauge_line.specs.Crossing.{crossed};
+ghost use Rattle.gauge_line.specs.States.{entry, exit, firAt};
 use crate::answers::fir_made;
 use crate::answers::fir_number;
 use crate::answers::fir_value;
@@ -20,7 +21,8 @@ pub extern "C" fn gauge_raw_fir_decimator_new(
     delay: &mut [i16; 64],
     wait: &mut usize,
 ) -> usize
-    ensures { λ n. ⌜ record { number = n; state = firState (now (taps .exit)) (now («tap_count» .exit)) (now (factor .exit)) (now (delay .exit)) (now (wait .exit)) } ≡ firOpened (now («wanted_taps» .entry)) «wanted_factor» ⌝ }
+    ensures answer { λ n. ⌜ record { number = n; state = firAt exit taps «tap_count» factor delay wait } ≡ firOpened (now («wanted_taps» .entry)) «wanted_factor» ⌝ }
+    ensures stream { λ n. ⌜ (n ≡ 0 → Streams (now («wanted_taps» .entry)) «wanted_factor» (firAt exit taps «tap_count» factor delay wait)) ⌝ }
 {
     let opened = FirDecimator::new(wanted_taps, wanted_factor);
     let next = opened.state;
@@ -43,7 +45,10 @@ pub extern "C" fn gauge_raw_fir_decimator_reset(
     delay: &mut [i16; 64],
     wait: &mut usize,
 ) -> usize
-    ensures { λ n. ⌜ record { number = n; state = firState (now (taps .exit)) (now («tap_count» .exit)) (now (factor .exit)) (now (delay .exit)) (now (wait .exit)) } ≡ firReset (firState (now (taps .entry)) (now («tap_count» .entry)) (now (factor .entry)) (now (delay .entry)) (now (wait .entry))) ⌝ }
+    ensures answer { λ n. ⌜ (
+        let before = firAt entry taps «tap_count» factor delay wait in
+        let after = firAt exit taps «tap_count» factor delay wait in
+        record { number = n; state = after } ≡ firReset before) ⌝ }
 {
     let lent_taps = *taps;
     let lent_delay = *delay;
@@ -78,7 +83,10 @@ pub extern "C" fn gauge_raw_fir_decimator_process_sample(
     made: &mut usize,
     value: &mut i16,
 ) -> usize
-    ensures { λ n. ⌜ record { number = n; value = (now (made .exit), now (value .exit)); state = firState (now (taps .exit)) (now («tap_count» .exit)) (now (factor .exit)) (now (delay .exit)) (now (wait .exit)) } ≡ crossed (pos 0) (firStep (firState (now (taps .entry)) (now («tap_count» .entry)) (now (factor .entry)) (now (delay .entry)) (now (wait .entry))) sample) ⌝ }
+    ensures answer { λ n. ⌜ (
+        let before = firAt entry taps «tap_count» factor delay wait in
+        let after = firAt exit taps «tap_count» factor delay wait in
+        record { number = n; value = (now (made .exit), now (value .exit)); state = after } ≡ crossed (pos 0) (firStep before sample)) ⌝ }
 {
     let lent_taps = *taps;
     let lent_delay = *delay;

@@ -1,8 +1,8 @@
 // `HbfIntCascade`: depth, delays.
 ghost use mathlib.Core.Path.{_≡_};
 ghost use lib.ListN.{length};
-ghost use Rattle.half_band.specs.HbfIntCascade.{intCascadeOpening, intCascadeReset, intCascadeBlock, intCascadeSpan};
-ghost use Rattle.gauge_line.specs.States.{intCascadeOf};
+ghost use Rattle.half_band.specs.HbfIntCascade.{intCascadeOpening, intCascadeReset, intCascadeBlock, intCascadeSpan, IntCascadeMeets};
+ghost use Rattle.gauge_line.specs.States.{entry, exit, intCascadeAt};
 use crate::answers::count_number;
 use crate::answers::count_written;
 use crate::answers::opening_number;
@@ -14,7 +14,8 @@ pub extern "C" fn gauge_raw_hbf_int_cascade_new(
     depth: &mut usize,
     delays: &mut [f32; 240],
 ) -> usize
-    ensures { λ n. ⌜ record { number = n; state = intCascadeOf (now (depth .exit)) (now (delays .exit)) } ≡ intCascadeOpening «wanted_depth» ⌝ }
+    ensures answer { λ n. ⌜ record { number = n; state = intCascadeAt exit depth delays } ≡ intCascadeOpening «wanted_depth» ⌝ }
+    ensures meets { λ n. ⌜ (n ≡ 0 → IntCascadeMeets «wanted_depth» (intCascadeAt exit depth delays)) ⌝ }
 {
     let opened = HbfIntCascade::new(wanted_depth);
     let next = opened.state;
@@ -30,7 +31,7 @@ pub extern "C" fn gauge_raw_hbf_int_cascade_reset(
     depth: &mut usize,
     delays: &mut [f32; 240],
 ) -> usize
-    ensures { λ n. ⌜ record { number = n; state = intCascadeOf (now (depth .exit)) (now (delays .exit)) } ≡ intCascadeReset (intCascadeOf (now (depth .entry)) (now (delays .entry))) ⌝ }
+    ensures answer { λ n. ⌜ record { number = n; state = intCascadeAt exit depth delays } ≡ intCascadeReset (intCascadeAt entry depth delays) ⌝ }
 {
     let lent_delays = *delays;
     let state = HbfIntCascade {
@@ -54,8 +55,11 @@ pub extern "C" fn gauge_raw_hbf_int_cascade_process(
     dst: &mut [f32],
     written: &mut usize,
 ) -> usize
-    ensures answer { λ n. ⌜ record { number = n; value = now (written .exit); state = intCascadeOf (now (depth .exit)) (now (delays .exit)) } ≡ intCascadeBlock (intCascadeOf (now (depth .entry)) (now (delays .entry))) (now (src .entry)) (length (now (dst .entry))) ⌝ }
-    ensures span { λ n. ⌜ now (dst .exit) ≡ intCascadeSpan (intCascadeOf (now (depth .entry)) (now (delays .entry))) (now (src .entry)) (now (dst .entry)) ⌝ }
+    ensures answer { λ n. ⌜ (
+        let before = intCascadeAt entry depth delays in
+        let after = intCascadeAt exit depth delays in
+        record { number = n; value = now (written .exit); state = after } ≡ intCascadeBlock before (now (src .entry)) (length (now (dst .entry)))) ⌝ }
+    ensures span { λ n. ⌜ now (dst .exit) ≡ intCascadeSpan (intCascadeAt entry depth delays) (now (src .entry)) (now (dst .entry)) ⌝ }
 {
     let lent_delays = *delays;
     let state = HbfIntCascade {

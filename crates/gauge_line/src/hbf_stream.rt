@@ -1,8 +1,9 @@
 // `HbfStream`: depth, delays, held, counts.
 ghost use mathlib.Core.Path.{_≡_};
 ghost use Rattle.float.specs.F32.{zero32};
-ghost use Rattle.half_band.specs.HbfStream.{streamOf, streamOpening, streamReset, streamStep};
+ghost use Rattle.half_band.specs.HbfStream.{streamOpening, streamReset, streamStep, StreamMeets};
 ghost use Rattle.gauge_line.specs.Crossing.{crossed};
+ghost use Rattle.gauge_line.specs.States.{entry, exit, streamAt};
 use crate::answers::opening_number;
 use crate::answers::stream_made;
 use crate::answers::stream_number;
@@ -17,7 +18,8 @@ pub extern "C" fn gauge_raw_hbf_stream_new(
     held: &mut [f32; 5],
     counts: &mut [usize; 5],
 ) -> usize
-    ensures { λ n. ⌜ record { number = n; state = streamOf (now (depth .exit)) (now (delays .exit)) (now (held .exit)) (now (counts .exit)) } ≡ streamOpening «wanted_depth» ⌝ }
+    ensures answer { λ n. ⌜ record { number = n; state = streamAt exit depth delays held counts } ≡ streamOpening «wanted_depth» ⌝ }
+    ensures meets { λ n. ⌜ (n ≡ 0 → StreamMeets «wanted_depth» (streamAt exit depth delays held counts)) ⌝ }
 {
     let opened = HbfStream::new(wanted_depth);
     let next = opened.state;
@@ -39,7 +41,7 @@ pub extern "C" fn gauge_raw_hbf_stream_reset(
     held: &mut [f32; 5],
     counts: &mut [usize; 5],
 ) -> usize
-    ensures { λ n. ⌜ record { number = n; state = streamOf (now (depth .exit)) (now (delays .exit)) (now (held .exit)) (now (counts .exit)) } ≡ streamReset (streamOf (now (depth .entry)) (now (delays .entry)) (now (held .entry)) (now (counts .entry))) ⌝ }
+    ensures answer { λ n. ⌜ record { number = n; state = streamAt exit depth delays held counts } ≡ streamReset (streamAt entry depth delays held counts) ⌝ }
 {
     let lent_delays = *delays;
     let lent_held = *held;
@@ -73,7 +75,10 @@ pub extern "C" fn gauge_raw_hbf_stream_process_sample(
     made: &mut usize,
     value: &mut f32,
 ) -> usize
-    ensures { λ n. ⌜ record { number = n; value = (now (made .exit), now (value .exit)); state = streamOf (now (depth .exit)) (now (delays .exit)) (now (held .exit)) (now (counts .exit)) } ≡ crossed zero32 (streamStep (streamOf (now (depth .entry)) (now (delays .entry)) (now (held .entry)) (now (counts .entry))) x) ⌝ }
+    ensures answer { λ n. ⌜ (
+        let before = streamAt entry depth delays held counts in
+        let after = streamAt exit depth delays held counts in
+        record { number = n; value = (now (made .exit), now (value .exit)); state = after } ≡ crossed zero32 (streamStep before x)) ⌝ }
 {
     let lent_delays = *delays;
     let lent_held = *held;

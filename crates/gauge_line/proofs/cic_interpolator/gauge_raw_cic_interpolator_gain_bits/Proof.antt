@@ -16,7 +16,7 @@ bits-number-requires : tie.Need-bits-number-requires
 bits-number-requires c κs = search needs
 
 returns : tie.Need-returns
-returns c = rw (c .bits-number .ensures, c .before .bits-value .ensures) (c .before .before .gain-bits .ensures .0)
+returns c = rw (c .bits-number .ensures, c .before .bits-value .ensures) (c .before .before .gain-bits .ensures)
 
 pub gauge-raw-cic-interpolator-gain-bits-spec : {M : Type 1} → statement M
 gauge-raw-cic-interpolator-gain-bits-spec =

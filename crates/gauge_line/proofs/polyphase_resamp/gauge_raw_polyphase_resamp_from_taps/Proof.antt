@@ -13,7 +13,7 @@ opening-number-requires : tie.Need-opening-number-requires
 opening-number-requires c κs = search needs
 
 returns : tie.Need-returns
-returns c = rw (c .opening-number .ensures) (c .before .before .before .before .from-taps .ensures .0)
+returns c = rw (c .opening-number .ensures) (c .before .before .before .before .from-taps .ensures)
 
 pub gauge-raw-polyphase-resamp-from-taps-spec : {M : Type 1} → statement M
 gauge-raw-polyphase-resamp-from-taps-spec =

@@ -11,7 +11,7 @@ opening-number-requires : tie.Need-opening-number-requires
 opening-number-requires c κs = search needs
 
 returns : tie.Need-returns
-returns c = rw (c .opening-number .ensures) (c .before .before .before .before .reset .ensures .0)
+returns c = rw (c .opening-number .ensures) (c .before .before .before .before .reset .ensures)
 
 pub gauge-raw-polyphase-resamp-reset-spec : {M : Type 1} → statement M
 gauge-raw-polyphase-resamp-reset-spec =
