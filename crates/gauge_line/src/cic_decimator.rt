@@ -19,6 +19,8 @@ use crate::answers::opening_number;
 use crate::answers::sum_made;
 use crate::answers::sum_number;
 use crate::answers::sum_value;
+use crate::states::decimator;
+use crate::states::put_decimator;
 use integer::CicDecimator;
 use integer::cic_decimator::block_at;
 
@@ -37,13 +39,7 @@ pub extern "C" fn gauge_raw_cic_decimator_new(
 {
     let opened = CicDecimator::new(wanted_stages, wanted_r);
     let next = opened.state;
-    let next_integrators = next.integrator_state;
-    let next_combs = next.comb_state;
-    *stages = next.stages;
-    *r = next.r;
-    *integrators = next_integrators;
-    *combs = next_combs;
-    *sample_counter = next.sample_counter;
+    put_decimator(next, stages, r, integrators, combs, sample_counter);
     let answer = opened.answer;
     opening_number(answer)
 }
@@ -59,15 +55,7 @@ pub extern "C" fn gauge_raw_cic_decimator_gain(
 ) -> usize
     ensures answer { λ n. ⌜ record { number = n; value = now (gain .exit) } ≡ onState (D.validAt stages r «sample_counter») (gainOf stages r) ⌝ }
 {
-    let lent_integrators = *integrators;
-    let lent_combs = *combs;
-    let state = CicDecimator {
-        stages,
-        r,
-        integrator_state: lent_integrators,
-        comb_state: lent_combs,
-        sample_counter,
-    };
+    let state = decimator(stages, r, *integrators, *combs, sample_counter);
     let answer = state.gain();
     *gain = gain_value(answer);
     gain_number(answer)
@@ -85,15 +73,7 @@ pub extern "C" fn gauge_raw_cic_decimator_gain_bits(
     ensures answer { λ n. ⌜ record { number = n; value = now (bits .exit) } ≡ onState (D.validAt stages r «sample_counter») (gainBits stages r) ⌝ }
     ensures least { λ n. ⌜ (n ≡ 0 → Least (gainOf stages r) (now (bits .exit))) ⌝ }
 {
-    let lent_integrators = *integrators;
-    let lent_combs = *combs;
-    let state = CicDecimator {
-        stages,
-        r,
-        integrator_state: lent_integrators,
-        comb_state: lent_combs,
-        sample_counter,
-    };
+    let state = decimator(stages, r, *integrators, *combs, sample_counter);
     let answer = state.gain_bits();
     *bits = bits_value(answer);
     bits_number(answer)
@@ -115,24 +95,10 @@ pub extern "C" fn gauge_raw_cic_decimator_process_sample(
         let after = decimatorAt exit stages r integrators combs «sample_counter» in
         record { number = n; value = (now (made .exit), now (sum .exit)); state = after } ≡ crossed (pos 0) (D.step before input)) ⌝ }
 {
-    let lent_integrators = *integrators;
-    let lent_combs = *combs;
-    let state = CicDecimator {
-        stages: *stages,
-        r: *r,
-        integrator_state: lent_integrators,
-        comb_state: lent_combs,
-        sample_counter: *sample_counter,
-    };
+    let state = decimator(*stages, *r, *integrators, *combs, *sample_counter);
     let done = state.process_sample(input);
     let next = done.state;
-    let next_integrators = next.integrator_state;
-    let next_combs = next.comb_state;
-    *stages = next.stages;
-    *r = next.r;
-    *integrators = next_integrators;
-    *combs = next_combs;
-    *sample_counter = next.sample_counter;
+    put_decimator(next, stages, r, integrators, combs, sample_counter);
     let output = done.output;
     *made = sum_made(output);
     *sum = sum_value(output);
@@ -155,24 +121,10 @@ pub extern "C" fn gauge_raw_cic_decimator_process_sample_scaled(
         let after = decimatorAt exit stages r integrators combs «sample_counter» in
         record { number = n; value = (now (made .exit), now (sum .exit)); state = after } ≡ crossed (pos 0) (D.scaledStep before input)) ⌝ }
 {
-    let lent_integrators = *integrators;
-    let lent_combs = *combs;
-    let state = CicDecimator {
-        stages: *stages,
-        r: *r,
-        integrator_state: lent_integrators,
-        comb_state: lent_combs,
-        sample_counter: *sample_counter,
-    };
+    let state = decimator(*stages, *r, *integrators, *combs, *sample_counter);
     let done = state.process_sample_scaled(input);
     let next = done.state;
-    let next_integrators = next.integrator_state;
-    let next_combs = next.comb_state;
-    *stages = next.stages;
-    *r = next.r;
-    *integrators = next_integrators;
-    *combs = next_combs;
-    *sample_counter = next.sample_counter;
+    put_decimator(next, stages, r, integrators, combs, sample_counter);
     let output = done.output;
     *made = sum_made(output);
     *sum = sum_value(output);

@@ -12,6 +12,8 @@ use crate::answers::count_written;
 use crate::answers::gain_number;
 use crate::answers::gain_value;
 use crate::answers::opening_number;
+use crate::states::interpolator;
+use crate::states::put_interpolator;
 use integer::CicInterpolator;
 use integer::cic_interpolator::sample_at;
 
@@ -29,12 +31,7 @@ pub extern "C" fn gauge_raw_cic_interpolator_new(
 {
     let opened = CicInterpolator::new(wanted_stages, wanted_r);
     let next = opened.state;
-    let next_combs = next.comb_state;
-    let next_integrators = next.integrator_state;
-    *stages = next.stages;
-    *r = next.r;
-    *combs = next_combs;
-    *integrators = next_integrators;
+    put_interpolator(next, stages, r, combs, integrators);
     let answer = opened.answer;
     opening_number(answer)
 }
@@ -49,14 +46,7 @@ pub extern "C" fn gauge_raw_cic_interpolator_gain(
 ) -> usize
     ensures answer { λ n. ⌜ record { number = n; value = now (gain .exit) } ≡ onState (I.validAt stages r) (gainOf (stages - 1) r) ⌝ }
 {
-    let lent_combs = *combs;
-    let lent_integrators = *integrators;
-    let state = CicInterpolator {
-        stages,
-        r,
-        comb_state: lent_combs,
-        integrator_state: lent_integrators,
-    };
+    let state = interpolator(stages, r, *combs, *integrators);
     let answer = state.gain();
     *gain = gain_value(answer);
     gain_number(answer)
@@ -73,14 +63,7 @@ pub extern "C" fn gauge_raw_cic_interpolator_gain_bits(
     ensures answer { λ n. ⌜ record { number = n; value = now (bits .exit) } ≡ onState (I.validAt stages r) (gainBits (stages - 1) r) ⌝ }
     ensures least { λ n. ⌜ (n ≡ 0 → Least (gainOf (stages - 1) r) (now (bits .exit))) ⌝ }
 {
-    let lent_combs = *combs;
-    let lent_integrators = *integrators;
-    let state = CicInterpolator {
-        stages,
-        r,
-        comb_state: lent_combs,
-        integrator_state: lent_integrators,
-    };
+    let state = interpolator(stages, r, *combs, *integrators);
     let answer = state.gain_bits();
     *bits = bits_value(answer);
     bits_number(answer)

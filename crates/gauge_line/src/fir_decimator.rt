@@ -8,6 +8,8 @@ use crate::answers::fir_made;
 use crate::answers::fir_number;
 use crate::answers::fir_value;
 use crate::answers::opening_number;
+use crate::states::fir;
+use crate::states::put_fir;
 use q15::FirDecimator;
 use q15::Q15;
 
@@ -26,13 +28,7 @@ pub extern "C" fn gauge_raw_fir_decimator_new(
 {
     let opened = FirDecimator::new(wanted_taps, wanted_factor);
     let next = opened.state;
-    let next_taps = next.taps;
-    let next_delay = next.delay;
-    *taps = next_taps;
-    *tap_count = next.tap_count;
-    *factor = next.factor;
-    *delay = next_delay;
-    *wait = next.wait;
+    put_fir(next, taps, tap_count, factor, delay, wait);
     let answer = opened.answer;
     opening_number(answer)
 }
@@ -50,24 +46,10 @@ pub extern "C" fn gauge_raw_fir_decimator_reset(
         let after = firAt exit taps «tap_count» factor delay wait in
         record { number = n; state = after } ≡ firReset before) ⌝ }
 {
-    let lent_taps = *taps;
-    let lent_delay = *delay;
-    let state = FirDecimator {
-        taps: lent_taps,
-        tap_count: *tap_count,
-        factor: *factor,
-        delay: lent_delay,
-        wait: *wait,
-    };
+    let state = fir(*taps, *tap_count, *factor, *delay, *wait);
     let opened = state.reset();
     let next = opened.state;
-    let next_taps = next.taps;
-    let next_delay = next.delay;
-    *taps = next_taps;
-    *tap_count = next.tap_count;
-    *factor = next.factor;
-    *delay = next_delay;
-    *wait = next.wait;
+    put_fir(next, taps, tap_count, factor, delay, wait);
     let answer = opened.answer;
     opening_number(answer)
 }
@@ -88,24 +70,10 @@ pub extern "C" fn gauge_raw_fir_decimator_process_sample(
         let after = firAt exit taps «tap_count» factor delay wait in
         record { number = n; value = (now (made .exit), now (value .exit)); state = after } ≡ crossed (pos 0) (firStep before sample)) ⌝ }
 {
-    let lent_taps = *taps;
-    let lent_delay = *delay;
-    let state = FirDecimator {
-        taps: lent_taps,
-        tap_count: *tap_count,
-        factor: *factor,
-        delay: lent_delay,
-        wait: *wait,
-    };
+    let state = fir(*taps, *tap_count, *factor, *delay, *wait);
     let done = state.process_sample(Q15(sample));
     let next = done.state;
-    let next_taps = next.taps;
-    let next_delay = next.delay;
-    *taps = next_taps;
-    *tap_count = next.tap_count;
-    *factor = next.factor;
-    *delay = next_delay;
-    *wait = next.wait;
+    put_fir(next, taps, tap_count, factor, delay, wait);
     let output = done.output;
     *made = fir_made(output);
     *value = fir_value(output);

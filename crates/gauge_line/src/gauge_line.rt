@@ -18,15 +18,19 @@ use crate::answers::step_number;
 use crate::answers::step_taken;
 use crate::answers::step_value;
 use crate::answers::step_written;
-use float::PolyphaseResampF32;
-use half_band::HbfStream;
-use integer::CicDecimator;
+use crate::states::decimator;
+use crate::states::fir;
+use crate::states::put_decimator;
+use crate::states::put_fir;
+use crate::states::put_resampler;
+use crate::states::put_stream;
+use crate::states::resampler;
+use crate::states::stream;
 use line::Line;
 use line::LineNumbers;
 use line::Settings;
 use line::feed_lent;
 use line::step_lent;
-use q15::FirDecimator;
 
 #[no_mangle]
 pub extern "C" fn gauge_raw_line_open(
@@ -85,39 +89,18 @@ pub extern "C" fn gauge_raw_line_open(
     };
     let opened = Line::open(settings, wanted_taps, wanted_prototype);
     let next = opened.line;
-    let cic = next.cic;
-    let fir = next.fir;
-    let half_band = next.half_band;
-    let resampler = next.resampler;
-    let next_integrators = cic.integrator_state;
-    let next_combs = cic.comb_state;
-    let next_taps = fir.taps;
-    let next_fir_delay = fir.delay;
-    let next_delays = half_band.delays;
-    let next_held = half_band.held;
-    let next_counts = half_band.counts;
-    let next_delay = resampler.delay;
-    let next_prototype = resampler.prototype;
-    *stages = cic.stages;
-    *r = cic.r;
-    *integrators = next_integrators;
-    *combs = next_combs;
-    *sample_counter = cic.sample_counter;
-    *taps = next_taps;
-    *tap_count = fir.tap_count;
-    *factor = fir.factor;
-    *fir_delay = next_fir_delay;
-    *wait = fir.wait;
-    *depth = half_band.depth;
-    *delays = next_delays;
-    *held = next_held;
-    *counts = next_counts;
-    *phases = resampler.phases;
-    *phase_taps = resampler.taps;
-    *mu = resampler.mu;
-    *step = resampler.step;
-    *delay = next_delay;
-    *prototype = next_prototype;
+    put_decimator(next.cic, stages, r, integrators, combs, sample_counter);
+    put_fir(next.fir, taps, tap_count, factor, fir_delay, wait);
+    put_stream(next.half_band, depth, delays, held, counts);
+    put_resampler(
+        next.resampler,
+        phases,
+        phase_taps,
+        mu,
+        step,
+        delay,
+        prototype,
+    );
     let answer = opened.answer;
     opening_number(answer)
 }
@@ -150,84 +133,26 @@ pub extern "C" fn gauge_raw_line_reset(
         let after = lineAt exit stages r integrators combs «sample_counter» taps «tap_count» factor «fir_delay» wait depth delays held counts phases «phase_taps» mu step delay prototype in
         record { number = n; state = after } ≡ L.reset before) ⌝ }
 {
-    let lent_integrators = *integrators;
-    let lent_combs = *combs;
-    let lent_cic = CicDecimator {
-        stages: *stages,
-        r: *r,
-        integrator_state: lent_integrators,
-        comb_state: lent_combs,
-        sample_counter: *sample_counter,
-    };
-    let lent_taps = *taps;
-    let lent_fir_delay = *fir_delay;
-    let lent_fir = FirDecimator {
-        taps: lent_taps,
-        tap_count: *tap_count,
-        factor: *factor,
-        delay: lent_fir_delay,
-        wait: *wait,
-    };
-    let lent_delays = *delays;
-    let lent_held = *held;
-    let lent_counts = *counts;
-    let lent_half_band = HbfStream {
-        depth: *depth,
-        delays: lent_delays,
-        held: lent_held,
-        counts: lent_counts,
-    };
-    let lent_delay = *delay;
-    let lent_prototype = *prototype;
-    let lent_resampler = PolyphaseResampF32 {
-        phases: *phases,
-        taps: *phase_taps,
-        mu: *mu,
-        step: *step,
-        delay: lent_delay,
-        prototype: lent_prototype,
-    };
     let line = Line {
-        cic: lent_cic,
-        fir: lent_fir,
-        half_band: lent_half_band,
-        resampler: lent_resampler,
+        cic: decimator(*stages, *r, *integrators, *combs, *sample_counter),
+        fir: fir(*taps, *tap_count, *factor, *fir_delay, *wait),
+        half_band: stream(*depth, *delays, *held, *counts),
+        resampler: resampler(*phases, *phase_taps, *mu, *step, *delay, *prototype),
     };
     let opened = line.reset();
     let next = opened.line;
-    let cic = next.cic;
-    let fir = next.fir;
-    let half_band = next.half_band;
-    let resampler = next.resampler;
-    let next_integrators = cic.integrator_state;
-    let next_combs = cic.comb_state;
-    let next_taps = fir.taps;
-    let next_fir_delay = fir.delay;
-    let next_delays = half_band.delays;
-    let next_held = half_band.held;
-    let next_counts = half_band.counts;
-    let next_delay = resampler.delay;
-    let next_prototype = resampler.prototype;
-    *stages = cic.stages;
-    *r = cic.r;
-    *integrators = next_integrators;
-    *combs = next_combs;
-    *sample_counter = cic.sample_counter;
-    *taps = next_taps;
-    *tap_count = fir.tap_count;
-    *factor = fir.factor;
-    *fir_delay = next_fir_delay;
-    *wait = fir.wait;
-    *depth = half_band.depth;
-    *delays = next_delays;
-    *held = next_held;
-    *counts = next_counts;
-    *phases = resampler.phases;
-    *phase_taps = resampler.taps;
-    *mu = resampler.mu;
-    *step = resampler.step;
-    *delay = next_delay;
-    *prototype = next_prototype;
+    put_decimator(next.cic, stages, r, integrators, combs, sample_counter);
+    put_fir(next.fir, taps, tap_count, factor, fir_delay, wait);
+    put_stream(next.half_band, depth, delays, held, counts);
+    put_resampler(
+        next.resampler,
+        phases,
+        phase_taps,
+        mu,
+        step,
+        delay,
+        prototype,
+    );
     let answer = opened.answer;
     opening_number(answer)
 }

@@ -8,6 +8,8 @@ use crate::answers::count_written;
 use crate::answers::opening_number;
 use crate::answers::pair_number;
 use crate::answers::pair_value;
+use crate::states::dec;
+use crate::states::put_dec;
 use half_band::HbfDec;
 
 #[no_mangle]
@@ -22,11 +24,7 @@ pub extern "C" fn gauge_raw_hbf_dec_new(
 {
     let opened = HbfDec::new(taps);
     let next = opened.state;
-    let next_coeffs = next.coeffs;
-    let next_delay = next.delay;
-    *m = next.m;
-    *coeffs = next_coeffs;
-    *delay = next_delay;
+    put_dec(next, m, coeffs, delay);
     let answer = opened.answer;
     opening_number(answer)
 }
@@ -39,20 +37,10 @@ pub extern "C" fn gauge_raw_hbf_dec_reset(
 ) -> usize
     ensures answer { λ n. ⌜ record { number = n; state = decAt exit m coeffs delay } ≡ decReset (decAt entry m coeffs delay) ⌝ }
 {
-    let lent_coeffs = *coeffs;
-    let lent_delay = *delay;
-    let state = HbfDec {
-        m: *m,
-        coeffs: lent_coeffs,
-        delay: lent_delay,
-    };
+    let state = dec(*m, *coeffs, *delay);
     let opened = state.reset();
     let next = opened.state;
-    let next_coeffs = next.coeffs;
-    let next_delay = next.delay;
-    *m = next.m;
-    *coeffs = next_coeffs;
-    *delay = next_delay;
+    put_dec(next, m, coeffs, delay);
     let answer = opened.answer;
     opening_number(answer)
 }
@@ -71,20 +59,10 @@ pub extern "C" fn gauge_raw_hbf_dec_process_pair(
         let after = decAt exit m coeffs delay in
         record { number = n; value = now (value .exit); state = after } ≡ decStep before a b) ⌝ }
 {
-    let lent_coeffs = *coeffs;
-    let lent_delay = *delay;
-    let state = HbfDec {
-        m: *m,
-        coeffs: lent_coeffs,
-        delay: lent_delay,
-    };
+    let state = dec(*m, *coeffs, *delay);
     let done = state.process_pair(a, b);
     let next = done.state;
-    let next_coeffs = next.coeffs;
-    let next_delay = next.delay;
-    *m = next.m;
-    *coeffs = next_coeffs;
-    *delay = next_delay;
+    put_dec(next, m, coeffs, delay);
     let out = done.out;
     *value = pair_value(out);
     pair_number(out)
@@ -105,20 +83,10 @@ pub extern "C" fn gauge_raw_hbf_dec_process(
         record { number = n; value = now (written .exit); state = after } ≡ decBlock before (now (src .entry)) (length (now (dst .entry)))) ⌝ }
     ensures span { λ n. ⌜ now (dst .exit) ≡ decSpan (decAt entry m coeffs delay) (now (src .entry)) (now (dst .entry)) ⌝ }
 {
-    let lent_coeffs = *coeffs;
-    let lent_delay = *delay;
-    let state = HbfDec {
-        m: *m,
-        coeffs: lent_coeffs,
-        delay: lent_delay,
-    };
+    let state = dec(*m, *coeffs, *delay);
     let done = state.process(src, dst);
     let next = done.state;
-    let next_coeffs = next.coeffs;
-    let next_delay = next.delay;
-    *m = next.m;
-    *coeffs = next_coeffs;
-    *delay = next_delay;
+    put_dec(next, m, coeffs, delay);
     let answer = done.answer;
     *written = count_written(answer);
     count_number(answer)

@@ -9,6 +9,8 @@ use crate::answers::both_odd;
 use crate::answers::count_number;
 use crate::answers::count_written;
 use crate::answers::opening_number;
+use crate::states::int;
+use crate::states::put_int;
 use half_band::HbfInt;
 
 #[no_mangle]
@@ -23,11 +25,7 @@ pub extern "C" fn gauge_raw_hbf_int_new(
 {
     let opened = HbfInt::new(taps);
     let next = opened.state;
-    let next_coeffs = next.coeffs;
-    let next_delay = next.delay;
-    *m = next.m;
-    *coeffs = next_coeffs;
-    *delay = next_delay;
+    put_int(next, m, coeffs, delay);
     let answer = opened.answer;
     opening_number(answer)
 }
@@ -40,20 +38,10 @@ pub extern "C" fn gauge_raw_hbf_int_reset(
 ) -> usize
     ensures answer { λ n. ⌜ record { number = n; state = intAt exit m coeffs delay } ≡ intReset (intAt entry m coeffs delay) ⌝ }
 {
-    let lent_coeffs = *coeffs;
-    let lent_delay = *delay;
-    let state = HbfInt {
-        m: *m,
-        coeffs: lent_coeffs,
-        delay: lent_delay,
-    };
+    let state = int(*m, *coeffs, *delay);
     let opened = state.reset();
     let next = opened.state;
-    let next_coeffs = next.coeffs;
-    let next_delay = next.delay;
-    *m = next.m;
-    *coeffs = next_coeffs;
-    *delay = next_delay;
+    put_int(next, m, coeffs, delay);
     let answer = opened.answer;
     opening_number(answer)
 }
@@ -72,20 +60,10 @@ pub extern "C" fn gauge_raw_hbf_int_process_sample(
         let after = intAt exit m coeffs delay in
         record { number = n; value = (now (even .exit), now (odd .exit)); state = after } ≡ intStep before x) ⌝ }
 {
-    let lent_coeffs = *coeffs;
-    let lent_delay = *delay;
-    let state = HbfInt {
-        m: *m,
-        coeffs: lent_coeffs,
-        delay: lent_delay,
-    };
+    let state = int(*m, *coeffs, *delay);
     let done = state.process_sample(x);
     let next = done.state;
-    let next_coeffs = next.coeffs;
-    let next_delay = next.delay;
-    *m = next.m;
-    *coeffs = next_coeffs;
-    *delay = next_delay;
+    put_int(next, m, coeffs, delay);
     let out = done.out;
     *even = both_even(out);
     *odd = both_odd(out);
@@ -107,20 +85,10 @@ pub extern "C" fn gauge_raw_hbf_int_process(
         record { number = n; value = now (written .exit); state = after } ≡ intBlock before (now (src .entry)) (length (now (dst .entry)))) ⌝ }
     ensures span { λ n. ⌜ now (dst .exit) ≡ intSpan (intAt entry m coeffs delay) (now (src .entry)) (now (dst .entry)) ⌝ }
 {
-    let lent_coeffs = *coeffs;
-    let lent_delay = *delay;
-    let state = HbfInt {
-        m: *m,
-        coeffs: lent_coeffs,
-        delay: lent_delay,
-    };
+    let state = int(*m, *coeffs, *delay);
     let done = state.process(src, dst);
     let next = done.state;
-    let next_coeffs = next.coeffs;
-    let next_delay = next.delay;
-    *m = next.m;
-    *coeffs = next_coeffs;
-    *delay = next_delay;
+    put_int(next, m, coeffs, delay);
     let answer = done.answer;
     *written = count_written(answer);
     count_number(answer)

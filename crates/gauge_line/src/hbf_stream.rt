@@ -8,6 +8,8 @@ use crate::answers::opening_number;
 use crate::answers::stream_made;
 use crate::answers::stream_number;
 use crate::answers::stream_value;
+use crate::states::put_stream;
+use crate::states::stream;
 use half_band::HbfStream;
 
 #[no_mangle]
@@ -23,13 +25,7 @@ pub extern "C" fn gauge_raw_hbf_stream_new(
 {
     let opened = HbfStream::new(wanted_depth);
     let next = opened.state;
-    let next_delays = next.delays;
-    let next_held = next.held;
-    let next_counts = next.counts;
-    *depth = next.depth;
-    *delays = next_delays;
-    *held = next_held;
-    *counts = next_counts;
+    put_stream(next, depth, delays, held, counts);
     let answer = opened.answer;
     opening_number(answer)
 }
@@ -43,24 +39,10 @@ pub extern "C" fn gauge_raw_hbf_stream_reset(
 ) -> usize
     ensures answer { λ n. ⌜ record { number = n; state = streamAt exit depth delays held counts } ≡ streamReset (streamAt entry depth delays held counts) ⌝ }
 {
-    let lent_delays = *delays;
-    let lent_held = *held;
-    let lent_counts = *counts;
-    let state = HbfStream {
-        depth: *depth,
-        delays: lent_delays,
-        held: lent_held,
-        counts: lent_counts,
-    };
+    let state = stream(*depth, *delays, *held, *counts);
     let opened = state.reset();
     let next = opened.state;
-    let next_delays = next.delays;
-    let next_held = next.held;
-    let next_counts = next.counts;
-    *depth = next.depth;
-    *delays = next_delays;
-    *held = next_held;
-    *counts = next_counts;
+    put_stream(next, depth, delays, held, counts);
     let answer = opened.answer;
     opening_number(answer)
 }
@@ -80,24 +62,10 @@ pub extern "C" fn gauge_raw_hbf_stream_process_sample(
         let after = streamAt exit depth delays held counts in
         record { number = n; value = (now (made .exit), now (value .exit)); state = after } ≡ crossed zero32 (streamStep before x)) ⌝ }
 {
-    let lent_delays = *delays;
-    let lent_held = *held;
-    let lent_counts = *counts;
-    let state = HbfStream {
-        depth: *depth,
-        delays: lent_delays,
-        held: lent_held,
-        counts: lent_counts,
-    };
+    let state = stream(*depth, *delays, *held, *counts);
     let done = state.process_sample(x);
     let next = done.state;
-    let next_delays = next.delays;
-    let next_held = next.held;
-    let next_counts = next.counts;
-    *depth = next.depth;
-    *delays = next_delays;
-    *held = next_held;
-    *counts = next_counts;
+    put_stream(next, depth, delays, held, counts);
     let out = done.out;
     *made = stream_made(out);
     *value = stream_value(out);

@@ -6,6 +6,8 @@ ghost use Rattle.gauge_line.specs.States.{entry, exit, resamplerAt};
 use crate::answers::count_number;
 use crate::answers::count_written;
 use crate::answers::opening_number;
+use crate::states::put_resampler;
+use crate::states::resampler;
 use float::PolyphaseResampF32;
 use float::polyphase_resamp::block_at;
 use float::polyphase_resamp::push_at;
@@ -37,14 +39,7 @@ pub extern "C" fn gauge_raw_polyphase_resamp_from_taps(
         wanted_step,
     );
     let next = opened.state;
-    let next_delay = next.delay;
-    let next_prototype = next.prototype;
-    *phases = next.phases;
-    *taps = next.taps;
-    *mu = next.mu;
-    *step = next.step;
-    *delay = next_delay;
-    *prototype = next_prototype;
+    put_resampler(next, phases, taps, mu, step, delay, prototype);
     let answer = opened.answer;
     opening_number(answer)
 }
@@ -67,26 +62,10 @@ pub extern "C" fn gauge_raw_polyphase_resamp_reset(
         let after = resamplerAt exit phases taps mu step delay prototype in
         W.Resets before (record { number = n; state = after })) ⌝ }
 {
-    let lent_delay = *delay;
-    let lent_prototype = *prototype;
-    let state = PolyphaseResampF32 {
-        phases: *phases,
-        taps: *taps,
-        mu: *mu,
-        step: *step,
-        delay: lent_delay,
-        prototype: lent_prototype,
-    };
+    let state = resampler(*phases, *taps, *mu, *step, *delay, *prototype);
     let opened = state.reset();
     let next = opened.state;
-    let next_delay = next.delay;
-    let next_prototype = next.prototype;
-    *phases = next.phases;
-    *taps = next.taps;
-    *mu = next.mu;
-    *step = next.step;
-    *delay = next_delay;
-    *prototype = next_prototype;
+    put_resampler(next, phases, taps, mu, step, delay, prototype);
     let answer = opened.answer;
     opening_number(answer)
 }
