@@ -17,7 +17,7 @@ archive = target/staticlib/libgauge_line.a
 # The archive's crates, as crates.txt has them.
 proved := gauge_line $(shell sed -n 's/^gauge_line: //p' crates.txt)
 # Folders too: a file that is gone has no date of its own.
-sources := $(shell find $(proved:%=crates/%) -not -path '*/must-fail*')
+sources := $(shell find $(proved:%=crates/%) -not -path '*/must-fail*' -not -path '*/edits*')
 
 all:
 	@host/build.sh
