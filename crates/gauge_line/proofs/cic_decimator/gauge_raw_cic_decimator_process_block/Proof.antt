@@ -22,8 +22,8 @@ same-length c = search needs
 returns : tie.Need-returns
 returns c = rw (c .counts-number .ensures, c .before .counts-written .ensures, c .before .before .counts-taken .ensures) (c .before .before .before .before .block-at .ensures .0, c .before .before .before .before .block-at .ensures .1)
 
-pub gauge-cic-decimator-process-block-spec : {M : Type 1} → statement M
-gauge-cic-decimator-process-block-spec =
+pub gauge-raw-cic-decimator-process-block-spec : {M : Type 1} → statement M
+gauge-raw-cic-decimator-process-block-spec =
     tie.close
     (tie.spec
     block-at-requires

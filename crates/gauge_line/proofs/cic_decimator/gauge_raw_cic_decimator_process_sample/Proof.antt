@@ -28,8 +28,8 @@ returns c =
     let f : SFits w32 (c .before .sum-value .result) = record { sfits = c .before .sum-value .ok } in
     rw (toZ-ofZ f, c .sum-number .ensures, c .before .sum-value .ensures, c .before .before .sum-made .ensures) (ap (crossed (pos 0)) (rw (toZ-ofZ (c .before .before .before .before .before .before .before .before .before .before .before .before .fits .input)) at (c .before .before .before .before .before .before .process-sample .ensures)))
 
-pub gauge-cic-decimator-process-sample-spec : {M : Type 1} → statement M
-gauge-cic-decimator-process-sample-spec =
+pub gauge-raw-cic-decimator-process-sample-spec : {M : Type 1} → statement M
+gauge-raw-cic-decimator-process-sample-spec =
     tie.close
     (tie.spec
     process-sample-requires

@@ -16,6 +16,6 @@ gain-number-requires c κs = search needs
 returns : tie.Need-returns
 returns c = rw (c .gain-number .ensures, c .before .gain-value .ensures) (c .before .before .gain .ensures)
 
-pub gauge-cic-interpolator-gain-spec : {M : Type 1} → statement M
-gauge-cic-interpolator-gain-spec =
+pub gauge-raw-cic-interpolator-gain-spec : {M : Type 1} → statement M
+gauge-raw-cic-interpolator-gain-spec =
     tie.close (tie.spec gain-requires gain-value-requires gain-number-requires returns)

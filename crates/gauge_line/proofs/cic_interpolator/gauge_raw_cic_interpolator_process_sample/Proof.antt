@@ -24,8 +24,8 @@ returns c =
     let x = toZ-ofZ (c .before .before .before .before .before .before .before .before .before .fits .input) in
     rw (c .count-number .ensures, c .before .count-written .ensures) (rw x at (c .before .before .before .sample-at .ensures .0), rw x at (c .before .before .before .sample-at .ensures .1))
 
-pub gauge-cic-interpolator-process-sample-spec : {M : Type 1} → statement M
-gauge-cic-interpolator-process-sample-spec =
+pub gauge-raw-cic-interpolator-process-sample-spec : {M : Type 1} → statement M
+gauge-raw-cic-interpolator-process-sample-spec =
     tie.close
     (tie.spec
     sample-at-requires

@@ -28,8 +28,8 @@ returns c =
     let f : SFits w16 (c .before .fir-value .result) = record { sfits = c .before .fir-value .ok } in
     rw (toZ-ofZ f, c .fir-number .ensures, c .before .fir-value .ensures, c .before .before .fir-made .ensures) (ap (crossed (pos 0)) (rw (toZ-ofZ (c .before .before .before .before .before .before .before .before .before .before .before .before .fits .sample)) at (c .before .before .before .before .before .before .process-sample .ensures)))
 
-pub gauge-fir-decimator-process-sample-spec : {M : Type 1} → statement M
-gauge-fir-decimator-process-sample-spec =
+pub gauge-raw-fir-decimator-process-sample-spec : {M : Type 1} → statement M
+gauge-raw-fir-decimator-process-sample-spec =
     tie.close
     (tie.spec
     process-sample-requires

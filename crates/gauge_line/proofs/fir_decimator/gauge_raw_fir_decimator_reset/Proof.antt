@@ -13,6 +13,6 @@ opening-number-requires c κs = search needs
 returns : tie.Need-returns
 returns c = rw (c .opening-number .ensures) (c .before .before .before .before .reset .ensures)
 
-pub gauge-fir-decimator-reset-spec : {M : Type 1} → statement M
-gauge-fir-decimator-reset-spec =
+pub gauge-raw-fir-decimator-reset-spec : {M : Type 1} → statement M
+gauge-raw-fir-decimator-reset-spec =
     tie.close (tie.spec reset-requires opening-number-requires returns)

@@ -22,8 +22,8 @@ same-length c = search needs
 returns : tie.Need-returns
 returns c = rw (c .counts-number .ensures, c .before .counts-written .ensures, c .before .before .counts-taken .ensures) (c .before .before .before .before .before .before .feed-lent .ensures)
 
-pub gauge-line-feed-spec : {M : Type 1} → statement M
-gauge-line-feed-spec =
+pub gauge-raw-line-feed-spec : {M : Type 1} → statement M
+gauge-raw-line-feed-spec =
     tie.close
     (tie.spec
     feed-lent-requires

@@ -13,5 +13,5 @@ opening-number-requires c κs = search needs
 returns : tie.Need-returns
 returns c = rw (c .opening-number .ensures) (c .before .before .before .before .before .before .before .before .before .before .before .before .before .before .before .«open» .ensures)
 
-pub gauge-line-open-spec : {M : Type 1} → statement M
-gauge-line-open-spec = tie.close (tie.spec open-requires opening-number-requires returns)
+pub gauge-raw-line-open-spec : {M : Type 1} → statement M
+gauge-raw-line-open-spec = tie.close (tie.spec open-requires opening-number-requires returns)

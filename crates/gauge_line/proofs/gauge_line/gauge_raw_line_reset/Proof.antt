@@ -13,5 +13,5 @@ opening-number-requires c κs = search needs
 returns : tie.Need-returns
 returns c = rw (c .opening-number .ensures) (c .before .before .before .before .before .before .before .before .before .before .before .before .before .before .before .reset .ensures)
 
-pub gauge-line-reset-spec : {M : Type 1} → statement M
-gauge-line-reset-spec = tie.close (tie.spec reset-requires opening-number-requires returns)
+pub gauge-raw-line-reset-spec : {M : Type 1} → statement M
+gauge-raw-line-reset-spec = tie.close (tie.spec reset-requires opening-number-requires returns)

@@ -17,6 +17,6 @@ pair-number-requires c κs = search needs
 returns : tie.Need-returns
 returns c = rw (c .pair-number .ensures, c .before .pair-value .ensures) (pair-told (c .before .before .before .before .before .process-pair .result .out) (c .before .before .before .before .before .process-pair .result .state) ∙ c .before .before .before .before .before .process-pair .ensures)
 
-pub gauge-hbf-dec-process-pair-spec : {M : Type 1} → statement M
-gauge-hbf-dec-process-pair-spec =
+pub gauge-raw-hbf-dec-process-pair-spec : {M : Type 1} → statement M
+gauge-raw-hbf-dec-process-pair-spec =
     tie.close (tie.spec process-pair-requires pair-value-requires pair-number-requires returns)

@@ -13,6 +13,6 @@ opening-number-requires c κs = search needs
 returns : tie.Need-returns
 returns c = rw (c .opening-number .ensures) (c .before .before .before .reset .ensures)
 
-pub gauge-hbf-dec-cascade-reset-spec : {M : Type 1} → statement M
-gauge-hbf-dec-cascade-reset-spec =
+pub gauge-raw-hbf-dec-cascade-reset-spec : {M : Type 1} → statement M
+gauge-raw-hbf-dec-cascade-reset-spec =
     tie.close (tie.spec reset-requires opening-number-requires returns)

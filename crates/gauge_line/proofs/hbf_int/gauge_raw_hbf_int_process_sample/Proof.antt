@@ -20,8 +20,8 @@ both-number-requires c κs = search needs
 returns : tie.Need-returns
 returns c = rw (c .both-number .ensures, c .before .both-odd .ensures, c .before .before .both-even .ensures) (both-told (c .before .before .before .before .before .before .process-sample .result .out) (c .before .before .before .before .before .before .process-sample .result .state) ∙ c .before .before .before .before .before .before .process-sample .ensures)
 
-pub gauge-hbf-int-process-sample-spec : {M : Type 1} → statement M
-gauge-hbf-int-process-sample-spec =
+pub gauge-raw-hbf-int-process-sample-spec : {M : Type 1} → statement M
+gauge-raw-hbf-int-process-sample-spec =
     tie.close
     (tie.spec
     process-sample-requires

@@ -13,6 +13,6 @@ opening-number-requires c κs = search needs
 returns : tie.Need-returns
 returns c = rw (c .opening-number .ensures) (c .before .before .before .reset .ensures)
 
-pub gauge-hbf-int-cascade-reset-spec : {M : Type 1} → statement M
-gauge-hbf-int-cascade-reset-spec =
+pub gauge-raw-hbf-int-cascade-reset-spec : {M : Type 1} → statement M
+gauge-raw-hbf-int-cascade-reset-spec =
     tie.close (tie.spec reset-requires opening-number-requires returns)

@@ -22,8 +22,8 @@ stream-number-requires c κs = search needs
 returns : tie.Need-returns
 returns c = rw (c .stream-number .ensures, c .before .stream-value .ensures, c .before .before .stream-made .ensures) (ap (crossed zero32) (stream-told (c .before .before .before .before .before .before .before .process-sample .result .out) (c .before .before .before .before .before .before .before .process-sample .result .state) ∙ c .before .before .before .before .before .before .before .process-sample .ensures))
 
-pub gauge-hbf-stream-process-sample-spec : {M : Type 1} → statement M
-gauge-hbf-stream-process-sample-spec =
+pub gauge-raw-hbf-stream-process-sample-spec : {M : Type 1} → statement M
+gauge-raw-hbf-stream-process-sample-spec =
     tie.close
     (tie.spec
     process-sample-requires

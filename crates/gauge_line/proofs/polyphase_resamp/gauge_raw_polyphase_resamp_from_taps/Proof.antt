@@ -15,6 +15,6 @@ opening-number-requires c κs = search needs
 returns : tie.Need-returns
 returns c = rw (c .opening-number .ensures) (c .before .before .before .before .from-taps .ensures .0)
 
-pub gauge-polyphase-resamp-from-taps-spec : {M : Type 1} → statement M
-gauge-polyphase-resamp-from-taps-spec =
+pub gauge-raw-polyphase-resamp-from-taps-spec : {M : Type 1} → statement M
+gauge-raw-polyphase-resamp-from-taps-spec =
     tie.close (tie.spec from-taps-requires opening-number-requires returns)

@@ -21,8 +21,8 @@ same-length c = search needs
 returns : tie.Need-returns
 returns c = let e = c .before .before .before .before .block-at .ensures in rw (c .count-number .ensures, c .before .count-written .ensures) (e .0, e .1)
 
-pub gauge-polyphase-resamp-process-block-spec : {M : Type 1} → statement M
-gauge-polyphase-resamp-process-block-spec =
+pub gauge-raw-polyphase-resamp-process-block-spec : {M : Type 1} → statement M
+gauge-raw-polyphase-resamp-process-block-spec =
     tie.close
     (tie.spec
     block-at-requires

@@ -19,7 +19,7 @@ same-length c = search needs
 returns : tie.Need-returns
 returns c = let e = c .before .before .before .before .push-at .ensures in rw (c .count-number .ensures, c .before .count-written .ensures) (e .0, e .1)
 
-pub gauge-polyphase-resamp-push-spec : {M : Type 1} → statement M
-gauge-polyphase-resamp-push-spec =
+pub gauge-raw-polyphase-resamp-push-spec : {M : Type 1} → statement M
+gauge-raw-polyphase-resamp-push-spec =
     tie.close
     (tie.spec push-at-requires count-written-requires count-number-requires same-length returns)

@@ -13,6 +13,6 @@ opening-number-requires c κs = search needs
 returns : tie.Need-returns
 returns c = rw (c .opening-number .ensures) (c .before .before .before .before .reset .ensures .0)
 
-pub gauge-polyphase-resamp-reset-spec : {M : Type 1} → statement M
-gauge-polyphase-resamp-reset-spec =
+pub gauge-raw-polyphase-resamp-reset-spec : {M : Type 1} → statement M
+gauge-raw-polyphase-resamp-reset-spec =
     tie.close (tie.spec reset-requires opening-number-requires returns)

@@ -19,8 +19,8 @@ same-length c = search needs
 returns : tie.Need-returns
 returns c = rw (c .count-number .ensures, c .before .count-written .ensures) (c .before .before .before .before .resample-linear-f32 .ensures .0, c .before .before .before .before .resample-linear-f32 .ensures .1)
 
-pub gauge-resample-linear-f32-spec : {M : Type 1} → statement M
-gauge-resample-linear-f32-spec =
+pub gauge-raw-resample-linear-f32-spec : {M : Type 1} → statement M
+gauge-raw-resample-linear-f32-spec =
     tie.close
     (tie.spec
     resample-linear-f32-requires

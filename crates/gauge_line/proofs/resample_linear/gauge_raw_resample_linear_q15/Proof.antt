@@ -20,8 +20,8 @@ same-length c = search needs
 returns : tie.Need-returns
 returns c = rw (c .count-number .ensures, c .before .count-written .ensures) (rw (toZ-ofZ (c .before .before .before .before .before .fits .ratio-q16)) at (c .before .before .before .resample-linear-q15 .ensures .0), rw (toZ-ofZ (c .before .before .before .before .before .fits .ratio-q16)) at (c .before .before .before .resample-linear-q15 .ensures .1))
 
-pub gauge-resample-linear-q15-spec : {M : Type 1} → statement M
-gauge-resample-linear-q15-spec =
+pub gauge-raw-resample-linear-q15-spec : {M : Type 1} → statement M
+gauge-raw-resample-linear-q15-spec =
     tie.close
     (tie.spec
     resample-linear-q15-requires

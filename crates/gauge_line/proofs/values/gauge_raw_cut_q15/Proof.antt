@@ -16,5 +16,5 @@ returns c =
     let f : SFits w16 (c .before .cut-q15 .result .0) = record { sfits = omega arith } in
     rw (toZ-ofZ f) (rw (toZ-ofZ (c .before .before .fits .sum)) at (c .before .cut-q15 .ensures))
 
-pub gauge-cut-q15-spec : {M : Type 1} → statement M
-gauge-cut-q15-spec = tie.close (tie.spec cut-q15-requires returns)
+pub gauge-raw-cut-q15-spec : {M : Type 1} → statement M
+gauge-raw-cut-q15-spec = tie.close (tie.spec cut-q15-requires returns)
