@@ -7,6 +7,18 @@ use std::path::{Path, PathBuf};
 /// The places of a crate's edits.
 const EDITS: [&str; 2] = ["must-fail", "edits"];
 
+/// The crates whose functions callers see; the others are programs.
+const LAYERS: [&str; 8] = [
+    "refusal",
+    "integer",
+    "q15",
+    "float",
+    "half_band",
+    "line",
+    "client",
+    "gauge_line",
+];
+
 /// Words of the contract column that are no clause.
 const KEYWORDS: [&str; 3] = ["requires", "ensures", "mut self"];
 
@@ -141,11 +153,18 @@ fn function_name(line: &str) -> Option<&str> {
     behind.split(['(', '<']).next()
 }
 
+/// Whether a line begins a function's body: by itself, or behind a head that has no contract.
+fn begins_body(line: &str) -> bool {
+    let line = line.trim();
+    let bare = !line.starts_with("ensures") && !line.starts_with("requires");
+    line == "{"
+        || line == "{}"
+        || bare && (line.ends_with(") {") || line.contains(" -> ") && line.ends_with(" {"))
+}
+
 /// From a function's first line to the line that begins its body.
 fn head(lines: &[&str]) -> String {
-    let end = lines
-        .iter()
-        .position(|line| line.trim() == "{" || line.ends_with(['{', '}']) && !line.contains('⌝'));
+    let end = lines.iter().position(|line| begins_body(line));
     lines[..=end.unwrap_or(lines.len() - 1)].join("\n")
 }
 
@@ -452,6 +471,24 @@ fn every_edit_and_every_code_is_in_a_row() {
         missing.is_empty(),
         "codes in no row of docs/TRACE.md: {missing:?}"
     );
+}
+
+/// Points 1 and 4, which no name of the table can hold.
+#[test]
+fn every_public_function_has_a_contract_and_asks_for_nothing() {
+    for layer in LAYERS {
+        let all = functions(&top(), layer).expect("the sources are read");
+        let mut public = all
+            .iter()
+            .filter(|f| f.head.trim_start().starts_with("pub "));
+        assert!(public.clone().count() > 0, "{layer} has no public function");
+        let wrong = public.find(|f| !f.head.contains("ensures") || f.head.contains("requires"));
+        assert!(
+            wrong.is_none(),
+            "{layer}: {}",
+            wrong.map_or("", |f| &f.head)
+        );
+    }
 }
 
 /// A row of which one cell is given.
