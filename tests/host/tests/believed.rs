@@ -7,8 +7,11 @@ use std::path::{Path, PathBuf};
 /// The line's public calls, whose contracts the closure begins with.
 const CALLS: [&str; 5] = ["open", "step", "feed", "reset", "next_piece"];
 
+/// The top of the repository. Asked when the test runs: a copy of the tree may come with the binary
+/// of another.
 fn top() -> PathBuf {
-    Path::new(env!("CARGO_MANIFEST_DIR")).join("../..")
+    let own = std::env::var("CARGO_MANIFEST_DIR").expect("cargo runs the tests");
+    Path::new(&own).join("../..")
 }
 
 fn read(path: &Path) -> String {

@@ -6,8 +6,11 @@ use std::path::Path;
 /// "About 5 KB": what is longer belongs on a page of its own.
 const MOST_BYTES: usize = 6000;
 
+/// A file, from the top of the repository. That is asked when the test runs: a copy of the tree may
+/// come with the binary of another.
 fn read(path: &str) -> String {
-    let top = Path::new(env!("CARGO_MANIFEST_DIR")).join("../..");
+    let own = std::env::var("CARGO_MANIFEST_DIR").expect("cargo runs the tests");
+    let top = Path::new(&own).join("../..");
     fs::read_to_string(top.join(path)).unwrap_or_else(|why| panic!("{path}: {why}"))
 }
 

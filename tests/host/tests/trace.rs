@@ -22,8 +22,11 @@ const LAYERS: [&str; 8] = [
 /// Words of the contract column that are no clause.
 const KEYWORDS: [&str; 3] = ["requires", "ensures", "mut self"];
 
+/// The top of the repository. Asked when the test runs: a copy of the tree may come with the binary
+/// of another.
 fn top() -> PathBuf {
-    Path::new(env!("CARGO_MANIFEST_DIR")).join("../..")
+    let own = std::env::var("CARGO_MANIFEST_DIR").expect("cargo runs the tests");
+    Path::new(&own).join("../..")
 }
 
 fn read(path: &Path) -> Result<String, String> {
