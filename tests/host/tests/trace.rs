@@ -7,6 +7,9 @@ use std::path::{Path, PathBuf};
 /// The places of a crate's edits.
 const EDITS: [&str; 2] = ["must-fail", "edits"];
 
+/// The most edits of must-fail/, over all crates.
+const MOST_MUST_FAIL: usize = 90;
+
 /// The crates whose functions callers see; the others are programs.
 const LAYERS: [&str; 8] = [
     "refusal",
@@ -473,6 +476,21 @@ fn every_edit_and_every_code_is_in_a_row() {
     assert!(
         missing.is_empty(),
         "codes in no row of docs/TRACE.md: {missing:?}"
+    );
+}
+
+/// Each edit of must-fail/ proves its crate from nothing: CONTRIBUTING.md keeps them few.
+#[test]
+fn few_edits_prove_their_crate_from_nothing() {
+    let places = crates(&top())
+        .into_iter()
+        .map(|layer| format!("crates/{layer}/must-fail"));
+    let count = places
+        .flat_map(|place| files(&top().join(place), "edit"))
+        .count();
+    assert!(
+        count <= MOST_MUST_FAIL,
+        "{count} edits in must-fail/, at most {MOST_MUST_FAIL}"
     );
 }
 
