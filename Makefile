@@ -20,6 +20,7 @@ all: ## 10 min, then 1 s | the proved archive and the tools, and where they are;
 
 help: ## at once | this list
 	@sed -n 's/^\([a-z-]*\):.*## \(.*\) | \(.*\)/\1|\2|\3/p' Makefile | awk -F '|' '{ printf "make %-20s %-18s %s\n", $$1 == "all" ? "" : $$1, $$2, $$3 }'
+	@echo "On two cores, with the archive made. TARGET=DIR builds in another folder than target/; GAUGE_ARCHIVE=FILE links another archive."
 
 run: ## 5 s | the bundled recording through the bundled settings, beside a line whose integrator holds
 	@examples/demo/run.sh
@@ -33,23 +34,23 @@ readings: ## 1 min, then 1 s | 01's readings through the proved converters, prin
 review: ## 2 min | for a reviewer: what the archive is made of, the readings, and three edits that the prover refuses
 	@host/review.sh
 
-host: ## 4 min | the interfaces for C and Rust, the tool, the demo and the pages, checked and run
+host: ## 2 min | the interfaces for C and Rust, the tool, the demo and the pages, checked and run
 	@tests/host/run.sh
 
-compare: ## 10 min | the archive and the Rust compared over 10^9 samples; SEED=7 gives another seed
+compare: ## 2 min | the archive and the Rust compared over 10^9 samples; SEED=7 gives another seed
 	@tests/oracle/build.sh
 	@"$(TARGET)/oracle/oracle" compare --seed $(SEED) --cases 1000000 --samples 1000000000
 
-bench: ## 2 min | what a sample costs here and in the Rust; BENCH="--rounds 100" gives other options
+bench: ## 30 s | what a sample costs here and in the Rust; BENCH="--rounds 100" gives other options
 	@bench/run.sh $(BENCH)
 
-bench-instructions: ## 5 min | the same in instructions, by valgrind
+bench-instructions: ## 2 min | the same in instructions, by valgrind
 	@bench/run.sh --callgrind $(BENCH)
 
-targets: ## 1 min | the proved module on other machines, its outputs compared with those on x86-64; MACHINES="wasm32" names some
+targets: ## 30 s | the proved module on other machines, its outputs compared with those on x86-64; MACHINES="wasm32" names some
 	@targets/run.sh $(MACHINES)
 
-firmware: ## 2 s | the archive for Cortex-M4F, with a table of its code and stack, in target/firmware
+firmware: ## 3 s | the archive for Cortex-M4F, with a table of its code and stack, in target/firmware
 	@targets/firmware.sh
 
 install: ## 5 s | archive, headers, tool, pkg-config and CMake files below PREFIX, /usr/local unless it is given; DESTDIR is put before it

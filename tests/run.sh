@@ -14,11 +14,7 @@ trap 'rm -f "$log" "$GAUGE_SKIPPED"' EXIT
 host/kit.sh 2> >(tee -a "$GAUGE_SKIPPED" >&2)
 tests/quick.sh
 rt ci 2>&1 | tee "$log"
-if [[ -f tests/edits ]]; then
-    tests/edits
-else
-    skip "crates/*/edits" "no tests/edits"
-fi
+tests/edits
 
 # Always the archive of what was just proved.
 unset GAUGE_ARCHIVE

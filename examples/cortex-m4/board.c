@@ -14,8 +14,10 @@ typedef struct {
 #define SYSTICK_CONTROL ((volatile uint32_t *)0xe000e010)
 #define SYSTICK_RELOAD ((volatile uint32_t *)0xe000e014)
 #define SYSTICK_VALUE ((volatile uint32_t *)0xe000e018)
-// Of the processor's clock, between two halves.
+// Of the processor's clock, between two halves; the run makes one firmware with too few.
+#ifndef PERIOD
 #define PERIOD 25000
+#endif
 #define SYS_WRITE0 0x04
 #define SYS_EXIT_EXTENDED 0x20
 #define STOPPED 0x20026

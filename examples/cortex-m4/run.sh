@@ -45,6 +45,14 @@ under_qemu() {
     same "under QEMU" "$out/firmware.txt"
 }
 
+# With too little time between two halves the firmware says so, and fails.
+overrun() {
+    linked late "$here/main.c" -DPERIOD=60
+    ! cortex_m4_run "$out/late" -icount shift=0 >"$out/late.txt" || stop "cortex-m4: the firmware does not fail where halves overrun"
+    grep -q '^not refused, [1-9][0-9]* halves overrun$' "$out/late.txt" || stop "cortex-m4: the firmware does not say how many halves overran"
+    echo "cortex-m4: the firmware sees halves that overrun"
+}
+
 costs() {
     local name row
     printf '| program | instructions a sample | bytes of code kept |\n|---|---|---|\n'
@@ -66,4 +74,5 @@ if [[ -n $missing ]]; then
     exit
 fi
 under_qemu
+overrun
 costs | tee "$out/costs.md"

@@ -2,10 +2,12 @@
 ghost use mathlib.Core.Path.{_≡_};
 ghost use lib.IntN.{pos};
 ghost use lib.ListN.{length};
+ghost use Rattle.refusal.specs.Outcome.{Moved};
 ghost use Rattle.integer.specs.Opening.{opening, onState};
-ghost use Rattle.integer.specs.Gain.{gainOf, gainBits};
+ghost use Rattle.integer.specs.Gain.{gainOf, gainBits, Least};
 ghost use Rattle.integer.specs.CicDecimator as D;
 ghost use Rattle.gauge_line.specs.Crossing.{crossed};
+ghost use Rattle.gauge_line.specs.States.{entry, exit, decimatorAt};
 use crate::answers::bits_number;
 use crate::answers::bits_value;
 use crate::answers::counts_number;
@@ -17,6 +19,8 @@ use crate::answers::opening_number;
 use crate::answers::sum_made;
 use crate::answers::sum_number;
 use crate::answers::sum_value;
+use crate::states::decimator;
+use crate::states::put_decimator;
 use integer::CicDecimator;
 use integer::cic_decimator::block_at;
 
@@ -30,17 +34,12 @@ pub extern "C" fn gauge_raw_cic_decimator_new(
     combs: &mut [i32; 8],
     sample_counter: &mut usize,
 ) -> usize
-    ensures { λ n. ⌜ record { number = n; state = D.decimatorOf (now (stages .exit)) (now (r .exit)) (now (integrators .exit)) (now (combs .exit)) (now («sample_counter» .exit)) } ≡ opening D.fresh «wanted_stages» «wanted_r» ⌝ }
+    ensures answer { λ n. ⌜ record { number = n; state = decimatorAt exit stages r integrators combs «sample_counter» } ≡ opening D.fresh «wanted_stages» «wanted_r» ⌝ }
+    ensures stream { λ n. ⌜ (n ≡ 0 → D.Streams «wanted_stages» «wanted_r» (decimatorAt exit stages r integrators combs «sample_counter»)) ⌝ }
 {
     let opened = CicDecimator::new(wanted_stages, wanted_r);
     let next = opened.state;
-    let next_integrators = next.integrator_state;
-    let next_combs = next.comb_state;
-    *stages = next.stages;
-    *r = next.r;
-    *integrators = next_integrators;
-    *combs = next_combs;
-    *sample_counter = next.sample_counter;
+    put_decimator(next, stages, r, integrators, combs, sample_counter);
     let answer = opened.answer;
     opening_number(answer)
 }
@@ -54,17 +53,9 @@ pub extern "C" fn gauge_raw_cic_decimator_gain(
     sample_counter: usize,
     gain: &mut u64,
 ) -> usize
-    ensures { λ n. ⌜ record { number = n; value = now (gain .exit) } ≡ onState (D.validAt stages r «sample_counter») (gainOf stages r) ⌝ }
+    ensures answer { λ n. ⌜ record { number = n; value = now (gain .exit) } ≡ onState (D.validAt stages r «sample_counter») (gainOf stages r) ⌝ }
 {
-    let lent_integrators = *integrators;
-    let lent_combs = *combs;
-    let state = CicDecimator {
-        stages,
-        r,
-        integrator_state: lent_integrators,
-        comb_state: lent_combs,
-        sample_counter,
-    };
+    let state = decimator(stages, r, *integrators, *combs, sample_counter);
     let answer = state.gain();
     *gain = gain_value(answer);
     gain_number(answer)
@@ -79,17 +70,10 @@ pub extern "C" fn gauge_raw_cic_decimator_gain_bits(
     sample_counter: usize,
     bits: &mut u32,
 ) -> usize
-    ensures { λ n. ⌜ record { number = n; value = now (bits .exit) } ≡ onState (D.validAt stages r «sample_counter») (gainBits stages r) ⌝ }
+    ensures answer { λ n. ⌜ record { number = n; value = now (bits .exit) } ≡ onState (D.validAt stages r «sample_counter») (gainBits stages r) ⌝ }
+    ensures least { λ n. ⌜ (n ≡ 0 → Least (gainOf stages r) (now (bits .exit))) ⌝ }
 {
-    let lent_integrators = *integrators;
-    let lent_combs = *combs;
-    let state = CicDecimator {
-        stages,
-        r,
-        integrator_state: lent_integrators,
-        comb_state: lent_combs,
-        sample_counter,
-    };
+    let state = decimator(stages, r, *integrators, *combs, sample_counter);
     let answer = state.gain_bits();
     *bits = bits_value(answer);
     bits_number(answer)
@@ -106,26 +90,15 @@ pub extern "C" fn gauge_raw_cic_decimator_process_sample(
     made: &mut usize,
     sum: &mut i32,
 ) -> usize
-    ensures { λ n. ⌜ record { number = n; value = (now (made .exit), now (sum .exit)); state = D.decimatorOf (now (stages .exit)) (now (r .exit)) (now (integrators .exit)) (now (combs .exit)) (now («sample_counter» .exit)) } ≡ crossed (pos 0) (D.step (D.decimatorOf (now (stages .entry)) (now (r .entry)) (now (integrators .entry)) (now (combs .entry)) (now («sample_counter» .entry))) input) ⌝ }
+    ensures answer { λ n. ⌜ (
+        let before = decimatorAt entry stages r integrators combs «sample_counter» in
+        let after = decimatorAt exit stages r integrators combs «sample_counter» in
+        record { number = n; value = (now (made .exit), now (sum .exit)); state = after } ≡ crossed (pos 0) (D.step before input)) ⌝ }
 {
-    let lent_integrators = *integrators;
-    let lent_combs = *combs;
-    let state = CicDecimator {
-        stages: *stages,
-        r: *r,
-        integrator_state: lent_integrators,
-        comb_state: lent_combs,
-        sample_counter: *sample_counter,
-    };
+    let state = decimator(*stages, *r, *integrators, *combs, *sample_counter);
     let done = state.process_sample(input);
     let next = done.state;
-    let next_integrators = next.integrator_state;
-    let next_combs = next.comb_state;
-    *stages = next.stages;
-    *r = next.r;
-    *integrators = next_integrators;
-    *combs = next_combs;
-    *sample_counter = next.sample_counter;
+    put_decimator(next, stages, r, integrators, combs, sample_counter);
     let output = done.output;
     *made = sum_made(output);
     *sum = sum_value(output);
@@ -143,26 +116,15 @@ pub extern "C" fn gauge_raw_cic_decimator_process_sample_scaled(
     made: &mut usize,
     sum: &mut i32,
 ) -> usize
-    ensures { λ n. ⌜ record { number = n; value = (now (made .exit), now (sum .exit)); state = D.decimatorOf (now (stages .exit)) (now (r .exit)) (now (integrators .exit)) (now (combs .exit)) (now («sample_counter» .exit)) } ≡ crossed (pos 0) (D.scaledStep (D.decimatorOf (now (stages .entry)) (now (r .entry)) (now (integrators .entry)) (now (combs .entry)) (now («sample_counter» .entry))) input) ⌝ }
+    ensures answer { λ n. ⌜ (
+        let before = decimatorAt entry stages r integrators combs «sample_counter» in
+        let after = decimatorAt exit stages r integrators combs «sample_counter» in
+        record { number = n; value = (now (made .exit), now (sum .exit)); state = after } ≡ crossed (pos 0) (D.scaledStep before input)) ⌝ }
 {
-    let lent_integrators = *integrators;
-    let lent_combs = *combs;
-    let state = CicDecimator {
-        stages: *stages,
-        r: *r,
-        integrator_state: lent_integrators,
-        comb_state: lent_combs,
-        sample_counter: *sample_counter,
-    };
+    let state = decimator(*stages, *r, *integrators, *combs, *sample_counter);
     let done = state.process_sample_scaled(input);
     let next = done.state;
-    let next_integrators = next.integrator_state;
-    let next_combs = next.comb_state;
-    *stages = next.stages;
-    *r = next.r;
-    *integrators = next_integrators;
-    *combs = next_combs;
-    *sample_counter = next.sample_counter;
+    put_decimator(next, stages, r, integrators, combs, sample_counter);
     let output = done.output;
     *made = sum_made(output);
     *sum = sum_value(output);
@@ -181,8 +143,12 @@ pub extern "C" fn gauge_raw_cic_decimator_process_block(
     taken: &mut usize,
     written: &mut usize,
 ) -> usize
-    ensures answer { λ n. ⌜ record { number = n; value = record { taken = now (taken .exit); written = now (written .exit) }; state = D.decimatorOf (now (stages .exit)) (now (r .exit)) (now (integrators .exit)) (now (combs .exit)) (now («sample_counter» .exit)) } ≡ D.block (D.decimatorOf (now (stages .entry)) (now (r .entry)) (now (integrators .entry)) (now (combs .entry)) (now («sample_counter» .entry))) (now (src .entry)) (length (now (dst .entry))) ⌝ }
-    ensures span { λ n. ⌜ now (dst .exit) ≡ D.blockSpan (D.decimatorOf (now (stages .entry)) (now (r .entry)) (now (integrators .entry)) (now (combs .entry)) (now («sample_counter» .entry))) (now (src .entry)) (now (dst .entry)) ⌝ }
+    ensures answer { λ n. ⌜ (
+        let before = decimatorAt entry stages r integrators combs «sample_counter» in
+        let after = decimatorAt exit stages r integrators combs «sample_counter» in
+        let moved : Moved = record { taken = now (taken .exit); written = now (written .exit) } in
+        record { number = n; value = moved; state = after } ≡ D.block before (now (src .entry)) (length (now (dst .entry)))) ⌝ }
+    ensures span { λ n. ⌜ now (dst .exit) ≡ D.blockSpan (decimatorAt entry stages r integrators combs «sample_counter») (now (src .entry)) (now (dst .entry)) ⌝ }
 {
     let moved = block_at(*stages, *r, *sample_counter, integrators, combs, src, dst);
     *sample_counter = moved.sample_counter;

@@ -1,12 +1,15 @@
 // `FirDecimator`: taps, tap_count, factor, delay, wait.
 ghost use mathlib.Core.Path.{_≡_};
 ghost use lib.IntN.{pos};
-ghost use Rattle.q15.specs.FirDecimator.{firState, firOpened, firReset, firStep};
+ghost use Rattle.q15.specs.FirDecimator.{firOpened, firReset, firStep, Streams};
 ghost use Rattle.gauge_line.specs.Crossing.{crossed};
+ghost use Rattle.gauge_line.specs.States.{entry, exit, firAt};
 use crate::answers::fir_made;
 use crate::answers::fir_number;
 use crate::answers::fir_value;
 use crate::answers::opening_number;
+use crate::states::fir;
+use crate::states::put_fir;
 use q15::FirDecimator;
 use q15::Q15;
 
@@ -20,17 +23,12 @@ pub extern "C" fn gauge_raw_fir_decimator_new(
     delay: &mut [i16; 64],
     wait: &mut usize,
 ) -> usize
-    ensures { λ n. ⌜ record { number = n; state = firState (now (taps .exit)) (now («tap_count» .exit)) (now (factor .exit)) (now (delay .exit)) (now (wait .exit)) } ≡ firOpened (now («wanted_taps» .entry)) «wanted_factor» ⌝ }
+    ensures answer { λ n. ⌜ record { number = n; state = firAt exit taps «tap_count» factor delay wait } ≡ firOpened (now («wanted_taps» .entry)) «wanted_factor» ⌝ }
+    ensures stream { λ n. ⌜ (n ≡ 0 → Streams (now («wanted_taps» .entry)) «wanted_factor» (firAt exit taps «tap_count» factor delay wait)) ⌝ }
 {
     let opened = FirDecimator::new(wanted_taps, wanted_factor);
     let next = opened.state;
-    let next_taps = next.taps;
-    let next_delay = next.delay;
-    *taps = next_taps;
-    *tap_count = next.tap_count;
-    *factor = next.factor;
-    *delay = next_delay;
-    *wait = next.wait;
+    put_fir(next, taps, tap_count, factor, delay, wait);
     let answer = opened.answer;
     opening_number(answer)
 }
@@ -43,26 +41,15 @@ pub extern "C" fn gauge_raw_fir_decimator_reset(
     delay: &mut [i16; 64],
     wait: &mut usize,
 ) -> usize
-    ensures { λ n. ⌜ record { number = n; state = firState (now (taps .exit)) (now («tap_count» .exit)) (now (factor .exit)) (now (delay .exit)) (now (wait .exit)) } ≡ firReset (firState (now (taps .entry)) (now («tap_count» .entry)) (now (factor .entry)) (now (delay .entry)) (now (wait .entry))) ⌝ }
+    ensures answer { λ n. ⌜ (
+        let before = firAt entry taps «tap_count» factor delay wait in
+        let after = firAt exit taps «tap_count» factor delay wait in
+        record { number = n; state = after } ≡ firReset before) ⌝ }
 {
-    let lent_taps = *taps;
-    let lent_delay = *delay;
-    let state = FirDecimator {
-        taps: lent_taps,
-        tap_count: *tap_count,
-        factor: *factor,
-        delay: lent_delay,
-        wait: *wait,
-    };
+    let state = fir(*taps, *tap_count, *factor, *delay, *wait);
     let opened = state.reset();
     let next = opened.state;
-    let next_taps = next.taps;
-    let next_delay = next.delay;
-    *taps = next_taps;
-    *tap_count = next.tap_count;
-    *factor = next.factor;
-    *delay = next_delay;
-    *wait = next.wait;
+    put_fir(next, taps, tap_count, factor, delay, wait);
     let answer = opened.answer;
     opening_number(answer)
 }
@@ -78,26 +65,15 @@ pub extern "C" fn gauge_raw_fir_decimator_process_sample(
     made: &mut usize,
     value: &mut i16,
 ) -> usize
-    ensures { λ n. ⌜ record { number = n; value = (now (made .exit), now (value .exit)); state = firState (now (taps .exit)) (now («tap_count» .exit)) (now (factor .exit)) (now (delay .exit)) (now (wait .exit)) } ≡ crossed (pos 0) (firStep (firState (now (taps .entry)) (now («tap_count» .entry)) (now (factor .entry)) (now (delay .entry)) (now (wait .entry))) sample) ⌝ }
+    ensures answer { λ n. ⌜ (
+        let before = firAt entry taps «tap_count» factor delay wait in
+        let after = firAt exit taps «tap_count» factor delay wait in
+        record { number = n; value = (now (made .exit), now (value .exit)); state = after } ≡ crossed (pos 0) (firStep before sample)) ⌝ }
 {
-    let lent_taps = *taps;
-    let lent_delay = *delay;
-    let state = FirDecimator {
-        taps: lent_taps,
-        tap_count: *tap_count,
-        factor: *factor,
-        delay: lent_delay,
-        wait: *wait,
-    };
+    let state = fir(*taps, *tap_count, *factor, *delay, *wait);
     let done = state.process_sample(Q15(sample));
     let next = done.state;
-    let next_taps = next.taps;
-    let next_delay = next.delay;
-    *taps = next_taps;
-    *tap_count = next.tap_count;
-    *factor = next.factor;
-    *delay = next_delay;
-    *wait = next.wait;
+    put_fir(next, taps, tap_count, factor, delay, wait);
     let output = done.output;
     *made = fir_made(output);
     *value = fir_value(output);

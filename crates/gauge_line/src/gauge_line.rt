@@ -3,10 +3,13 @@ ghost use mathlib.Core.Path.{_≡_};
 ghost use lib.Dec.{ltb};
 ghost use lib.ListN.{length, drop};
 ghost use Rattle.theory.specs.Feeds.{headOf};
+ghost use Rattle.refusal.specs.Outcome.{Moved};
+ghost use Rattle.line.specs.Outputs.{Opening};
 ghost use Rattle.line.specs.Line as L;
-ghost use Rattle.line.specs.Lent.{lineOf};
 ghost use Rattle.line.specs.Demand3.{Demand3};
+ghost use Rattle.line.specs.declared.settings.Settings.{Settings};
 ghost use Rattle.gauge_line.specs.Crossing.{crossedStep};
+ghost use Rattle.gauge_line.specs.States.{entry, exit, lineAt};
 use crate::answers::counts_number;
 use crate::answers::counts_taken;
 use crate::answers::counts_written;
@@ -15,15 +18,19 @@ use crate::answers::step_number;
 use crate::answers::step_taken;
 use crate::answers::step_value;
 use crate::answers::step_written;
-use float::PolyphaseResampF32;
-use half_band::HbfStream;
-use integer::CicDecimator;
+use crate::states::decimator;
+use crate::states::fir;
+use crate::states::put_decimator;
+use crate::states::put_fir;
+use crate::states::put_resampler;
+use crate::states::put_stream;
+use crate::states::resampler;
+use crate::states::stream;
 use line::Line;
 use line::LineNumbers;
 use line::Settings;
 use line::feed_lent;
 use line::step_lent;
-use q15::FirDecimator;
 
 #[no_mangle]
 pub extern "C" fn gauge_raw_line_open(
@@ -57,7 +64,19 @@ pub extern "C" fn gauge_raw_line_open(
     delay: &mut [f32; 16],
     prototype: &mut [f32; 1024],
 ) -> usize
-    ensures { λ n. ⌜ record { number = n; state = lineOf (record { stages = now (stages .exit); r = now (r .exit); «sample_counter» = now («sample_counter» .exit); «tap_count» = now («tap_count» .exit); factor = now (factor .exit); wait = now (wait .exit); depth = now (depth .exit); phases = now (phases .exit); taps = now («phase_taps» .exit); mu = now (mu .exit); step = now (step .exit) }) (now (integrators .exit)) (now (combs .exit)) (now (taps .exit)) (now («fir_delay» .exit)) (now (delays .exit)) (now (held .exit)) (now (counts .exit)) (now (delay .exit)) (now (prototype .exit)) } ≡ L.opened (record { settings = record { stages = «wanted_stages»; r = «wanted_r»; factor = «wanted_factor»; depth = «wanted_depth»; phases = «wanted_phases»; taps = «wanted_phase_taps»; step = «wanted_step» }; taps = now («wanted_taps» .entry); prototype = now («wanted_prototype» .entry) }) ⌝ }
+    ensures answer { λ n. ⌜ (
+        let settings : Settings = record {
+          stages = «wanted_stages»;
+          r = «wanted_r»;
+          factor = «wanted_factor»;
+          depth = «wanted_depth»;
+          phases = «wanted_phases»;
+          taps = «wanted_phase_taps»;
+          step = «wanted_step»;
+        } in
+        let wanted : Opening = record { settings = settings; taps = now («wanted_taps» .entry); prototype = now («wanted_prototype» .entry) } in
+        let after = lineAt exit stages r integrators combs «sample_counter» taps «tap_count» factor «fir_delay» wait depth delays held counts phases «phase_taps» mu step delay prototype in
+        record { number = n; state = after } ≡ L.opened wanted) ⌝ }
 {
     let settings = Settings {
         stages: wanted_stages,
@@ -70,39 +89,18 @@ pub extern "C" fn gauge_raw_line_open(
     };
     let opened = Line::open(settings, wanted_taps, wanted_prototype);
     let next = opened.line;
-    let cic = next.cic;
-    let fir = next.fir;
-    let half_band = next.half_band;
-    let resampler = next.resampler;
-    let next_integrators = cic.integrator_state;
-    let next_combs = cic.comb_state;
-    let next_taps = fir.taps;
-    let next_fir_delay = fir.delay;
-    let next_delays = half_band.delays;
-    let next_held = half_band.held;
-    let next_counts = half_band.counts;
-    let next_delay = resampler.delay;
-    let next_prototype = resampler.prototype;
-    *stages = cic.stages;
-    *r = cic.r;
-    *integrators = next_integrators;
-    *combs = next_combs;
-    *sample_counter = cic.sample_counter;
-    *taps = next_taps;
-    *tap_count = fir.tap_count;
-    *factor = fir.factor;
-    *fir_delay = next_fir_delay;
-    *wait = fir.wait;
-    *depth = half_band.depth;
-    *delays = next_delays;
-    *held = next_held;
-    *counts = next_counts;
-    *phases = resampler.phases;
-    *phase_taps = resampler.taps;
-    *mu = resampler.mu;
-    *step = resampler.step;
-    *delay = next_delay;
-    *prototype = next_prototype;
+    put_decimator(next.cic, stages, r, integrators, combs, sample_counter);
+    put_fir(next.fir, taps, tap_count, factor, fir_delay, wait);
+    put_stream(next.half_band, depth, delays, held, counts);
+    put_resampler(
+        next.resampler,
+        phases,
+        phase_taps,
+        mu,
+        step,
+        delay,
+        prototype,
+    );
     let answer = opened.answer;
     opening_number(answer)
 }
@@ -130,86 +128,31 @@ pub extern "C" fn gauge_raw_line_reset(
     delay: &mut [f32; 16],
     prototype: &mut [f32; 1024],
 ) -> usize
-    ensures { λ n. ⌜ record { number = n; state = lineOf (record { stages = now (stages .exit); r = now (r .exit); «sample_counter» = now («sample_counter» .exit); «tap_count» = now («tap_count» .exit); factor = now (factor .exit); wait = now (wait .exit); depth = now (depth .exit); phases = now (phases .exit); taps = now («phase_taps» .exit); mu = now (mu .exit); step = now (step .exit) }) (now (integrators .exit)) (now (combs .exit)) (now (taps .exit)) (now («fir_delay» .exit)) (now (delays .exit)) (now (held .exit)) (now (counts .exit)) (now (delay .exit)) (now (prototype .exit)) } ≡ L.reset (lineOf (record { stages = now (stages .entry); r = now (r .entry); «sample_counter» = now («sample_counter» .entry); «tap_count» = now («tap_count» .entry); factor = now (factor .entry); wait = now (wait .entry); depth = now (depth .entry); phases = now (phases .entry); taps = now («phase_taps» .entry); mu = now (mu .entry); step = now (step .entry) }) (now (integrators .entry)) (now (combs .entry)) (now (taps .entry)) (now («fir_delay» .entry)) (now (delays .entry)) (now (held .entry)) (now (counts .entry)) (now (delay .entry)) (now (prototype .entry))) ⌝ }
+    ensures answer { λ n. ⌜ (
+        let before = lineAt entry stages r integrators combs «sample_counter» taps «tap_count» factor «fir_delay» wait depth delays held counts phases «phase_taps» mu step delay prototype in
+        let after = lineAt exit stages r integrators combs «sample_counter» taps «tap_count» factor «fir_delay» wait depth delays held counts phases «phase_taps» mu step delay prototype in
+        record { number = n; state = after } ≡ L.reset before) ⌝ }
 {
-    let lent_integrators = *integrators;
-    let lent_combs = *combs;
-    let lent_cic = CicDecimator {
-        stages: *stages,
-        r: *r,
-        integrator_state: lent_integrators,
-        comb_state: lent_combs,
-        sample_counter: *sample_counter,
-    };
-    let lent_taps = *taps;
-    let lent_fir_delay = *fir_delay;
-    let lent_fir = FirDecimator {
-        taps: lent_taps,
-        tap_count: *tap_count,
-        factor: *factor,
-        delay: lent_fir_delay,
-        wait: *wait,
-    };
-    let lent_delays = *delays;
-    let lent_held = *held;
-    let lent_counts = *counts;
-    let lent_half_band = HbfStream {
-        depth: *depth,
-        delays: lent_delays,
-        held: lent_held,
-        counts: lent_counts,
-    };
-    let lent_delay = *delay;
-    let lent_prototype = *prototype;
-    let lent_resampler = PolyphaseResampF32 {
-        phases: *phases,
-        taps: *phase_taps,
-        mu: *mu,
-        step: *step,
-        delay: lent_delay,
-        prototype: lent_prototype,
-    };
     let line = Line {
-        cic: lent_cic,
-        fir: lent_fir,
-        half_band: lent_half_band,
-        resampler: lent_resampler,
+        cic: decimator(*stages, *r, *integrators, *combs, *sample_counter),
+        fir: fir(*taps, *tap_count, *factor, *fir_delay, *wait),
+        half_band: stream(*depth, *delays, *held, *counts),
+        resampler: resampler(*phases, *phase_taps, *mu, *step, *delay, *prototype),
     };
     let opened = line.reset();
     let next = opened.line;
-    let cic = next.cic;
-    let fir = next.fir;
-    let half_band = next.half_band;
-    let resampler = next.resampler;
-    let next_integrators = cic.integrator_state;
-    let next_combs = cic.comb_state;
-    let next_taps = fir.taps;
-    let next_fir_delay = fir.delay;
-    let next_delays = half_band.delays;
-    let next_held = half_band.held;
-    let next_counts = half_band.counts;
-    let next_delay = resampler.delay;
-    let next_prototype = resampler.prototype;
-    *stages = cic.stages;
-    *r = cic.r;
-    *integrators = next_integrators;
-    *combs = next_combs;
-    *sample_counter = cic.sample_counter;
-    *taps = next_taps;
-    *tap_count = fir.tap_count;
-    *factor = fir.factor;
-    *fir_delay = next_fir_delay;
-    *wait = fir.wait;
-    *depth = half_band.depth;
-    *delays = next_delays;
-    *held = next_held;
-    *counts = next_counts;
-    *phases = resampler.phases;
-    *phase_taps = resampler.taps;
-    *mu = resampler.mu;
-    *step = resampler.step;
-    *delay = next_delay;
-    *prototype = next_prototype;
+    put_decimator(next.cic, stages, r, integrators, combs, sample_counter);
+    put_fir(next.fir, taps, tap_count, factor, fir_delay, wait);
+    put_stream(next.half_band, depth, delays, held, counts);
+    put_resampler(
+        next.resampler,
+        phases,
+        phase_taps,
+        mu,
+        step,
+        delay,
+        prototype,
+    );
     let answer = opened.answer;
     opening_number(answer)
 }
@@ -244,7 +187,11 @@ pub extern "C" fn gauge_raw_line_step(
     written: &mut usize,
     value: &mut f32,
 ) -> usize
-    ensures { λ n. ⌜ record { number = n; value = (now (taken .exit), (now (written .exit), now (value .exit))); state = lineOf (record { stages = now (stages .exit); r = now (r .exit); «sample_counter» = now («sample_counter» .exit); «tap_count» = now («tap_count» .exit); factor = now (factor .exit); wait = now (wait .exit); depth = now (depth .exit); phases = now (phases .exit); taps = now («phase_taps» .exit); mu = now (mu .exit); step = now (step .exit) }) (now (integrators .exit)) (now (combs .exit)) (now (taps .exit)) (now («fir_delay» .exit)) (now (delays .exit)) (now (held .exit)) (now (counts .exit)) (now (delay .exit)) (now (prototype .exit)) } ≡ crossedStep (L.stepOutcome (lineOf (record { stages = now (stages .entry); r = now (r .entry); «sample_counter» = now («sample_counter» .entry); «tap_count» = now («tap_count» .entry); factor = now (factor .entry); wait = now (wait .entry); depth = now (depth .entry); phases = now (phases .entry); taps = now («phase_taps» .entry); mu = now (mu .entry); step = now (step .entry) }) (now (integrators .entry)) (now (combs .entry)) (now (taps .entry)) (now («fir_delay» .entry)) (now (delays .entry)) (now (held .entry)) (now (counts .entry)) (now (delay .entry)) (now (prototype .entry))) (ltb 0 places) (headOf (drop at (now (samples .entry))))) ⌝ }
+    ensures answer { λ n. ⌜ (
+        let before = lineAt entry stages r integrators combs «sample_counter» taps «tap_count» factor «fir_delay» wait depth delays held counts phases «phase_taps» mu step delay prototype in
+        let after = lineAt exit stages r integrators combs «sample_counter» taps «tap_count» factor «fir_delay» wait depth delays held counts phases «phase_taps» mu step delay prototype in
+        record { number = n; value = (now (taken .exit), (now (written .exit), now (value .exit))); state = after }
+        ≡ crossedStep (L.stepOutcome before (ltb 0 places) (headOf (drop at (now (samples .entry)))))) ⌝ }
 {
     let n = LineNumbers {
         stages: *stages,
@@ -321,9 +268,19 @@ pub extern "C" fn gauge_raw_line_feed(
     taken: &mut usize,
     written: &mut usize,
 ) -> usize
-    ensures answer { λ n. ⌜ record { number = n; value = record { taken = now (taken .exit); written = now (written .exit) }; state = lineOf (record { stages = now (stages .exit); r = now (r .exit); «sample_counter» = now («sample_counter» .exit); «tap_count» = now («tap_count» .exit); factor = now (factor .exit); wait = now (wait .exit); depth = now (depth .exit); phases = now (phases .exit); taps = now («phase_taps» .exit); mu = now (mu .exit); step = now (step .exit) }) (now (integrators .exit)) (now (combs .exit)) (now (taps .exit)) (now («fir_delay» .exit)) (now (delays .exit)) (now (held .exit)) (now (counts .exit)) (now (delay .exit)) (now (prototype .exit)) } ≡ L.feedOutcome (lineOf (record { stages = now (stages .entry); r = now (r .entry); «sample_counter» = now («sample_counter» .entry); «tap_count» = now («tap_count» .entry); factor = now (factor .entry); wait = now (wait .entry); depth = now (depth .entry); phases = now (phases .entry); taps = now («phase_taps» .entry); mu = now (mu .entry); step = now (step .entry) }) (now (integrators .entry)) (now (combs .entry)) (now (taps .entry)) (now («fir_delay» .entry)) (now (delays .entry)) (now (held .entry)) (now (counts .entry)) (now (delay .entry)) (now (prototype .entry))) (now (samples .entry)) (length (now (out .entry))) ⌝ }
-    ensures span { λ n. ⌜ now (out .exit) ≡ L.feedSpan (lineOf (record { stages = now (stages .entry); r = now (r .entry); «sample_counter» = now («sample_counter» .entry); «tap_count» = now («tap_count» .entry); factor = now (factor .entry); wait = now (wait .entry); depth = now (depth .entry); phases = now (phases .entry); taps = now («phase_taps» .entry); mu = now (mu .entry); step = now (step .entry) }) (now (integrators .entry)) (now (combs .entry)) (now (taps .entry)) (now («fir_delay» .entry)) (now (delays .entry)) (now (held .entry)) (now (counts .entry)) (now (delay .entry)) (now (prototype .entry))) (now (samples .entry)) (now (out .entry)) ⌝ }
-    ensures demand3 { λ n. ⌜ Demand3 (lineOf (record { stages = now (stages .entry); r = now (r .entry); «sample_counter» = now («sample_counter» .entry); «tap_count» = now («tap_count» .entry); factor = now (factor .entry); wait = now (wait .entry); depth = now (depth .entry); phases = now (phases .entry); taps = now («phase_taps» .entry); mu = now (mu .entry); step = now (step .entry) }) (now (integrators .entry)) (now (combs .entry)) (now (taps .entry)) (now («fir_delay» .entry)) (now (delays .entry)) (now (held .entry)) (now (counts .entry)) (now (delay .entry)) (now (prototype .entry))) (now (samples .entry)) (now (out .entry)) (now (out .exit)) (record { number = n; value = record { taken = now (taken .exit); written = now (written .exit) }; state = lineOf (record { stages = now (stages .exit); r = now (r .exit); «sample_counter» = now («sample_counter» .exit); «tap_count» = now («tap_count» .exit); factor = now (factor .exit); wait = now (wait .exit); depth = now (depth .exit); phases = now (phases .exit); taps = now («phase_taps» .exit); mu = now (mu .exit); step = now (step .exit) }) (now (integrators .exit)) (now (combs .exit)) (now (taps .exit)) (now («fir_delay» .exit)) (now (delays .exit)) (now (held .exit)) (now (counts .exit)) (now (delay .exit)) (now (prototype .exit)) }) ⌝ }
+    ensures answer { λ n. ⌜ (
+        let before = lineAt entry stages r integrators combs «sample_counter» taps «tap_count» factor «fir_delay» wait depth delays held counts phases «phase_taps» mu step delay prototype in
+        let after = lineAt exit stages r integrators combs «sample_counter» taps «tap_count» factor «fir_delay» wait depth delays held counts phases «phase_taps» mu step delay prototype in
+        let moved : Moved = record { taken = now (taken .exit); written = now (written .exit) } in
+        record { number = n; value = moved; state = after } ≡ L.feedOutcome before (now (samples .entry)) (length (now (out .entry)))) ⌝ }
+    ensures span { λ n. ⌜ (
+        let before = lineAt entry stages r integrators combs «sample_counter» taps «tap_count» factor «fir_delay» wait depth delays held counts phases «phase_taps» mu step delay prototype in
+        now (out .exit) ≡ L.feedSpan before (now (samples .entry)) (now (out .entry))) ⌝ }
+    ensures demand3 { λ n. ⌜ (
+        let before = lineAt entry stages r integrators combs «sample_counter» taps «tap_count» factor «fir_delay» wait depth delays held counts phases «phase_taps» mu step delay prototype in
+        let after = lineAt exit stages r integrators combs «sample_counter» taps «tap_count» factor «fir_delay» wait depth delays held counts phases «phase_taps» mu step delay prototype in
+        let moved : Moved = record { taken = now (taken .exit); written = now (written .exit) } in
+        Demand3 before (now (samples .entry)) (now (out .entry)) (now (out .exit)) (record { number = n; value = moved; state = after })) ⌝ }
 {
     let n = LineNumbers {
         stages: *stages,

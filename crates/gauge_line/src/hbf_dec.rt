@@ -1,13 +1,15 @@
 // `HbfDec`: m, coeffs, delay.
 ghost use mathlib.Core.Path.{_≡_};
 ghost use lib.ListN.{length};
-ghost use Rattle.half_band.specs.HbfDec.{decOpening, decReset, decStep, decBlock, decSpan};
-ghost use Rattle.gauge_line.specs.States.{decOf};
+ghost use Rattle.half_band.specs.HbfDec.{decOpening, decReset, decStep, decBlock, decSpan, DecMeets};
+ghost use Rattle.gauge_line.specs.States.{entry, exit, decAt};
 use crate::answers::count_number;
 use crate::answers::count_written;
 use crate::answers::opening_number;
 use crate::answers::pair_number;
 use crate::answers::pair_value;
+use crate::states::dec;
+use crate::states::put_dec;
 use half_band::HbfDec;
 
 #[no_mangle]
@@ -17,15 +19,12 @@ pub extern "C" fn gauge_raw_hbf_dec_new(
     coeffs: &mut [f32; 23],
     delay: &mut [f32; 96],
 ) -> usize
-    ensures { λ n. ⌜ record { number = n; state = decOf (now (m .exit)) (now (coeffs .exit)) (now (delay .exit)) } ≡ decOpening (now (taps .entry)) ⌝ }
+    ensures answer { λ n. ⌜ record { number = n; state = decAt exit m coeffs delay } ≡ decOpening (now (taps .entry)) ⌝ }
+    ensures meets { λ n. ⌜ (n ≡ 0 → DecMeets (now (taps .entry)) (decAt exit m coeffs delay)) ⌝ }
 {
     let opened = HbfDec::new(taps);
     let next = opened.state;
-    let next_coeffs = next.coeffs;
-    let next_delay = next.delay;
-    *m = next.m;
-    *coeffs = next_coeffs;
-    *delay = next_delay;
+    put_dec(next, m, coeffs, delay);
     let answer = opened.answer;
     opening_number(answer)
 }
@@ -36,22 +35,12 @@ pub extern "C" fn gauge_raw_hbf_dec_reset(
     coeffs: &mut [f32; 23],
     delay: &mut [f32; 96],
 ) -> usize
-    ensures { λ n. ⌜ record { number = n; state = decOf (now (m .exit)) (now (coeffs .exit)) (now (delay .exit)) } ≡ decReset (decOf (now (m .entry)) (now (coeffs .entry)) (now (delay .entry))) ⌝ }
+    ensures answer { λ n. ⌜ record { number = n; state = decAt exit m coeffs delay } ≡ decReset (decAt entry m coeffs delay) ⌝ }
 {
-    let lent_coeffs = *coeffs;
-    let lent_delay = *delay;
-    let state = HbfDec {
-        m: *m,
-        coeffs: lent_coeffs,
-        delay: lent_delay,
-    };
+    let state = dec(*m, *coeffs, *delay);
     let opened = state.reset();
     let next = opened.state;
-    let next_coeffs = next.coeffs;
-    let next_delay = next.delay;
-    *m = next.m;
-    *coeffs = next_coeffs;
-    *delay = next_delay;
+    put_dec(next, m, coeffs, delay);
     let answer = opened.answer;
     opening_number(answer)
 }
@@ -65,22 +54,15 @@ pub extern "C" fn gauge_raw_hbf_dec_process_pair(
     b: f32,
     value: &mut f32,
 ) -> usize
-    ensures { λ n. ⌜ record { number = n; value = now (value .exit); state = decOf (now (m .exit)) (now (coeffs .exit)) (now (delay .exit)) } ≡ decStep (decOf (now (m .entry)) (now (coeffs .entry)) (now (delay .entry))) a b ⌝ }
+    ensures answer { λ n. ⌜ (
+        let before = decAt entry m coeffs delay in
+        let after = decAt exit m coeffs delay in
+        record { number = n; value = now (value .exit); state = after } ≡ decStep before a b) ⌝ }
 {
-    let lent_coeffs = *coeffs;
-    let lent_delay = *delay;
-    let state = HbfDec {
-        m: *m,
-        coeffs: lent_coeffs,
-        delay: lent_delay,
-    };
+    let state = dec(*m, *coeffs, *delay);
     let done = state.process_pair(a, b);
     let next = done.state;
-    let next_coeffs = next.coeffs;
-    let next_delay = next.delay;
-    *m = next.m;
-    *coeffs = next_coeffs;
-    *delay = next_delay;
+    put_dec(next, m, coeffs, delay);
     let out = done.out;
     *value = pair_value(out);
     pair_number(out)
@@ -95,23 +77,16 @@ pub extern "C" fn gauge_raw_hbf_dec_process(
     dst: &mut [f32],
     written: &mut usize,
 ) -> usize
-    ensures answer { λ n. ⌜ record { number = n; value = now (written .exit); state = decOf (now (m .exit)) (now (coeffs .exit)) (now (delay .exit)) } ≡ decBlock (decOf (now (m .entry)) (now (coeffs .entry)) (now (delay .entry))) (now (src .entry)) (length (now (dst .entry))) ⌝ }
-    ensures span { λ n. ⌜ now (dst .exit) ≡ decSpan (decOf (now (m .entry)) (now (coeffs .entry)) (now (delay .entry))) (now (src .entry)) (now (dst .entry)) ⌝ }
+    ensures answer { λ n. ⌜ (
+        let before = decAt entry m coeffs delay in
+        let after = decAt exit m coeffs delay in
+        record { number = n; value = now (written .exit); state = after } ≡ decBlock before (now (src .entry)) (length (now (dst .entry)))) ⌝ }
+    ensures span { λ n. ⌜ now (dst .exit) ≡ decSpan (decAt entry m coeffs delay) (now (src .entry)) (now (dst .entry)) ⌝ }
 {
-    let lent_coeffs = *coeffs;
-    let lent_delay = *delay;
-    let state = HbfDec {
-        m: *m,
-        coeffs: lent_coeffs,
-        delay: lent_delay,
-    };
+    let state = dec(*m, *coeffs, *delay);
     let done = state.process(src, dst);
     let next = done.state;
-    let next_coeffs = next.coeffs;
-    let next_delay = next.delay;
-    *m = next.m;
-    *coeffs = next_coeffs;
-    *delay = next_delay;
+    put_dec(next, m, coeffs, delay);
     let answer = done.answer;
     *written = count_written(answer);
     count_number(answer)

@@ -1,11 +1,13 @@
 // `HbfDecCascade`: depth, delays.
 ghost use mathlib.Core.Path.{_≡_};
 ghost use lib.ListN.{length};
-ghost use Rattle.half_band.specs.HbfDecCascade.{decCascadeOpening, decCascadeReset, decCascadeBlock, decCascadeSpan};
-ghost use Rattle.gauge_line.specs.States.{decCascadeOf};
+ghost use Rattle.half_band.specs.HbfDecCascade.{decCascadeOpening, decCascadeReset, decCascadeBlock, decCascadeSpan, DecCascadeMeets};
+ghost use Rattle.gauge_line.specs.States.{entry, exit, decCascadeAt};
 use crate::answers::count_number;
 use crate::answers::count_written;
 use crate::answers::opening_number;
+use crate::states::dec_cascade;
+use crate::states::put_dec_cascade;
 use half_band::HbfDecCascade;
 
 #[no_mangle]
@@ -14,13 +16,12 @@ pub extern "C" fn gauge_raw_hbf_dec_cascade_new(
     depth: &mut usize,
     delays: &mut [f32; 480],
 ) -> usize
-    ensures { λ n. ⌜ record { number = n; state = decCascadeOf (now (depth .exit)) (now (delays .exit)) } ≡ decCascadeOpening «wanted_depth» ⌝ }
+    ensures answer { λ n. ⌜ record { number = n; state = decCascadeAt exit depth delays } ≡ decCascadeOpening «wanted_depth» ⌝ }
+    ensures meets { λ n. ⌜ (n ≡ 0 → DecCascadeMeets «wanted_depth» (decCascadeAt exit depth delays)) ⌝ }
 {
     let opened = HbfDecCascade::new(wanted_depth);
     let next = opened.state;
-    let next_delays = next.delays;
-    *depth = next.depth;
-    *delays = next_delays;
+    put_dec_cascade(next, depth, delays);
     let answer = opened.answer;
     opening_number(answer)
 }
@@ -30,18 +31,12 @@ pub extern "C" fn gauge_raw_hbf_dec_cascade_reset(
     depth: &mut usize,
     delays: &mut [f32; 480],
 ) -> usize
-    ensures { λ n. ⌜ record { number = n; state = decCascadeOf (now (depth .exit)) (now (delays .exit)) } ≡ decCascadeReset (decCascadeOf (now (depth .entry)) (now (delays .entry))) ⌝ }
+    ensures answer { λ n. ⌜ record { number = n; state = decCascadeAt exit depth delays } ≡ decCascadeReset (decCascadeAt entry depth delays) ⌝ }
 {
-    let lent_delays = *delays;
-    let state = HbfDecCascade {
-        depth: *depth,
-        delays: lent_delays,
-    };
+    let state = dec_cascade(*depth, *delays);
     let opened = state.reset();
     let next = opened.state;
-    let next_delays = next.delays;
-    *depth = next.depth;
-    *delays = next_delays;
+    put_dec_cascade(next, depth, delays);
     let answer = opened.answer;
     opening_number(answer)
 }
@@ -54,19 +49,16 @@ pub extern "C" fn gauge_raw_hbf_dec_cascade_process(
     dst: &mut [f32],
     written: &mut usize,
 ) -> usize
-    ensures answer { λ n. ⌜ record { number = n; value = now (written .exit); state = decCascadeOf (now (depth .exit)) (now (delays .exit)) } ≡ decCascadeBlock (decCascadeOf (now (depth .entry)) (now (delays .entry))) (now (src .entry)) (length (now (dst .entry))) ⌝ }
-    ensures span { λ n. ⌜ now (dst .exit) ≡ decCascadeSpan (decCascadeOf (now (depth .entry)) (now (delays .entry))) (now (src .entry)) (now (dst .entry)) ⌝ }
+    ensures answer { λ n. ⌜ (
+        let before = decCascadeAt entry depth delays in
+        let after = decCascadeAt exit depth delays in
+        record { number = n; value = now (written .exit); state = after } ≡ decCascadeBlock before (now (src .entry)) (length (now (dst .entry)))) ⌝ }
+    ensures span { λ n. ⌜ now (dst .exit) ≡ decCascadeSpan (decCascadeAt entry depth delays) (now (src .entry)) (now (dst .entry)) ⌝ }
 {
-    let lent_delays = *delays;
-    let state = HbfDecCascade {
-        depth: *depth,
-        delays: lent_delays,
-    };
+    let state = dec_cascade(*depth, *delays);
     let done = state.process(src, dst);
     let next = done.state;
-    let next_delays = next.delays;
-    *depth = next.depth;
-    *delays = next_delays;
+    put_dec_cascade(next, depth, delays);
     let answer = done.answer;
     *written = count_written(answer);
     count_number(answer)

@@ -1,14 +1,16 @@
 // `HbfInt`: m, coeffs, delay.
 ghost use mathlib.Core.Path.{_≡_};
 ghost use lib.ListN.{length};
-ghost use Rattle.half_band.specs.HbfInt.{intOpening, intReset, intStep, intBlock, intSpan};
-ghost use Rattle.gauge_line.specs.States.{intOf};
+ghost use Rattle.half_band.specs.HbfInt.{intOpening, intReset, intStep, intBlock, intSpan, IntMeets};
+ghost use Rattle.gauge_line.specs.States.{entry, exit, intAt};
 use crate::answers::both_even;
 use crate::answers::both_number;
 use crate::answers::both_odd;
 use crate::answers::count_number;
 use crate::answers::count_written;
 use crate::answers::opening_number;
+use crate::states::int;
+use crate::states::put_int;
 use half_band::HbfInt;
 
 #[no_mangle]
@@ -18,15 +20,12 @@ pub extern "C" fn gauge_raw_hbf_int_new(
     coeffs: &mut [f32; 23],
     delay: &mut [f32; 48],
 ) -> usize
-    ensures { λ n. ⌜ record { number = n; state = intOf (now (m .exit)) (now (coeffs .exit)) (now (delay .exit)) } ≡ intOpening (now (taps .entry)) ⌝ }
+    ensures answer { λ n. ⌜ record { number = n; state = intAt exit m coeffs delay } ≡ intOpening (now (taps .entry)) ⌝ }
+    ensures meets { λ n. ⌜ (n ≡ 0 → IntMeets (now (taps .entry)) (intAt exit m coeffs delay)) ⌝ }
 {
     let opened = HbfInt::new(taps);
     let next = opened.state;
-    let next_coeffs = next.coeffs;
-    let next_delay = next.delay;
-    *m = next.m;
-    *coeffs = next_coeffs;
-    *delay = next_delay;
+    put_int(next, m, coeffs, delay);
     let answer = opened.answer;
     opening_number(answer)
 }
@@ -37,22 +36,12 @@ pub extern "C" fn gauge_raw_hbf_int_reset(
     coeffs: &mut [f32; 23],
     delay: &mut [f32; 48],
 ) -> usize
-    ensures { λ n. ⌜ record { number = n; state = intOf (now (m .exit)) (now (coeffs .exit)) (now (delay .exit)) } ≡ intReset (intOf (now (m .entry)) (now (coeffs .entry)) (now (delay .entry))) ⌝ }
+    ensures answer { λ n. ⌜ record { number = n; state = intAt exit m coeffs delay } ≡ intReset (intAt entry m coeffs delay) ⌝ }
 {
-    let lent_coeffs = *coeffs;
-    let lent_delay = *delay;
-    let state = HbfInt {
-        m: *m,
-        coeffs: lent_coeffs,
-        delay: lent_delay,
-    };
+    let state = int(*m, *coeffs, *delay);
     let opened = state.reset();
     let next = opened.state;
-    let next_coeffs = next.coeffs;
-    let next_delay = next.delay;
-    *m = next.m;
-    *coeffs = next_coeffs;
-    *delay = next_delay;
+    put_int(next, m, coeffs, delay);
     let answer = opened.answer;
     opening_number(answer)
 }
@@ -66,22 +55,15 @@ pub extern "C" fn gauge_raw_hbf_int_process_sample(
     even: &mut f32,
     odd: &mut f32,
 ) -> usize
-    ensures { λ n. ⌜ record { number = n; value = (now (even .exit), now (odd .exit)); state = intOf (now (m .exit)) (now (coeffs .exit)) (now (delay .exit)) } ≡ intStep (intOf (now (m .entry)) (now (coeffs .entry)) (now (delay .entry))) x ⌝ }
+    ensures answer { λ n. ⌜ (
+        let before = intAt entry m coeffs delay in
+        let after = intAt exit m coeffs delay in
+        record { number = n; value = (now (even .exit), now (odd .exit)); state = after } ≡ intStep before x) ⌝ }
 {
-    let lent_coeffs = *coeffs;
-    let lent_delay = *delay;
-    let state = HbfInt {
-        m: *m,
-        coeffs: lent_coeffs,
-        delay: lent_delay,
-    };
+    let state = int(*m, *coeffs, *delay);
     let done = state.process_sample(x);
     let next = done.state;
-    let next_coeffs = next.coeffs;
-    let next_delay = next.delay;
-    *m = next.m;
-    *coeffs = next_coeffs;
-    *delay = next_delay;
+    put_int(next, m, coeffs, delay);
     let out = done.out;
     *even = both_even(out);
     *odd = both_odd(out);
@@ -97,23 +79,16 @@ pub extern "C" fn gauge_raw_hbf_int_process(
     dst: &mut [f32],
     written: &mut usize,
 ) -> usize
-    ensures answer { λ n. ⌜ record { number = n; value = now (written .exit); state = intOf (now (m .exit)) (now (coeffs .exit)) (now (delay .exit)) } ≡ intBlock (intOf (now (m .entry)) (now (coeffs .entry)) (now (delay .entry))) (now (src .entry)) (length (now (dst .entry))) ⌝ }
-    ensures span { λ n. ⌜ now (dst .exit) ≡ intSpan (intOf (now (m .entry)) (now (coeffs .entry)) (now (delay .entry))) (now (src .entry)) (now (dst .entry)) ⌝ }
+    ensures answer { λ n. ⌜ (
+        let before = intAt entry m coeffs delay in
+        let after = intAt exit m coeffs delay in
+        record { number = n; value = now (written .exit); state = after } ≡ intBlock before (now (src .entry)) (length (now (dst .entry)))) ⌝ }
+    ensures span { λ n. ⌜ now (dst .exit) ≡ intSpan (intAt entry m coeffs delay) (now (src .entry)) (now (dst .entry)) ⌝ }
 {
-    let lent_coeffs = *coeffs;
-    let lent_delay = *delay;
-    let state = HbfInt {
-        m: *m,
-        coeffs: lent_coeffs,
-        delay: lent_delay,
-    };
+    let state = int(*m, *coeffs, *delay);
     let done = state.process(src, dst);
     let next = done.state;
-    let next_coeffs = next.coeffs;
-    let next_delay = next.delay;
-    *m = next.m;
-    *coeffs = next_coeffs;
-    *delay = next_delay;
+    put_int(next, m, coeffs, delay);
     let answer = done.answer;
     *written = count_written(answer);
     count_number(answer)

@@ -1,12 +1,15 @@
 // `HbfStream`: depth, delays, held, counts.
 ghost use mathlib.Core.Path.{_≡_};
 ghost use Rattle.float.specs.F32.{zero32};
-ghost use Rattle.half_band.specs.HbfStream.{streamOf, streamOpening, streamReset, streamStep};
+ghost use Rattle.half_band.specs.HbfStream.{streamOpening, streamReset, streamStep, StreamMeets};
 ghost use Rattle.gauge_line.specs.Crossing.{crossed};
+ghost use Rattle.gauge_line.specs.States.{entry, exit, streamAt};
 use crate::answers::opening_number;
 use crate::answers::stream_made;
 use crate::answers::stream_number;
 use crate::answers::stream_value;
+use crate::states::put_stream;
+use crate::states::stream;
 use half_band::HbfStream;
 
 #[no_mangle]
@@ -17,17 +20,12 @@ pub extern "C" fn gauge_raw_hbf_stream_new(
     held: &mut [f32; 5],
     counts: &mut [usize; 5],
 ) -> usize
-    ensures { λ n. ⌜ record { number = n; state = streamOf (now (depth .exit)) (now (delays .exit)) (now (held .exit)) (now (counts .exit)) } ≡ streamOpening «wanted_depth» ⌝ }
+    ensures answer { λ n. ⌜ record { number = n; state = streamAt exit depth delays held counts } ≡ streamOpening «wanted_depth» ⌝ }
+    ensures meets { λ n. ⌜ (n ≡ 0 → StreamMeets «wanted_depth» (streamAt exit depth delays held counts)) ⌝ }
 {
     let opened = HbfStream::new(wanted_depth);
     let next = opened.state;
-    let next_delays = next.delays;
-    let next_held = next.held;
-    let next_counts = next.counts;
-    *depth = next.depth;
-    *delays = next_delays;
-    *held = next_held;
-    *counts = next_counts;
+    put_stream(next, depth, delays, held, counts);
     let answer = opened.answer;
     opening_number(answer)
 }
@@ -39,26 +37,12 @@ pub extern "C" fn gauge_raw_hbf_stream_reset(
     held: &mut [f32; 5],
     counts: &mut [usize; 5],
 ) -> usize
-    ensures { λ n. ⌜ record { number = n; state = streamOf (now (depth .exit)) (now (delays .exit)) (now (held .exit)) (now (counts .exit)) } ≡ streamReset (streamOf (now (depth .entry)) (now (delays .entry)) (now (held .entry)) (now (counts .entry))) ⌝ }
+    ensures answer { λ n. ⌜ record { number = n; state = streamAt exit depth delays held counts } ≡ streamReset (streamAt entry depth delays held counts) ⌝ }
 {
-    let lent_delays = *delays;
-    let lent_held = *held;
-    let lent_counts = *counts;
-    let state = HbfStream {
-        depth: *depth,
-        delays: lent_delays,
-        held: lent_held,
-        counts: lent_counts,
-    };
+    let state = stream(*depth, *delays, *held, *counts);
     let opened = state.reset();
     let next = opened.state;
-    let next_delays = next.delays;
-    let next_held = next.held;
-    let next_counts = next.counts;
-    *depth = next.depth;
-    *delays = next_delays;
-    *held = next_held;
-    *counts = next_counts;
+    put_stream(next, depth, delays, held, counts);
     let answer = opened.answer;
     opening_number(answer)
 }
@@ -73,26 +57,15 @@ pub extern "C" fn gauge_raw_hbf_stream_process_sample(
     made: &mut usize,
     value: &mut f32,
 ) -> usize
-    ensures { λ n. ⌜ record { number = n; value = (now (made .exit), now (value .exit)); state = streamOf (now (depth .exit)) (now (delays .exit)) (now (held .exit)) (now (counts .exit)) } ≡ crossed zero32 (streamStep (streamOf (now (depth .entry)) (now (delays .entry)) (now (held .entry)) (now (counts .entry))) x) ⌝ }
+    ensures answer { λ n. ⌜ (
+        let before = streamAt entry depth delays held counts in
+        let after = streamAt exit depth delays held counts in
+        record { number = n; value = (now (made .exit), now (value .exit)); state = after } ≡ crossed zero32 (streamStep before x)) ⌝ }
 {
-    let lent_delays = *delays;
-    let lent_held = *held;
-    let lent_counts = *counts;
-    let state = HbfStream {
-        depth: *depth,
-        delays: lent_delays,
-        held: lent_held,
-        counts: lent_counts,
-    };
+    let state = stream(*depth, *delays, *held, *counts);
     let done = state.process_sample(x);
     let next = done.state;
-    let next_delays = next.delays;
-    let next_held = next.held;
-    let next_counts = next.counts;
-    *depth = next.depth;
-    *delays = next_delays;
-    *held = next_held;
-    *counts = next_counts;
+    put_stream(next, depth, delays, held, counts);
     let out = done.out;
     *made = stream_made(out);
     *value = stream_value(out);

@@ -1,9 +1,13 @@
 // `PolyphaseResampF32`: phases, taps, mu, step, delay, prototype.
 ghost use mathlib.Core.Path.{_≡_};
 ghost use Rattle.float.specs.PolyphaseResamp as R;
+ghost use Rattle.float.specs.PolyphaseWhole as W;
+ghost use Rattle.gauge_line.specs.States.{entry, exit, resamplerAt};
 use crate::answers::count_number;
 use crate::answers::count_written;
 use crate::answers::opening_number;
+use crate::states::put_resampler;
+use crate::states::resampler;
 use float::PolyphaseResampF32;
 use float::polyphase_resamp::block_at;
 use float::polyphase_resamp::push_at;
@@ -21,7 +25,12 @@ pub extern "C" fn gauge_raw_polyphase_resamp_from_taps(
     delay: &mut [f32; 16],
     prototype: &mut [f32; 1024],
 ) -> usize
-    ensures { λ n. ⌜ record { number = n; state = R.together (now (phases .exit)) (now (taps .exit)) (now (mu .exit)) (now (step .exit)) (now (delay .exit)) (now (prototype .exit)) } ≡ R.opening «wanted_phases» «wanted_taps» (now («wanted_prototype» .entry)) «wanted_step» ⌝ }
+    ensures answer { λ n. ⌜ (
+        let after = resamplerAt exit phases taps mu step delay prototype in
+        record { number = n; state = after } ≡ R.opening «wanted_phases» «wanted_taps» (now («wanted_prototype» .entry)) «wanted_step») ⌝ }
+    ensures whole { λ n. ⌜ (
+        let after = resamplerAt exit phases taps mu step delay prototype in
+        W.Opens «wanted_phases» «wanted_taps» (now («wanted_prototype» .entry)) «wanted_step» (record { number = n; state = after })) ⌝ }
 {
     let opened = PolyphaseResampF32::from_taps(
         wanted_phases,
@@ -30,14 +39,7 @@ pub extern "C" fn gauge_raw_polyphase_resamp_from_taps(
         wanted_step,
     );
     let next = opened.state;
-    let next_delay = next.delay;
-    let next_prototype = next.prototype;
-    *phases = next.phases;
-    *taps = next.taps;
-    *mu = next.mu;
-    *step = next.step;
-    *delay = next_delay;
-    *prototype = next_prototype;
+    put_resampler(next, phases, taps, mu, step, delay, prototype);
     let answer = opened.answer;
     opening_number(answer)
 }
@@ -51,28 +53,19 @@ pub extern "C" fn gauge_raw_polyphase_resamp_reset(
     delay: &mut [f32; 16],
     prototype: &mut [f32; 1024],
 ) -> usize
-    ensures { λ n. ⌜ record { number = n; state = R.together (now (phases .exit)) (now (taps .exit)) (now (mu .exit)) (now (step .exit)) (now (delay .exit)) (now (prototype .exit)) } ≡ R.reset (R.together (now (phases .entry)) (now (taps .entry)) (now (mu .entry)) (now (step .entry)) (now (delay .entry)) (now (prototype .entry))) ⌝ }
+    ensures answer { λ n. ⌜ (
+        let before = resamplerAt entry phases taps mu step delay prototype in
+        let after = resamplerAt exit phases taps mu step delay prototype in
+        record { number = n; state = after } ≡ R.reset before) ⌝ }
+    ensures whole { λ n. ⌜ (
+        let before = resamplerAt entry phases taps mu step delay prototype in
+        let after = resamplerAt exit phases taps mu step delay prototype in
+        W.Resets before (record { number = n; state = after })) ⌝ }
 {
-    let lent_delay = *delay;
-    let lent_prototype = *prototype;
-    let state = PolyphaseResampF32 {
-        phases: *phases,
-        taps: *taps,
-        mu: *mu,
-        step: *step,
-        delay: lent_delay,
-        prototype: lent_prototype,
-    };
+    let state = resampler(*phases, *taps, *mu, *step, *delay, *prototype);
     let opened = state.reset();
     let next = opened.state;
-    let next_delay = next.delay;
-    let next_prototype = next.prototype;
-    *phases = next.phases;
-    *taps = next.taps;
-    *mu = next.mu;
-    *step = next.step;
-    *delay = next_delay;
-    *prototype = next_prototype;
+    put_resampler(next, phases, taps, mu, step, delay, prototype);
     let answer = opened.answer;
     opening_number(answer)
 }
@@ -90,8 +83,17 @@ pub extern "C" fn gauge_raw_polyphase_resamp_process_block(
     taken: &mut usize,
     written: &mut usize,
 ) -> usize
-    ensures answer { λ n. ⌜ record { number = n; value = record { written = now (written .exit); taken = now (taken .exit) }; state = R.together (now (phases .exit)) (now (taps .exit)) (now (mu .exit)) (now (step .exit)) (now (delay .exit)) (now (prototype .exit)) } ≡ R.blockOutcome (R.together (now (phases .entry)) (now (taps .entry)) (now (mu .entry)) (now (step .entry)) (now (delay .entry)) (now (prototype .entry))) (now (src .entry)) (now (dst .entry)) ⌝ }
-    ensures span { λ n. ⌜ now (dst .exit) ≡ R.blockSpan (R.together (now (phases .entry)) (now (taps .entry)) (now (mu .entry)) (now (step .entry)) (now (delay .entry)) (now (prototype .entry))) (now (src .entry)) (now (dst .entry)) ⌝ }
+    ensures answer { λ n. ⌜ (
+        let before = resamplerAt entry phases taps mu step delay prototype in
+        let after = resamplerAt exit phases taps mu step delay prototype in
+        let moved : R.Counts = record { written = now (written .exit); taken = now (taken .exit) } in
+        record { number = n; value = moved; state = after } ≡ R.blockOutcome before (now (src .entry)) (now (dst .entry))) ⌝ }
+    ensures span { λ n. ⌜ now (dst .exit) ≡ R.blockSpan (resamplerAt entry phases taps mu step delay prototype) (now (src .entry)) (now (dst .entry)) ⌝ }
+    ensures kept { λ n. ⌜ (
+        let before = resamplerAt entry phases taps mu step delay prototype in
+        let after = resamplerAt exit phases taps mu step delay prototype in
+        let moved : R.Counts = record { written = now (written .exit); taken = now (taken .exit) } in
+        W.BlockKept before (now (src .entry)) (now (dst .entry)) (now (dst .exit)) (record { number = n; value = moved; state = after })) ⌝ }
 {
     let moved = block_at(*phases, *taps, *step, *mu, delay, prototype, src, dst);
     *mu = moved.mu;
@@ -113,8 +115,15 @@ pub extern "C" fn gauge_raw_polyphase_resamp_push(
     out: &mut [f32],
     written: &mut usize,
 ) -> usize
-    ensures answer { λ n. ⌜ record { number = n; value = now (written .exit); state = R.together (now (phases .exit)) (now (taps .exit)) (now (mu .exit)) (now (step .exit)) (now (delay .exit)) (now (prototype .exit)) } ≡ R.pushOutcome (R.together (now (phases .entry)) (now (taps .entry)) (now (mu .entry)) (now (step .entry)) (now (delay .entry)) (now (prototype .entry))) x (now (out .entry)) ⌝ }
-    ensures span { λ n. ⌜ now (out .exit) ≡ R.pushSpan (R.together (now (phases .entry)) (now (taps .entry)) (now (mu .entry)) (now (step .entry)) (now (delay .entry)) (now (prototype .entry))) x (now (out .entry)) ⌝ }
+    ensures answer { λ n. ⌜ (
+        let before = resamplerAt entry phases taps mu step delay prototype in
+        let after = resamplerAt exit phases taps mu step delay prototype in
+        record { number = n; value = now (written .exit); state = after } ≡ R.pushOutcome before x (now (out .entry))) ⌝ }
+    ensures span { λ n. ⌜ now (out .exit) ≡ R.pushSpan (resamplerAt entry phases taps mu step delay prototype) x (now (out .entry)) ⌝ }
+    ensures kept { λ n. ⌜ (
+        let before = resamplerAt entry phases taps mu step delay prototype in
+        let after = resamplerAt exit phases taps mu step delay prototype in
+        W.PushKept before x (now (out .entry)) (now (out .exit)) (record { number = n; value = now (written .exit); state = after })) ⌝ }
 {
     let pushed = push_at(*phases, *taps, *step, *mu, delay, prototype, x, out);
     *mu = pushed.mu;

@@ -2,7 +2,7 @@
 ghost use mathlib.Core.Path.{_≡_};
 ghost use mir.Syntax.{w16};
 ghost use Rattle.q15.specs.Fixed.{cut};
-ghost use Rattle.float.specs.Level.{level};
+ghost use Rattle.float.specs.Level.{level, IsLevel};
 ghost use Rattle.half_band.specs.HbfTaps.{hbfTaps};
 ghost use Rattle.half_band.specs.ResponseLength.{decLengths, intLengths, lengthAt};
 use crate::answers::length_number;
@@ -25,7 +25,8 @@ pub extern "C" fn gauge_raw_cut_q15(sum: i64, value: &mut i16)
 
 #[no_mangle]
 pub extern "C" fn gauge_raw_q15_to_f32(bits: i16, value: &mut f32)
-    ensures { λ n. ⌜ now (value .exit) ≡ level bits ⌝ }
+    ensures value { λ n. ⌜ now (value .exit) ≡ level bits ⌝ }
+    ensures exact { λ n. ⌜ IsLevel bits (now (value .exit)) ⌝ }
 {
     *value = q15_to_f32(Q15(bits));
 }

@@ -39,7 +39,8 @@ fn at_once(
     place: bool,
 ) -> usize
     requires { ⌜ (s .«sample_counter» < f .r) × (at ≤ length (now samples)) × (place ≡ true → T.dueAt f (s .mu) ≡ false) ⌝ }
-    ensures { λ m. ⌜ (m ≡ T.atOnce f s place (length (now (samples .entry)) - at)) × (now (integrators .exit) ≡ ran (f .stages) (now (integrators .entry)) (pos 0) (take m (drop at (now (samples .entry)))) .state) ⌝ }
+    ensures { λ m. ⌜ (m ≡ T.atOnce f s place (length (now (samples .entry)) - at))
+        × (now (integrators .exit) ≡ ran (f .stages) (now (integrators .entry)) (pos 0) (take m (drop at (now (samples .entry)))) .state) ⌝ }
 {
     if !place {
         return 0;
@@ -68,8 +69,15 @@ pub(crate) fn feed_on(
     samples: &[i32],
     out: &mut [f32],
 ) -> Ran
-    requires { ⌜ (f .bits ≡ gainBits (f .stages) (f .r)) × (L.valid (T.together f s (now integrators) (now combs) (now taps) (now «fir_delay») (now delays) (now held) (now counts) (now delay) (now prototype)) ≡ true) ⌝ }
-    ensures { λ r. ⌜ T.RanTo (T.together f s (now (integrators .entry)) (now (combs .entry)) (now (taps .entry)) (now («fir_delay» .entry)) (now (delays .entry)) (now (held .entry)) (now (counts .entry)) (now (delay .entry)) (now (prototype .entry))) (now (samples .entry)) (now (out .entry)) (now (out .exit)) (r .taken) (r .written) (T.together f (r .numbers) (now (integrators .exit)) (now (combs .exit)) (now (taps .entry)) (now («fir_delay» .exit)) (now (delays .exit)) (now (held .exit)) (now (counts .exit)) (now (delay .exit)) (now (prototype .entry))) ⌝ }
+    requires { ⌜ (
+        let before = T.together f s (now integrators) (now combs) (now taps) (now «fir_delay») (now delays) (now held) (now counts) (now delay) (now prototype) in
+        (f .bits ≡ gainBits (f .stages) (f .r)) × (L.valid before ≡ true)) ⌝ }
+    ensures { λ r. ⌜ (
+        let before = T.together f s (now (integrators .entry)) (now (combs .entry)) (now (taps .entry)) (now («fir_delay» .entry))
+        (now (delays .entry)) (now (held .entry)) (now (counts .entry)) (now (delay .entry)) (now (prototype .entry)) in
+        let after = T.together f (r .numbers) (now (integrators .exit)) (now (combs .exit)) (now (taps .entry)) (now («fir_delay» .exit))
+        (now (delays .exit)) (now (held .exit)) (now (counts .exit)) (now (delay .exit)) (now (prototype .entry)) in
+        T.RanTo before (now (samples .entry)) (now (out .entry)) (now (out .exit)) (r .taken) (r .written) after) ⌝ }
 {
     let mut n = s;
     let mut taken: usize = 0;

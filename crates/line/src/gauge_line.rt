@@ -1,5 +1,6 @@
 // 01, section 6: the gauge line.
 ghost use mathlib.Core.Path.{_≡_};
+ghost use mathlib.Core.Bool.{true};
 ghost use lib.ListN.{length, drop};
 ghost use Rattle.theory.specs.Feeds.{headOf};
 ghost use Rattle.refusal.specs.Outcome.{openingNumber};
@@ -48,6 +49,7 @@ pub struct LineFed {
     pub line: Line,
 }
 
+// Each part as its refused opening leaves it, which is zeros.
 fn zeros() -> Line
     ensures { λ l. ⌜ l ≡ L.zeros ⌝ }
 {
@@ -73,6 +75,7 @@ fn resampler_of(s: Settings, prototype: &[f32]) -> PolyphaseResampF32
     PolyphaseResampF32::fresh(s.phases, s.taps, prototype, s.step)
 }
 
+// A part that is off is one that its own opening refuses, and what that leaves is what the line has for it: zeros, settings too.
 fn fresh(s: Settings, taps: &[i16], prototype: &[f32]) -> Line
     requires { ⌜ L.numberAt s (length (now taps)) (length (now prototype)) ≡ 0 ⌝ }
     ensures { λ l. ⌜ l ≡ L.fresh (record { settings = s; taps = now (taps .entry); prototype = now (prototype .entry) }) ⌝ }
@@ -235,7 +238,8 @@ impl Line {
         LineStepped { step, line: self }
     }
 
-    // Steps until stopped. The clause `demand3` is the whole claim over every list of feeds. Refusal 15, and no other.
+    // Steps until stopped. The clause `demand3` is the whole claim over every list of feeds from an opening; alone it leaves a line open that no feeds lead to,
+    // with `answer` and `span` it is exact. Refusal 15, and no other.
     pub fn feed(mut self, samples: &[i32], out: &mut [f32]) -> LineFed
         ensures answer { λ r. ⌜ L.toldFeed r ≡ L.feedOutcome self (now (samples .entry)) (length (now (out .entry))) ⌝ }
         ensures span { λ r. ⌜ now (out .exit) ≡ L.feedSpan self (now (samples .entry)) (now (out .entry)) ⌝ }
@@ -286,9 +290,10 @@ impl Line {
         LineFed { counts, line: self }
     }
 
-    // The fresh opening with the line's own settings, taps and prototype. Refusal 15.
+    // The fresh opening with the line's own settings, taps and prototype. Refusal 15, and no other: a valid line's own settings open.
     pub fn reset(self) -> LineOpened
         ensures answer { λ o. ⌜ L.toldOpening o ≡ L.reset self ⌝ }
+        ensures accepted { λ o. ⌜ (L.valid self ≡ true → openingNumber (o .answer) ≡ 0) ⌝ }
     {
         let n = numbers_in(self);
         let half_band = self.half_band;

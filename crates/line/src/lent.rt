@@ -123,7 +123,12 @@ pub fn step_lent(
     at: usize,
     place: bool,
 ) -> LentStepped
-    ensures answer { λ r. ⌜ N.toldStep r (N.lineOf (r .numbers) (now (integrators .exit)) (now (combs .exit)) (now (taps .entry)) (now («fir_delay» .exit)) (now (delays .exit)) (now (held .exit)) (now (counts .exit)) (now (delay .exit)) (now (prototype .entry))) ≡ L.stepOutcome (N.lineOf n (now (integrators .entry)) (now (combs .entry)) (now (taps .entry)) (now («fir_delay» .entry)) (now (delays .entry)) (now (held .entry)) (now (counts .entry)) (now (delay .entry)) (now (prototype .entry))) place (headOf (drop at (now (samples .entry)))) ⌝ }
+    ensures answer { λ r. ⌜ (
+        let before = N.lineOf n (now (integrators .entry)) (now (combs .entry)) (now (taps .entry)) (now («fir_delay» .entry)) (now (delays .entry))
+        (now (held .entry)) (now (counts .entry)) (now (delay .entry)) (now (prototype .entry)) in
+        let after = N.lineOf (r .numbers) (now (integrators .exit)) (now (combs .exit)) (now (taps .entry)) (now («fir_delay» .exit))
+        (now (delays .exit)) (now (held .exit)) (now (counts .exit)) (now (delay .exit)) (now (prototype .entry)) in
+        N.toldStep r after ≡ L.stepOutcome before place (headOf (drop at (now (samples .entry))))) ⌝ }
 {
     let f = fixed(n);
     let s = changing(n);
@@ -157,7 +162,8 @@ pub fn step_lent(
     }
 }
 
-// Steps until stopped. The clause `demand3` is the whole claim over every list of feeds. Refusal 15, and no other.
+// Steps until stopped. The clause `demand3` is the whole claim over every list of feeds from an opening; alone it leaves a line open that no feeds lead to,
+// with `answer` and `span` it is exact. Refusal 15, and no other.
 pub fn feed_lent(
     n: LineNumbers,
     integrators: &mut [i32; 8],
@@ -172,9 +178,22 @@ pub fn feed_lent(
     samples: &[i32],
     out: &mut [f32],
 ) -> LentFed
-    ensures answer { λ r. ⌜ N.toldFeed r (N.lineOf (r .numbers) (now (integrators .exit)) (now (combs .exit)) (now (taps .entry)) (now («fir_delay» .exit)) (now (delays .exit)) (now (held .exit)) (now (counts .exit)) (now (delay .exit)) (now (prototype .entry))) ≡ L.feedOutcome (N.lineOf n (now (integrators .entry)) (now (combs .entry)) (now (taps .entry)) (now («fir_delay» .entry)) (now (delays .entry)) (now (held .entry)) (now (counts .entry)) (now (delay .entry)) (now (prototype .entry))) (now (samples .entry)) (length (now (out .entry))) ⌝ }
-    ensures span { λ r. ⌜ now (out .exit) ≡ L.feedSpan (N.lineOf n (now (integrators .entry)) (now (combs .entry)) (now (taps .entry)) (now («fir_delay» .entry)) (now (delays .entry)) (now (held .entry)) (now (counts .entry)) (now (delay .entry)) (now (prototype .entry))) (now (samples .entry)) (now (out .entry)) ⌝ }
-    ensures demand3 { λ r. ⌜ Demand3 (N.lineOf n (now (integrators .entry)) (now (combs .entry)) (now (taps .entry)) (now («fir_delay» .entry)) (now (delays .entry)) (now (held .entry)) (now (counts .entry)) (now (delay .entry)) (now (prototype .entry))) (now (samples .entry)) (now (out .entry)) (now (out .exit)) (N.toldFeed r (N.lineOf (r .numbers) (now (integrators .exit)) (now (combs .exit)) (now (taps .entry)) (now («fir_delay» .exit)) (now (delays .exit)) (now (held .exit)) (now (counts .exit)) (now (delay .exit)) (now (prototype .entry)))) ⌝ }
+    ensures answer { λ r. ⌜ (
+        let before = N.lineOf n (now (integrators .entry)) (now (combs .entry)) (now (taps .entry)) (now («fir_delay» .entry)) (now (delays .entry))
+        (now (held .entry)) (now (counts .entry)) (now (delay .entry)) (now (prototype .entry)) in
+        let after = N.lineOf (r .numbers) (now (integrators .exit)) (now (combs .exit)) (now (taps .entry)) (now («fir_delay» .exit))
+        (now (delays .exit)) (now (held .exit)) (now (counts .exit)) (now (delay .exit)) (now (prototype .entry)) in
+        N.toldFeed r after ≡ L.feedOutcome before (now (samples .entry)) (length (now (out .entry)))) ⌝ }
+    ensures span { λ r. ⌜ (
+        let before = N.lineOf n (now (integrators .entry)) (now (combs .entry)) (now (taps .entry)) (now («fir_delay» .entry)) (now (delays .entry))
+        (now (held .entry)) (now (counts .entry)) (now (delay .entry)) (now (prototype .entry)) in
+        now (out .exit) ≡ L.feedSpan before (now (samples .entry)) (now (out .entry))) ⌝ }
+    ensures demand3 { λ r. ⌜ (
+        let before = N.lineOf n (now (integrators .entry)) (now (combs .entry)) (now (taps .entry)) (now («fir_delay» .entry)) (now (delays .entry))
+        (now (held .entry)) (now (counts .entry)) (now (delay .entry)) (now (prototype .entry)) in
+        let after = N.lineOf (r .numbers) (now (integrators .exit)) (now (combs .exit)) (now (taps .entry)) (now («fir_delay» .exit))
+        (now (delays .exit)) (now (held .exit)) (now (counts .exit)) (now (delay .exit)) (now (prototype .entry)) in
+        Demand3 before (now (samples .entry)) (now (out .entry)) (now (out .exit)) (N.toldFeed r after)) ⌝ }
 {
     let f = fixed(n);
     let s = changing(n);

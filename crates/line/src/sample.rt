@@ -59,7 +59,8 @@ pub struct Sampled {
 
 // A level into the resampler, or past it where it is off.
 fn resampler_in(f: Fixed, mu: f32, delay: &mut [f32; 16], level: f32) -> Resampled
-    ensures { λ r. ⌜ ((h : List Float) → T.Takes L.from5 (T.resamplerOf f mu (now (delay .entry)) h) level (valueOf (r .out)) (T.resamplerOf f (r .mu) (now (delay .exit)) h)) ⌝ }
+    ensures { λ r. ⌜ ((h : List Float) →
+        T.Takes L.from5 (T.resamplerOf f mu (now (delay .entry)) h) level (valueOf (r .out)) (T.resamplerOf f (r .mu) (now (delay .exit)) h)) ⌝ }
 {
     if f.phases == 0 {
         return Resampled {
@@ -84,7 +85,12 @@ fn half_band_in(
     delay: &mut [f32; 16],
     level: f32,
 ) -> Resampled
-    ensures { λ r. ⌜ ((h : List Float) → T.Takes L.from4 (T.halfBandOf f (now (delays .entry)) (now (held .entry)) (now (counts .entry)), T.resamplerOf f mu (now (delay .entry)) h) level (valueOf (r .out)) (T.halfBandOf f (now (delays .exit)) (now (held .exit)) (now (counts .exit)), T.resamplerOf f (r .mu) (now (delay .exit)) h)) ⌝ }
+    ensures { λ r. ⌜ ((h : List Float) →
+        let half-band = T.halfBandOf f (now (delays .entry)) (now (held .entry)) (now (counts .entry)) in
+        let resampler = T.resamplerOf f mu (now (delay .entry)) h in
+        let next-half-band = T.halfBandOf f (now (delays .exit)) (now (held .exit)) (now (counts .exit)) in
+        let next-resampler = T.resamplerOf f (r .mu) (now (delay .exit)) h in
+        T.Takes L.from4 (half-band, resampler) level (valueOf (r .out)) (next-half-band, next-resampler)) ⌝ }
 {
     if f.depth == 0 {
         return resampler_in(f, mu, delay, level);
@@ -112,7 +118,15 @@ fn fir_in(
     delay: &mut [f32; 16],
     value: Q15,
 ) -> Filtered
-    ensures { λ r. ⌜ ((h : List Float) → T.Takes L.from3 (T.firOf f wait (now (taps .entry)) (now («fir_delay» .entry)), (tt, (T.halfBandOf f (now (delays .entry)) (now (held .entry)) (now (counts .entry)), T.resamplerOf f mu (now (delay .entry)) h))) (value .0) (valueOf (r .out)) (T.firOf f (r .wait) (now (taps .entry)) (now («fir_delay» .exit)), (tt, (T.halfBandOf f (now (delays .exit)) (now (held .exit)) (now (counts .exit)), T.resamplerOf f (r .mu) (now (delay .exit)) h)))) ⌝ }
+    ensures { λ r. ⌜ ((h : List Float) →
+        let fir = T.firOf f wait (now (taps .entry)) (now («fir_delay» .entry)) in
+        let half-band = T.halfBandOf f (now (delays .entry)) (now (held .entry)) (now (counts .entry)) in
+        let resampler = T.resamplerOf f mu (now (delay .entry)) h in
+        let next-fir = T.firOf f (r .wait) (now (taps .entry)) (now («fir_delay» .exit)) in
+        let next-half-band = T.halfBandOf f (now (delays .exit)) (now (held .exit)) (now (counts .exit)) in
+        let next-resampler = T.resamplerOf f (r .mu) (now (delay .exit)) h in
+        T.Takes L.from3 (fir, (tt, (half-band, resampler))) (value .0) (valueOf (r .out))
+        (next-fir, (tt, (next-half-band, next-resampler)))) ⌝ }
 {
     let at = fir_at(fir_delay, taps, f.tap_count, f.factor, wait, value);
     let made = at.made;
@@ -150,7 +164,12 @@ pub(crate) fn sample_in(
     x: i32,
 ) -> Sampled
     requires { ⌜ f .bits ≡ gainBits (f .stages) (f .r) ⌝ }
-    ensures { λ r. ⌜ ((h : List Float) → T.Takes L.line (T.together f s (now (integrators .entry)) (now (combs .entry)) (now (taps .entry)) (now («fir_delay» .entry)) (now (delays .entry)) (now (held .entry)) (now (counts .entry)) (now (delay .entry)) h) x (valueOf (r .out)) (T.together f (r .numbers) (now (integrators .exit)) (now (combs .exit)) (now (taps .entry)) (now («fir_delay» .exit)) (now (delays .exit)) (now (held .exit)) (now (counts .exit)) (now (delay .exit)) h)) ⌝ }
+    ensures { λ r. ⌜ ((h : List Float) →
+        let before = T.together f s (now (integrators .entry)) (now (combs .entry)) (now (taps .entry)) (now («fir_delay» .entry))
+        (now (delays .entry)) (now (held .entry)) (now (counts .entry)) (now (delay .entry)) h in
+        let after = T.together f (r .numbers) (now (integrators .exit)) (now (combs .exit)) (now (taps .entry)) (now («fir_delay» .exit))
+        (now (delays .exit)) (now (held .exit)) (now (counts .exit)) (now (delay .exit)) h in
+        T.Takes L.line before x (valueOf (r .out)) after) ⌝ }
 {
     let at = sample_at(f.stages, f.r, s.sample_counter, integrators, combs, x);
     let made = at.sum;

@@ -88,7 +88,12 @@ pub(crate) fn take_on(
     place: bool,
 ) -> NumberTaken
     requires { ⌜ (f .bits ≡ gainBits (f .stages) (f .r)) × (place ≡ true → T.dueAt f (s .mu) ≡ false) ⌝ }
-    ensures steps { λ r. ⌜ ((h : List Float) → T.steppedAt f (T.takenOf (r .step)) (r .numbers) (now (integrators .exit)) (now (combs .exit)) (now (taps .entry)) (now («fir_delay» .exit)) (now (delays .exit)) (now (held .exit)) (now (counts .exit)) (now (delay .exit)) h ≡ step L.line place (T.together f s (now (integrators .entry)) (now (combs .entry)) (now (taps .entry)) (now («fir_delay» .entry)) (now (delays .entry)) (now (held .entry)) (now (counts .entry)) (now (delay .entry)) h) (headOf (drop at (now (samples .entry))))) ⌝ }
+    ensures steps { λ r. ⌜ ((h : List Float) →
+        let before = T.together f s (now (integrators .entry)) (now (combs .entry)) (now (taps .entry)) (now («fir_delay» .entry))
+        (now (delays .entry)) (now (held .entry)) (now (counts .entry)) (now (delay .entry)) h in
+        let stepped = T.steppedAt f (T.takenOf (r .step)) (r .numbers) (now (integrators .exit)) (now (combs .exit)) (now (taps .entry))
+        (now («fir_delay» .exit)) (now (delays .exit)) (now (held .exit)) (now (counts .exit)) (now (delay .exit)) h in
+        stepped ≡ step L.line place before (headOf (drop at (now (samples .entry))))) ⌝ }
 {
     if !place {
         return NumberTaken {
@@ -142,7 +147,12 @@ pub(crate) fn step_on(
     place: bool,
 ) -> NumberStep
     requires { ⌜ (f .bits ≡ gainBits (f .stages) (f .r)) × (T.dueAt f (s .mu) ≡ true → inLimits (f .phases) (f .taps) ≡ true) ⌝ }
-    ensures steps { λ r. ⌜ T.steppedAt f (T.didOf (r .step)) (r .numbers) (now (integrators .exit)) (now (combs .exit)) (now (taps .entry)) (now («fir_delay» .exit)) (now (delays .exit)) (now (held .exit)) (now (counts .exit)) (now (delay .exit)) (now (prototype .entry)) ≡ step L.line place (T.together f s (now (integrators .entry)) (now (combs .entry)) (now (taps .entry)) (now («fir_delay» .entry)) (now (delays .entry)) (now (held .entry)) (now (counts .entry)) (now (delay .entry)) (now (prototype .entry))) (headOf (drop at (now (samples .entry)))) ⌝ }
+    ensures steps { λ r. ⌜ (
+        let before = T.together f s (now (integrators .entry)) (now (combs .entry)) (now (taps .entry)) (now («fir_delay» .entry))
+        (now (delays .entry)) (now (held .entry)) (now (counts .entry)) (now (delay .entry)) (now (prototype .entry)) in
+        let stepped = T.steppedAt f (T.didOf (r .step)) (r .numbers) (now (integrators .exit)) (now (combs .exit)) (now (taps .entry))
+        (now («fir_delay» .exit)) (now (delays .exit)) (now (held .exit)) (now (counts .exit)) (now (delay .exit)) (now (prototype .entry)) in
+        stepped ≡ step L.line place before (headOf (drop at (now (samples .entry))))) ⌝ }
 {
     if !place {
         return NumberStep {

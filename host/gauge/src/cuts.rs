@@ -36,12 +36,6 @@ impl Cuts {
         })
     }
 
-    /// The exact range of samples: within it no sum of the CIC decimator leaves its 32 bits.
-    pub fn exact_range(&self) -> (i32, i32) {
-        let half = 1i64 << (31 - self.gain_bits);
-        ((-half) as i32, (half - 1) as i32)
-    }
-
     /// The values cut so far.
     pub fn count(&self) -> u64 {
         self.count
@@ -120,16 +114,5 @@ mod tests {
         for piece in 1..=6 {
             assert_eq!(counted(settings, &samples, piece), 2);
         }
-    }
-
-    #[test]
-    fn the_range_is_of_the_gain_bits() {
-        let range = |settings: &str| {
-            let file = LineFile::parse("f", settings).unwrap();
-            Cuts::of(&file).unwrap().exact_range()
-        };
-        assert_eq!(range("stages=1\nr=1"), (i32::MIN, i32::MAX));
-        assert_eq!(range("stages=3\nr=64"), (-8192, 8191));
-        assert_eq!(range("stages=8\nr=14"), (-1, 0));
     }
 }

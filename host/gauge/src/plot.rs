@@ -11,6 +11,8 @@ use crate::section::{first_level, sections, whole};
 use crate::svg::{Drawing, Series, Stretch};
 use std::ffi::OsString;
 
+const OWN: [&str; 2] = ["--title", "--range"];
+
 /// What levels are in parts of, for a drawing.
 pub const LEVEL: &str = "level, in parts of full scale (32768)";
 
@@ -26,16 +28,16 @@ const TIMES: [(&str, f64); 6] = [
 
 /// Draws a recording and its levels as the arguments say.
 pub fn plot(arguments: &[OsString]) -> Result<(), Fault> {
-    let known = [&job::OPTIONS[..], &["--title", "--range"]].concat();
+    let known = [&job::OPTIONS[..], &OWN[..]].concat();
     let options = Options::parse(arguments, &known, "--in")?;
-    let name = options.needed("--settings")?.to_string_lossy();
-    let title = options.text("--title")?.unwrap_or(&name);
     let range = options.text("--range")?.map(range).transpose()?;
+    let name = options.needed("--settings")?;
+    let title = options.get("--title").unwrap_or(name).to_string_lossy();
     let mut job = Job::of(&options)?;
     let samples = job.samples.all()?;
     let levels = levels_of(&mut job.line, &samples)?;
     let across = Across::of(job.rate, range, samples.len());
-    let drawing = drawing(&job.file, &samples, &levels, title, &across)?;
+    let drawing = drawing(&job.file, &samples, &levels, &title, &across)?;
     job.target.write(drawing.svg().as_bytes())?;
     job.target.finish()
 }

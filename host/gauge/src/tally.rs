@@ -3,12 +3,15 @@
 use crate::cuts::Cuts;
 use crate::fault::{Fault, tell};
 use crate::line_file::LineFile;
+use crate::range::{self, Range};
 use crate::section::first_level;
-use std::ops::RangeInclusive;
+use gauge_line::Refusal;
 
 /// Counts what a run takes and makes.
 pub struct Tally {
     cuts: Cuts,
+    // The samples of which every sum is exact.
+    exact: Range,
     first_level: usize,
     samples: u64,
     // The least and the greatest sample.
@@ -25,7 +28,10 @@ pub struct Tally {
 impl Tally {
     /// For the line of a settings file.
     pub fn of(file: &LineFile) -> Result<Tally, Fault> {
+        let (stages, r) = (file.settings.stages, file.settings.r);
         Ok(Tally {
+            exact: range::exact(stages, r)
+                .ok_or_else(|| Fault::file("the line", Refusal::GainBits))?,
             cuts: Cuts::of(file).map_err(|refusal| Fault::file("the line", refusal))?,
             first_level: first_level(file),
             samples: 0,
@@ -48,17 +54,18 @@ impl Tally {
     pub fn take(&mut self, samples: &[i32]) -> Result<(), Fault> {
         let (least, greatest) = reach(samples);
         self.reach = (self.reach.0.min(least), self.reach.1.max(greatest));
-        let (low, high) = self.cuts.exact_range();
-        if least < low || greatest > high {
-            self.take_outside(samples, low..=high);
+        let (low, high) = self.exact;
+        if i64::from(least) < low || i64::from(greatest) > high {
+            self.take_outside(samples);
         }
         self.samples += samples.len() as u64;
         let counted = self.cuts.take(samples);
         counted.map_err(|refusal| Fault::file("the line", refusal))
     }
 
-    fn take_outside(&mut self, samples: &[i32], range: RangeInclusive<i32>) {
-        let outside = |sample: &&i32| !range.contains(sample);
+    fn take_outside(&mut self, samples: &[i32]) {
+        let (low, high) = self.exact;
+        let outside = |sample: &&i32| !(low..=high).contains(&i64::from(**sample));
         self.outside += samples.iter().filter(outside).count() as u64;
         if let (None, Some(at)) = (self.first_outside, samples.iter().position(|s| outside(&s))) {
             self.first_outside = Some((self.samples + at as u64 + 1, samples[at]));
@@ -105,7 +112,7 @@ impl Tally {
             ));
         }
         if let Some((at, sample)) = self.first_outside {
-            let ((low, high), count) = (self.cuts.exact_range(), counted(self.outside, "sample"));
+            let ((low, high), count) = (self.exact, counted(self.outside, "sample"));
             all.push(format!("{count} outside {low} to {high}, the first at {at}: {sample}; sums of such samples may leave 32 bits and come round, and then levels are wrong"));
         }
         if self.not_finite > 0 {

@@ -4,6 +4,9 @@ use borrow.Author.Needs.{needs}
 use Rattle.gauge_line.proofs.cic_decimator.gauge_raw_cic_decimator_gain.Statement.{statement}
 use Rattle.gauge_line.proofs.cic_decimator.gauge_raw_cic_decimator_gain.Tie as tie
 
+decimator-requires : tie.Need-decimator-requires
+decimator-requires c κs = search needs
+
 gain-requires : tie.Need-gain-requires
 gain-requires c κs = search needs
 
@@ -14,8 +17,17 @@ gain-number-requires : tie.Need-gain-number-requires
 gain-number-requires c κs = search needs
 
 returns : tie.Need-returns
-returns c = rw (c .gain-number .ensures, c .before .gain-value .ensures) (c .before .before .gain .ensures)
+returns c =
+    let done = c .before .before in
+    let built = done .before in
+    rw (c .gain-number .ensures, c .before .gain-value .ensures) (rw (built .decimator .ensures) at (done .gain .ensures))
 
 pub gauge-raw-cic-decimator-gain-spec : {M : Type 1} → statement M
 gauge-raw-cic-decimator-gain-spec =
-    tie.close (tie.spec gain-requires gain-value-requires gain-number-requires returns)
+    tie.close
+    (tie.spec
+    decimator-requires
+    gain-requires
+    gain-value-requires
+    gain-number-requires
+    returns)

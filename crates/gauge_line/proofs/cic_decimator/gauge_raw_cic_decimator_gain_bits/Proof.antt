@@ -4,6 +4,9 @@ use borrow.Author.Needs.{needs}
 use Rattle.gauge_line.proofs.cic_decimator.gauge_raw_cic_decimator_gain_bits.Statement.{statement}
 use Rattle.gauge_line.proofs.cic_decimator.gauge_raw_cic_decimator_gain_bits.Tie as tie
 
+decimator-requires : tie.Need-decimator-requires
+decimator-requires c κs = search needs
+
 gain-bits-requires : tie.Need-gain-bits-requires
 gain-bits-requires c κs = search needs
 
@@ -14,8 +17,17 @@ bits-number-requires : tie.Need-bits-number-requires
 bits-number-requires c κs = search needs
 
 returns : tie.Need-returns
-returns c = rw (c .bits-number .ensures, c .before .bits-value .ensures) (c .before .before .gain-bits .ensures .0)
+returns c =
+    let done = c .before .before in
+    let built = done .before in
+    rw (c .bits-number .ensures, c .before .bits-value .ensures) (rw (built .decimator .ensures) at (done .gain-bits .ensures))
 
 pub gauge-raw-cic-decimator-gain-bits-spec : {M : Type 1} → statement M
 gauge-raw-cic-decimator-gain-bits-spec =
-    tie.close (tie.spec gain-bits-requires bits-value-requires bits-number-requires returns)
+    tie.close
+    (tie.spec
+    decimator-requires
+    gain-bits-requires
+    bits-value-requires
+    bits-number-requires
+    returns)

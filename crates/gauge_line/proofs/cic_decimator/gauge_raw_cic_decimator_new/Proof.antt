@@ -7,11 +7,23 @@ use Rattle.gauge_line.proofs.cic_decimator.gauge_raw_cic_decimator_new.
 new-requires : tie.Need-new-requires
 new-requires c κs = search needs
 
+put-decimator-requires : tie.Need-put-decimator-requires
+put-decimator-requires c κs = search needs
+
 opening-number-requires : tie.Need-opening-number-requires
 opening-number-requires c κs = search needs
 
 returns : tie.Need-returns
-returns c = rw (c .opening-number .ensures) (c .before .before .before .before .new .ensures .0)
+returns c =
+    let put = c .before in
+    let done = put .before .before .before .before .before .before .before in
+    rw (c .opening-number .ensures, put .put-decimator .ensures) (done .new .ensures)
 
 pub gauge-raw-cic-decimator-new-spec : {M : Type 1} → statement M
-gauge-raw-cic-decimator-new-spec = tie.close (tie.spec new-requires opening-number-requires returns)
+gauge-raw-cic-decimator-new-spec =
+    tie.close
+    (tie.spec
+    new-requires
+    put-decimator-requires
+    opening-number-requires
+    returns)

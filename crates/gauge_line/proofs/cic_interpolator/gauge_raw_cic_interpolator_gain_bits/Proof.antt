@@ -6,6 +6,9 @@ use Rattle.gauge_line.proofs.cic_interpolator.gauge_raw_cic_interpolato
 }
 use Rattle.gauge_line.proofs.cic_interpolator.gauge_raw_cic_interpolator_gain_bits.Tie as tie
 
+interpolator-requires : tie.Need-interpolator-requires
+interpolator-requires c κs = search needs
+
 gain-bits-requires : tie.Need-gain-bits-requires
 gain-bits-requires c κs = search needs
 
@@ -16,8 +19,17 @@ bits-number-requires : tie.Need-bits-number-requires
 bits-number-requires c κs = search needs
 
 returns : tie.Need-returns
-returns c = rw (c .bits-number .ensures, c .before .bits-value .ensures) (c .before .before .gain-bits .ensures .0)
+returns c =
+    let done = c .before .before in
+    let built = done .before in
+    rw (c .bits-number .ensures, c .before .bits-value .ensures) (rw (built .interpolator .ensures) at (done .gain-bits .ensures))
 
 pub gauge-raw-cic-interpolator-gain-bits-spec : {M : Type 1} → statement M
 gauge-raw-cic-interpolator-gain-bits-spec =
-    tie.close (tie.spec gain-bits-requires bits-value-requires bits-number-requires returns)
+    tie.close
+    (tie.spec
+    interpolator-requires
+    gain-bits-requires
+    bits-value-requires
+    bits-number-requires
+    returns)

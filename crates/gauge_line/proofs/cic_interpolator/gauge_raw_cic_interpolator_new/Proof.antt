@@ -7,11 +7,23 @@ use Rattle.gauge_line.proofs.cic_interpolator.gauge_raw_cic_interpolato
 new-requires : tie.Need-new-requires
 new-requires c κs = search needs
 
+put-interpolator-requires : tie.Need-put-interpolator-requires
+put-interpolator-requires c κs = search needs
+
 opening-number-requires : tie.Need-opening-number-requires
 opening-number-requires c κs = search needs
 
 returns : tie.Need-returns
-returns c = rw (c .opening-number .ensures) (c .before .before .before .before .new .ensures .0)
+returns c =
+    let put = c .before in
+    let done = put .before .before .before .before .before .before in
+    rw (c .opening-number .ensures, put .put-interpolator .ensures) (done .new .ensures)
 
 pub gauge-raw-cic-interpolator-new-spec : {M : Type 1} → statement M
-gauge-raw-cic-interpolator-new-spec = tie.close (tie.spec new-requires opening-number-requires returns)
+gauge-raw-cic-interpolator-new-spec =
+    tie.close
+    (tie.spec
+    new-requires
+    put-interpolator-requires
+    opening-number-requires
+    returns)

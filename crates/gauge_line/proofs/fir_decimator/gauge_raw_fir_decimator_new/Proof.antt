@@ -7,11 +7,17 @@ use Rattle.gauge_line.proofs.fir_decimator.gauge_raw_fir_decimator_new.
 new-requires : tie.Need-new-requires
 new-requires c κs = search needs
 
+put-fir-requires : tie.Need-put-fir-requires
+put-fir-requires c κs = search needs
+
 opening-number-requires : tie.Need-opening-number-requires
 opening-number-requires c κs = search needs
 
 returns : tie.Need-returns
-returns c = rw (c .opening-number .ensures) (c .before .before .before .before .new .ensures .0)
+returns c =
+    let put = c .before in
+    let done = put .before .before .before .before .before .before .before in
+    rw (c .opening-number .ensures, put .put-fir .ensures) (done .new .ensures)
 
 pub gauge-raw-fir-decimator-new-spec : {M : Type 1} → statement M
-gauge-raw-fir-decimator-new-spec = tie.close (tie.spec new-requires opening-number-requires returns)
+gauge-raw-fir-decimator-new-spec = tie.close (tie.spec new-requires put-fir-requires opening-number-requires returns)

@@ -11,8 +11,14 @@ use Rattle.gauge_line.proofs.fir_decimator.gauge_raw_fir_decimator_proc
 }
 use Rattle.gauge_line.proofs.fir_decimator.gauge_raw_fir_decimator_process_sample.Tie as tie
 
+fir-requires : tie.Need-fir-requires
+fir-requires c κs = search needs
+
 process-sample-requires : tie.Need-process-sample-requires
 process-sample-requires c κs = search needs
+
+put-fir-requires : tie.Need-put-fir-requires
+put-fir-requires c κs = search needs
 
 fir-made-requires : tie.Need-fir-made-requires
 fir-made-requires c κs = search needs
@@ -26,13 +32,19 @@ fir-number-requires c κs = search needs
 returns : tie.Need-returns
 returns c =
     let f : SFits w16 (c .before .fir-value .result) = record { sfits = c .before .fir-value .ok } in
-    rw (toZ-ofZ f, c .fir-number .ensures, c .before .fir-value .ensures, c .before .before .fir-made .ensures) (ap (crossed (pos 0)) (rw (toZ-ofZ (c .before .before .before .before .before .before .before .before .before .before .before .before .fits .sample)) at (c .before .before .before .before .before .before .process-sample .ensures)))
+    let put = c .before .before .before in
+    let done = put .before .before .before .before .before .before .before in
+    let built = done .before in
+    rw (toZ-ofZ f, c .fir-number .ensures, c .before .fir-value .ensures, c .before .before .fir-made .ensures, put .put-fir .ensures)
+    (ap (crossed (pos 0)) (rw (toZ-ofZ (built .before .before .before .before .before .before .fits .sample), built .fir .ensures) at (done .process-sample .ensures)))
 
 pub gauge-raw-fir-decimator-process-sample-spec : {M : Type 1} → statement M
 gauge-raw-fir-decimator-process-sample-spec =
     tie.close
     (tie.spec
+    fir-requires
     process-sample-requires
+    put-fir-requires
     fir-made-requires
     fir-value-requires
     fir-number-requires

@@ -7,11 +7,39 @@ use Rattle.gauge_line.proofs.gauge_line.gauge_raw_line_open.Tie as tie
 open-requires : tie.Need-open-requires
 open-requires c κs = search needs
 
+put-decimator-requires : tie.Need-put-decimator-requires
+put-decimator-requires c κs = search needs
+
+put-fir-requires : tie.Need-put-fir-requires
+put-fir-requires c κs = search needs
+
+put-stream-requires : tie.Need-put-stream-requires
+put-stream-requires c κs = search needs
+
+put-resampler-requires : tie.Need-put-resampler-requires
+put-resampler-requires c κs = search needs
+
 opening-number-requires : tie.Need-opening-number-requires
 opening-number-requires c κs = search needs
 
 returns : tie.Need-returns
-returns c = rw (c .opening-number .ensures) (c .before .before .before .before .before .before .before .before .before .before .before .before .before .before .before .«open» .ensures)
+returns c =
+    let resampler = c .before in
+    let half-band = resampler .before .before .before .before .before .before .before in
+    let fir = half-band .before .before .before .before .before in
+    let cic = fir .before .before .before .before .before .before in
+    let done = cic .before .before .before .before .before .before .before in
+    rw (c .opening-number .ensures, resampler .put-resampler .ensures, half-band .put-stream .ensures, fir .put-fir .ensures, cic .put-decimator .ensures)
+    (done .«open» .ensures)
 
 pub gauge-raw-line-open-spec : {M : Type 1} → statement M
-gauge-raw-line-open-spec = tie.close (tie.spec open-requires opening-number-requires returns)
+gauge-raw-line-open-spec =
+    tie.close
+    (tie.spec
+    open-requires
+    put-decimator-requires
+    put-fir-requires
+    put-stream-requires
+    put-resampler-requires
+    opening-number-requires
+    returns)

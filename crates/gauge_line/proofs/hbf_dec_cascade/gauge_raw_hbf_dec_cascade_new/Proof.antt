@@ -7,11 +7,23 @@ use Rattle.gauge_line.proofs.hbf_dec_cascade.gauge_raw_hbf_dec_cascade_
 new-requires : tie.Need-new-requires
 new-requires c κs = search needs
 
+put-dec-cascade-requires : tie.Need-put-dec-cascade-requires
+put-dec-cascade-requires c κs = search needs
+
 opening-number-requires : tie.Need-opening-number-requires
 opening-number-requires c κs = search needs
 
 returns : tie.Need-returns
-returns c = rw (c .opening-number .ensures) (c .before .before .before .new .ensures .0)
+returns c =
+    let put = c .before in
+    let done = put .before .before .before .before in
+    rw (c .opening-number .ensures, put .put-dec-cascade .ensures) (done .new .ensures)
 
 pub gauge-raw-hbf-dec-cascade-new-spec : {M : Type 1} → statement M
-gauge-raw-hbf-dec-cascade-new-spec = tie.close (tie.spec new-requires opening-number-requires returns)
+gauge-raw-hbf-dec-cascade-new-spec =
+    tie.close
+    (tie.spec
+    new-requires
+    put-dec-cascade-requires
+    opening-number-requires
+    returns)

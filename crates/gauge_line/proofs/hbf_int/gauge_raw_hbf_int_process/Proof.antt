@@ -4,8 +4,14 @@ use borrow.Author.Needs.{needs}
 use Rattle.gauge_line.proofs.hbf_int.gauge_raw_hbf_int_process.Statement.{statement}
 use Rattle.gauge_line.proofs.hbf_int.gauge_raw_hbf_int_process.Tie as tie
 
+int-requires : tie.Need-int-requires
+int-requires c κs = search needs
+
 process-requires : tie.Need-process-requires
 process-requires c κs = search needs
+
+put-int-requires : tie.Need-put-int-requires
+put-int-requires c κs = search needs
 
 count-written-requires : tie.Need-count-written-requires
 count-written-requires c κs = search needs
@@ -17,9 +23,20 @@ same-length : tie.Need-same-length
 same-length c = search needs
 
 returns : tie.Need-returns
-returns c = rw (c .count-number .ensures, c .before .count-written .ensures) (c .before .before .before .before .before .before .before .process .ensures .0, c .before .before .before .before .before .before .before .process .ensures .1)
+returns c =
+    let put = c .before .before in
+    let done = put .before .before .before .before .before .before .before in
+    let built = done .before .before in
+    rw (c .count-number .ensures, c .before .count-written .ensures, put .put-int .ensures) (rw (built .int .ensures) at (done .process .ensures))
 
 pub gauge-raw-hbf-int-process-spec : {M : Type 1} → statement M
 gauge-raw-hbf-int-process-spec =
     tie.close
-    (tie.spec process-requires count-written-requires count-number-requires same-length returns)
+    (tie.spec
+    int-requires
+    process-requires
+    put-int-requires
+    count-written-requires
+    count-number-requires
+    same-length
+    returns)

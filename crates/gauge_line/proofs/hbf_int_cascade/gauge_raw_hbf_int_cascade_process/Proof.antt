@@ -4,8 +4,14 @@ use borrow.Author.Needs.{needs}
 use Rattle.gauge_line.proofs.hbf_int_cascade.gauge_raw_hbf_int_cascade_process.Statement.{statement}
 use Rattle.gauge_line.proofs.hbf_int_cascade.gauge_raw_hbf_int_cascade_process.Tie as tie
 
+int-cascade-requires : tie.Need-int-cascade-requires
+int-cascade-requires c κs = search needs
+
 process-requires : tie.Need-process-requires
 process-requires c κs = search needs
+
+put-int-cascade-requires : tie.Need-put-int-cascade-requires
+put-int-cascade-requires c κs = search needs
 
 count-written-requires : tie.Need-count-written-requires
 count-written-requires c κs = search needs
@@ -17,9 +23,21 @@ same-length : tie.Need-same-length
 same-length c = search needs
 
 returns : tie.Need-returns
-returns c = rw (c .count-number .ensures, c .before .count-written .ensures) (c .before .before .before .before .before .before .process .ensures .0, c .before .before .before .before .before .before .process .ensures .1)
+returns c =
+    let put = c .before .before in
+    let done = put .before .before .before .before .before .before in
+    let built = done .before .before in
+    rw (c .count-number .ensures, c .before .count-written .ensures, put .put-int-cascade .ensures)
+    (rw (built .int-cascade .ensures) at (done .process .ensures))
 
 pub gauge-raw-hbf-int-cascade-process-spec : {M : Type 1} → statement M
 gauge-raw-hbf-int-cascade-process-spec =
     tie.close
-    (tie.spec process-requires count-written-requires count-number-requires same-length returns)
+    (tie.spec
+    int-cascade-requires
+    process-requires
+    put-int-cascade-requires
+    count-written-requires
+    count-number-requires
+    same-length
+    returns)

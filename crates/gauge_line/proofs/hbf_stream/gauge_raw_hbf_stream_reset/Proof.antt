@@ -4,14 +4,31 @@ use borrow.Author.Needs.{needs}
 use Rattle.gauge_line.proofs.hbf_stream.gauge_raw_hbf_stream_reset.Statement.{statement}
 use Rattle.gauge_line.proofs.hbf_stream.gauge_raw_hbf_stream_reset.Tie as tie
 
+stream-requires : tie.Need-stream-requires
+stream-requires c κs = search needs
+
 reset-requires : tie.Need-reset-requires
 reset-requires c κs = search needs
+
+put-stream-requires : tie.Need-put-stream-requires
+put-stream-requires c κs = search needs
 
 opening-number-requires : tie.Need-opening-number-requires
 opening-number-requires c κs = search needs
 
 returns : tie.Need-returns
-returns c = rw (c .opening-number .ensures) (c .before .before .before .before .before .reset .ensures)
+returns c =
+    let put = c .before in
+    let done = put .before .before .before .before .before .before in
+    let built = done .before in
+    rw (c .opening-number .ensures, put .put-stream .ensures) (rw (built .stream .ensures) at (done .reset .ensures))
 
 pub gauge-raw-hbf-stream-reset-spec : {M : Type 1} → statement M
-gauge-raw-hbf-stream-reset-spec = tie.close (tie.spec reset-requires opening-number-requires returns)
+gauge-raw-hbf-stream-reset-spec =
+    tie.close
+    (tie.spec
+    stream-requires
+    reset-requires
+    put-stream-requires
+    opening-number-requires
+    returns)

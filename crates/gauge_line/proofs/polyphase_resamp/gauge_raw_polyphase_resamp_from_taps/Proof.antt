@@ -9,12 +9,23 @@ use Rattle.gauge_line.proofs.polyphase_resamp.gauge_raw_polyphase_resam
 from-taps-requires : tie.Need-from-taps-requires
 from-taps-requires c κs = search needs
 
+put-resampler-requires : tie.Need-put-resampler-requires
+put-resampler-requires c κs = search needs
+
 opening-number-requires : tie.Need-opening-number-requires
 opening-number-requires c κs = search needs
 
 returns : tie.Need-returns
-returns c = rw (c .opening-number .ensures) (c .before .before .before .before .from-taps .ensures .0)
+returns c =
+    let put = c .before in
+    let done = put .before .before .before .before .before .before .before .before in
+    rw (c .opening-number .ensures, put .put-resampler .ensures) (done .from-taps .ensures)
 
 pub gauge-raw-polyphase-resamp-from-taps-spec : {M : Type 1} → statement M
 gauge-raw-polyphase-resamp-from-taps-spec =
-    tie.close (tie.spec from-taps-requires opening-number-requires returns)
+    tie.close
+    (tie.spec
+    from-taps-requires
+    put-resampler-requires
+    opening-number-requires
+    returns)

@@ -1,6 +1,7 @@
--- `gauge_raw_polyphase_resamp_process_block` meets its contract: it hands over what the layer's `block_at` answers on the lent state.
+-- `gauge_raw_polyphase_resamp_process_block` meets its contract: it hands over what the layer's `block_at` answers on the lent state, and the claims follow from the two equations (`block-kept`).
 use mathlib.Core.Path.{_≡_}
 use borrow.Author.Needs.{needs}
+use Rattle.float.proofs.PolyphaseCalls.{block-kept}
 use Rattle.gauge_line.proofs.polyphase_resamp.gauge_raw_polyphase_resamp_process_block.Statement.{
   statement,
 }
@@ -19,7 +20,9 @@ same-length : tie.Need-same-length
 same-length c = search needs
 
 returns : tie.Need-returns
-returns c = let e = c .before .before .before .before .block-at .ensures in rw (c .count-number .ensures, c .before .count-written .ensures) (e .0, e .1)
+returns c =
+    let e = c .before .before .before .before .block-at .ensures in
+    rw (c .count-number .ensures, c .before .count-written .ensures) (e .0, (e .1, block-kept _ _ _ _ _ (e .0) (e .1)))
 
 pub gauge-raw-polyphase-resamp-process-block-spec : {M : Type 1} → statement M
 gauge-raw-polyphase-resamp-process-block-spec =

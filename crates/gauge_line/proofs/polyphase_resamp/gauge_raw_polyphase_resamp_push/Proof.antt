@@ -1,6 +1,7 @@
--- `gauge_raw_polyphase_resamp_push` meets its contract: it hands over what the layer's `push_at` answers on the lent state.
+-- `gauge_raw_polyphase_resamp_push` meets its contract: it hands over what the layer's `push_at` answers on the lent state, and the claims follow from the two equations (`push-kept`).
 use mathlib.Core.Path.{_≡_}
 use borrow.Author.Needs.{needs}
+use Rattle.float.proofs.PolyphaseCalls.{push-kept}
 use Rattle.gauge_line.proofs.polyphase_resamp.gauge_raw_polyphase_resamp_push.Statement.{statement}
 use Rattle.gauge_line.proofs.polyphase_resamp.gauge_raw_polyphase_resamp_push.Tie as tie
 
@@ -17,7 +18,9 @@ same-length : tie.Need-same-length
 same-length c = search needs
 
 returns : tie.Need-returns
-returns c = let e = c .before .before .before .before .push-at .ensures in rw (c .count-number .ensures, c .before .count-written .ensures) (e .0, e .1)
+returns c =
+    let e = c .before .before .before .before .push-at .ensures in
+    rw (c .count-number .ensures, c .before .count-written .ensures) (e .0, (e .1, push-kept _ _ _ _ _ (e .0) (e .1)))
 
 pub gauge-raw-polyphase-resamp-push-spec : {M : Type 1} → statement M
 gauge-raw-polyphase-resamp-push-spec =

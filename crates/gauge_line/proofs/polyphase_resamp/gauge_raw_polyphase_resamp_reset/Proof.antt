@@ -4,15 +4,31 @@ use borrow.Author.Needs.{needs}
 use Rattle.gauge_line.proofs.polyphase_resamp.gauge_raw_polyphase_resamp_reset.Statement.{statement}
 use Rattle.gauge_line.proofs.polyphase_resamp.gauge_raw_polyphase_resamp_reset.Tie as tie
 
+resampler-requires : tie.Need-resampler-requires
+resampler-requires c κs = search needs
+
 reset-requires : tie.Need-reset-requires
 reset-requires c κs = search needs
+
+put-resampler-requires : tie.Need-put-resampler-requires
+put-resampler-requires c κs = search needs
 
 opening-number-requires : tie.Need-opening-number-requires
 opening-number-requires c κs = search needs
 
 returns : tie.Need-returns
-returns c = rw (c .opening-number .ensures) (c .before .before .before .before .reset .ensures .0)
+returns c =
+    let put = c .before in
+    let done = put .before .before .before .before .before .before .before .before in
+    let built = done .before in
+    rw (c .opening-number .ensures, put .put-resampler .ensures) (rw (built .resampler .ensures) at (done .reset .ensures))
 
 pub gauge-raw-polyphase-resamp-reset-spec : {M : Type 1} → statement M
 gauge-raw-polyphase-resamp-reset-spec =
-    tie.close (tie.spec reset-requires opening-number-requires returns)
+    tie.close
+    (tie.spec
+    resampler-requires
+    reset-requires
+    put-resampler-requires
+    opening-number-requires
+    returns)

@@ -9,7 +9,7 @@ q15-to-f32-requires : tie.Need-q15-to-f32-requires
 q15-to-f32-requires c κs = search needs
 
 returns : tie.Need-returns
-returns c = rw (toZ-ofZ (c .before .fits .bits)) at (c .q15-to-f32 .ensures .0)
+returns c = rw (toZ-ofZ (c .before .fits .bits)) at (c .q15-to-f32 .ensures)
 
 pub gauge-raw-q15-to-f32-spec : {M : Type 1} → statement M
 gauge-raw-q15-to-f32-spec = tie.close (tie.spec q15-to-f32-requires returns)
