@@ -151,6 +151,9 @@ on-so s v =
 pub on-in-limits : (s : PolyphaseResampF32) → isOn s ≡ true → validInLine s ≡ true → inLimits (s .phases) (s .taps) ≡ true
 on-in-limits s o h = on-says s o h .limits
 
+pub on-step : (s : PolyphaseResampF32) → isOn s ≡ true → validInLine s ≡ true → stepInLine (s .step) ≡ true
+on-step s o h = on-says s o h .steps
+
 -- an output that is due, and a consumed value, with the resampler on
 on-passed : (s : PolyphaseResampF32) → ValidOn s → lt (s .mu) one32 ≡ true → ValidOn (passed s)
 unfolding passed ofBits

@@ -44,8 +44,9 @@ begin = record { mu = one32; values = [] }
 unfoldable pub Becomes : ℕ → ℕ → List Float → Float → List Float → List Float → Type 0
 Becomes P T h step xs o = Runs (wholeList P T h step) begin xs o
 
--- What an opening that is not refused claims of its state: no call on it is refused, what it makes of any list is what that list becomes, and with a
--- step of the line every list becomes one
+-- What an opening that is not refused claims of its state: no call on it is refused, and a list that runs through it becomes what 01 says, and the other way
+-- (`whole`, `every`). Both speak of lists that become one. With a step of the line, 1/64 to 64, every list does (`some`). With another step one need not: where
+-- mu + step rounds to mu below 1.0, as at 0.25 with a step of 2^−26, an output is due for ever, and the list has no end.
 pub record Opens (P T : ℕ) (h : List Float) (step : Float) (r : Opened PolyphaseResampF32) : Type 0 where
   pub accepted : r .number ≡ 0 → valid (r .state) ≡ true
   pub whole : r .number ≡ 0 → (xs o : List Float) → Runs resampler (r .state) xs o → Becomes P T h step xs o

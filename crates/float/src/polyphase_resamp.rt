@@ -456,7 +456,8 @@ impl PolyphaseResampF32 {
         }
     }
 
-    // A resampler of P phases and T taps, whose prototype has tap t of phase p at t × P + p. Refused by 12, 13, 14.
+    // A resampler of P phases and T taps, whose prototype has tap t of phase p at t × P + p. Refused by 12, 13, 14. The clause `whole` has outputs for every list
+    // where the step is 1/64 to 64; with a smaller one they need not end.
     pub fn from_taps(phases: usize, taps: usize, prototype: &[f32], step: f32) -> PolyphaseOpening
         ensures answer { λ r. ⌜ R.toldOpening r ≡ R.opening phases taps (now (prototype .entry)) step ⌝ }
         ensures whole { λ r. ⌜ W.Opens phases taps (now (prototype .entry)) step (R.toldOpening r) ⌝ }

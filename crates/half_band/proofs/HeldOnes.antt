@@ -85,6 +85,12 @@ unfolding streamRefusedInLine
 line-refused-says zero counts h e = absurd (omega arith)
 line-refused-says (suc d) counts h e = sym (ap (λ (b : Bool). cond b false (streamRefused (suc d) counts)) (eqb·suc-zero d)) ∙ e
 
+pub line-few : (d : ℕ) (counts : List ℕ) → streamRefusedInLine d counts ≡ false → d ≤ 5
+line-few d counts e = elim (decLe 1 d) [
+  | yes h ↦ refused-says d counts (line-refused-says d counts h e) .few
+  | no h ↦ (let z : d ≤ 5 = omega arith in z)
+]
+
 -- a count of none or one put in
 set-most : (l : List ℕ) (k c j : ℕ) → c ≤ 1 → getD l j 0 ≤ 1 → getD (set l k c) j 0 ≤ 1
 set-most [] k c j h g = g

@@ -20,7 +20,7 @@ use Rattle.half_band.specs.HalfBand.{flat, interpolated, interpolatedBy}
 use Rattle.float.specs.F32.{zero32}
 use Rattle.half_band.specs.HbfTaps.{stageTaps, interpolation}
 use Rattle.half_band.specs.Windows.{slid, intValue, interpolator, spliced}
-use Rattle.half_band.specs.HbfIntCascade.{Upsampled, intStage, upsampled, intCascadeRun, intCascadeAfter, intCascadeFresh, intCascadeRefused, intCascadeCount, intCascadeBlock, intCascadeSpan, joined, intCascadeBlocks, IntCascadeMeets}
+use Rattle.half_band.specs.HbfIntCascade.{Upsampled, intStage, upsampled, intCascadeRun, intCascadeAfter, intCascadeFresh, intCascadeRefused, intCascadeCount, intCascadeBlock, intCascadeSpan, joined, intCascadeLeft, intCascadeBlocks, IntCascadeMeets}
 use Rattle.half_band.specs.declared.hbf_int_cascade.HbfIntCascade.{HbfIntCascade}
 use Rattle.refusal.proofs.Limits.{Between, not-outside}
 use Rattle.half_band.proofs.Choices.{third}
@@ -254,10 +254,16 @@ blocks-joined s (v ∷ vs) h l =
     ∙ sym (run-joined (stageTaps interpolation) int-stages (s .depth) (s .delays) v (joined vs) h l)
     ∙ ap (λ (r : Upsampled). r .outs) (sym (run-of s (v ++ joined vs) h))
 
+-- blocks leave the depth as it is, and nothing else is looked at
+left-fine : (s : HbfIntCascade) (vs : List (List Float)) → intCascadeRefused s ≡ false → intCascadeRefused (intCascadeLeft s vs) ≡ false
+unfolding intCascadeLeft
+left-fine s [] e = e
+left-fine s (v ∷ vs) e = left-fine (intCascadeAfter s v) vs e
+
 pub fresh-meets : (d : ℕ) → Between 1 d 5 → IntCascadeMeets d (intCascadeFresh d)
 fresh-meets d b =
     record {
-      never-refused = λ v. not-outside d 1 5 (b .least) (b .most);
+      never-refused = λ vs. left-fine (intCascadeFresh d) vs (not-outside d 1 5 (b .least) (b .most));
       whole = λ vs.
           blocks-joined (intCascadeFresh d) vs (b .most) (length-replicate 240 zero32)
           ∙ ap (λ (r : Upsampled). r .outs) (run-of (intCascadeFresh d) (joined vs) (b .most))

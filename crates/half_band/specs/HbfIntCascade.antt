@@ -76,14 +76,19 @@ abbrev pub joined : List (List Float) → List Float
 joined [] = []
 joined (v ∷ vs) = v ++ joined vs
 
--- the outputs of blocks one after the other
+-- the cascade after blocks one after the other
+unfoldable pub intCascadeLeft : HbfIntCascade → List (List Float) → HbfIntCascade
+intCascadeLeft s [] = s
+intCascadeLeft s (v ∷ vs) = intCascadeLeft (intCascadeAfter s v) vs
+
+-- and their outputs
 unfoldable pub intCascadeBlocks : HbfIntCascade → List (List Float) → List Float
 intCascadeBlocks s [] = []
 intCascadeBlocks s (v ∷ vs) = intCascadeRun s v .outs ++ intCascadeBlocks (intCascadeAfter s v) vs
 
 -- what an opening of `depth` stages that was not refused gives
 pub record IntCascadeMeets (depth : ℕ) (s : HbfIntCascade) : Type 0 where
-  -- no block after it is refused for its state
-  pub never-refused : (v : List Float) → intCascadeRefused (intCascadeAfter s v) ≡ false
+  -- no block is refused for its state, whatever blocks came before it
+  pub never-refused : (vs : List (List Float)) → intCascadeRefused (intCascadeLeft s vs) ≡ false
   -- the outputs of any blocks are those of each stage run on the whole list of the stage before, from the samples of all blocks joined
   pub whole : (vs : List (List Float)) → intCascadeBlocks s vs ≡ interpolatedBy (stageTaps interpolation) 0 depth (joined vs)

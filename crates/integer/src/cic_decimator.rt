@@ -166,24 +166,6 @@ fn scaled_output_of(sum: CicSum, bits: u32) -> CicOutput
     }
 }
 
-fn assembled(
-    stages: usize,
-    r: usize,
-    integrators: [i32; MAX_STAGES],
-    combs: [i32; MAX_STAGES],
-    sample_counter: usize,
-) -> CicDecimator
-    ensures { λ d. ⌜ d ≡ D.decimatorOf stages r integrators combs «sample_counter» ⌝ }
-{
-    CicDecimator {
-        stages,
-        r,
-        integrator_state: integrators,
-        comb_state: combs,
-        sample_counter,
-    }
-}
-
 // So many sums into the front of dst, from the samples that they take. The stages are held in locals, and the sample that completes a sum stands apart: where r
 // is 1 there is no other.
 fn sums_of(
@@ -417,7 +399,7 @@ impl CicDecimator {
     }
 
     // Samples of src become sums in dst while dst has a place.
-    pub fn process_block(self, src: &[i32], dst: &mut [i32]) -> CicBlock
+    pub fn process_block(mut self, src: &[i32], dst: &mut [i32]) -> CicBlock
         ensures answer { λ b. ⌜ D.toldBlock b ≡ D.block self (now (src .entry)) (length (now (dst .entry))) ⌝ }
         ensures span { λ b. ⌜ now (dst .exit) ≡ D.blockSpan self (now (src .entry)) (now (dst .entry)) ⌝ }
     {
@@ -432,14 +414,13 @@ impl CicDecimator {
             src,
             dst,
         );
+        self.integrator_state = integrators;
+        self.comb_state = combs;
+        self.sample_counter = moved.sample_counter;
         let counts = moved.counts;
-        let state = assembled(
-            self.stages,
-            self.r,
-            integrators,
-            combs,
-            moved.sample_counter,
-        );
-        CicBlock { counts, state }
+        CicBlock {
+            counts,
+            state: self,
+        }
     }
 }

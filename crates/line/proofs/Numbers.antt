@@ -8,21 +8,26 @@ use native.Mathlib.Omega.{arith}
 use lib.Dec.{leb, eqb, eqb·suc-zero}
 use lib.IntN.{ℤ}
 use lib.Ieee.{Float}
+use lib.ListN.{length}
+use lib.Seq.{length-take-le}
+use borrow.Author.Tests.{le-ltb, eq-eqb}
 use Rattle.integer.specs.Gain.{gainBits, mostBits}
 use Rattle.integer.specs.CicDecimator as C
 use Rattle.integer.proofs.Within.{sound}
 use Rattle.q15.specs.FirDecimator as Q
 use Rattle.float.specs.PolyphaseResamp.{inLimits, isOn, validInLine}
-use Rattle.q15.proofs.FirSteps.{valid-few}
+use Rattle.q15.specs.FirDecimator.{settingsNumberInLine}
+use Rattle.q15.proofs.FirSteps.{valid-few, settings-valid}
+use Rattle.half_band.proofs.HeldOnes.{line-few}
 use Rattle.float.proofs.PolyphaseOutput.{limits-say}
-use Rattle.float.proofs.PolyphaseRange.{on-in-limits}
-use Rattle.line.specs.Line.{valid, cicFine, halfBandFine}
+use Rattle.float.proofs.PolyphaseRange.{on-in-limits, on-step}
+use Rattle.line.specs.Line.{valid, cicFine, halfBandFine, cicNumber, depthNumber, resamplerNumber, numberAt, opened, openingOf, reset}
 use Rattle.line.specs.Together.{together, resamplerOf, dueAt, bitsAt, validAt}
 use Rattle.line.specs.Lent.{numbersIn, fixedIn, changingIn}
 use Rattle.line.specs.declared.gauge_line.Line.{Line}
 use Rattle.line.specs.declared.sample.Fixed.{Fixed}
 use Rattle.line.specs.declared.sample.Numbers.{Numbers}
-use Rattle.line.proofs.Flags.{and-left, and-right}
+use Rattle.line.proofs.Flags.{and-left, and-right, not-says}
 use Rattle.line.proofs.Lawful.{to-parts}
 
 pub counter-below : (l : Line) → valid l ≡ true → l .cic .«sample_counter» < l .cic .r
@@ -63,3 +68,43 @@ cells-by l v (suc n) e =
 
 pub few-cells : (l : Line) → valid l ≡ true → l .resampler .phases * l .resampler .taps ≤ 1024
 few-cells l v = cells-by l v (l .resampler .phases) refl
+
+-- a valid line's own settings are none that an opening refuses, where its taps and its prototype lie in its arrays
+cic-fine : (l : Line) → valid l ≡ true → cicNumber (l .cic .stages) (l .cic .r) ≡ 0
+unfolding cicNumber cicFine
+cic-fine l v =
+    let d = l .cic in
+    let h = to-parts l v .0 in
+    let s = sound (d .stages) (d .r) (d .«sample_counter») (and-left (C.valid d) _ h) in
+    let b : leb (gainBits (d .stages) (d .r)) mostBits ≡ true = and-right (C.valid d) _ h in
+    rw (s .stages, s .factor, b)
+
+fir-fine : (l : Line) → valid l ≡ true → settingsNumberInLine (l .fir .«tap_count») (l .fir .factor) ≡ 0
+fir-fine l v = settings-valid (l .fir .«tap_count») (l .fir .factor) (l .fir .wait) (to-parts l v .1 .1 .0)
+
+half-band-fine : (l : Line) → valid l ≡ true → depthNumber (l .«half_band» .depth) ≡ 0
+unfolding depthNumber halfBandFine
+half-band-fine l v = rw (le-ltb 5 (l .«half_band» .depth) (line-few _ _ (not-says _ (to-parts l v .1 .1 .1 .1 .0))))
+
+resampler-fine : (l : Line) → valid l ≡ true → (n : ℕ) → l .resampler .phases ≡ n → resamplerNumber (l .resampler .phases) (l .resampler .taps) (l .resampler .phases * l .resampler .taps) (l .resampler .step) ≡ 0
+unfolding resamplerNumber isOn
+resampler-fine l v zero e = rw e
+resampler-fine l v (suc n) e =
+    let s = l .resampler in
+    let z : eqb (s .phases) 0 ≡ false = ap (λ (k : ℕ). eqb k 0) e ∙ eqb·suc-zero n in
+    let on : isOn s ≡ true = ap not z in
+    let g = to-parts l v .1 .1 .1 .1 .1 in
+    rw (z, on-in-limits s on g, eq-eqb (s .phases * s .taps) _ refl, on-step s on g)
+
+pub reset-opens : (l : Line) → valid l ≡ true → l .fir .«tap_count» ≤ length (l .fir .taps) → l .resampler .phases * l .resampler .taps ≤ length (l .resampler .prototype) → reset l .number ≡ 0
+unfolding reset opened openingOf numberAt
+reset-opens l v t p =
+    rw (
+      v,
+      length-take-le (l .fir .«tap_count») (l .fir .taps) t,
+      length-take-le (l .resampler .phases * l .resampler .taps) (l .resampler .prototype) p,
+      cic-fine l v,
+      fir-fine l v,
+      half-band-fine l v,
+      resampler-fine l v (l .resampler .phases) refl,
+    )

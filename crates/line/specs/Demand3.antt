@@ -53,7 +53,8 @@ pub record Defined (o : Opening) : Type 0 where
   pub some : (w : List ℤ) → (all : List Float) × Outputs o w all
   pub one : (w : List ℤ) (all other : List Float) → Outputs o w all → Outputs o w other → all ≡ other
 
--- the whole claim, of a feed of the line l: whatever it was opened with and whatever feeds led to it
+-- the whole claim, of a feed of the line l: whatever it was opened with and whatever feeds led to it. Of a line to which no feeds lead it says nothing, so alone it
+-- would allow any answer there. A feed's clauses `answer` and `span` hold of every line and leave one answer and one span: with them the claim is exact.
 unfoldable pub Demand3 : Line → List ℤ → List Float → List Float → Outcome Moved Line → Type 0
 Demand3 l xs before after told =
     (o : Opening) (h : History) → opened o .number ≡ 0 → lineOf o h ≡ l

@@ -1,5 +1,6 @@
 // 01, section 6: the gauge line.
 ghost use mathlib.Core.Path.{_≡_};
+ghost use mathlib.Core.Bool.{true};
 ghost use lib.ListN.{length, drop};
 ghost use Rattle.theory.specs.Feeds.{headOf};
 ghost use Rattle.refusal.specs.Outcome.{openingNumber};
@@ -237,7 +238,8 @@ impl Line {
         LineStepped { step, line: self }
     }
 
-    // Steps until stopped. The clause `demand3` is the whole claim over every list of feeds. Refusal 15, and no other.
+    // Steps until stopped. The clause `demand3` is the whole claim over every list of feeds from an opening; alone it leaves a line open that no feeds lead to,
+    // with `answer` and `span` it is exact. Refusal 15, and no other.
     pub fn feed(mut self, samples: &[i32], out: &mut [f32]) -> LineFed
         ensures answer { λ r. ⌜ L.toldFeed r ≡ L.feedOutcome self (now (samples .entry)) (length (now (out .entry))) ⌝ }
         ensures span { λ r. ⌜ now (out .exit) ≡ L.feedSpan self (now (samples .entry)) (now (out .entry)) ⌝ }
@@ -288,9 +290,10 @@ impl Line {
         LineFed { counts, line: self }
     }
 
-    // The fresh opening with the line's own settings, taps and prototype. Refusal 15.
+    // The fresh opening with the line's own settings, taps and prototype. Refusal 15, and no other: a valid line's own settings open.
     pub fn reset(self) -> LineOpened
         ensures answer { λ o. ⌜ L.toldOpening o ≡ L.reset self ⌝ }
+        ensures accepted { λ o. ⌜ (L.valid self ≡ true → openingNumber (o .answer) ≡ 0) ⌝ }
     {
         let n = numbers_in(self);
         let half_band = self.half_band;

@@ -157,7 +157,8 @@ pub fn step_lent(
     }
 }
 
-// Steps until stopped. The clause `demand3` is the whole claim over every list of feeds. Refusal 15, and no other.
+// Steps until stopped. The clause `demand3` is the whole claim over every list of feeds from an opening; alone it leaves a line open that no feeds lead to,
+// with `answer` and `span` it is exact. Refusal 15, and no other.
 pub fn feed_lent(
     n: LineNumbers,
     integrators: &mut [i32; 8],

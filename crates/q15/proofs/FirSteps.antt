@@ -118,6 +118,14 @@ pub line-valid : (T D w : ℕ) → (T ≡ 0 → ⊥) → firValidInLine T D w �
 unfolding firValidInLine
 line-valid T D w n v = rw (ne-eqb T 0 n) at v
 
+-- a valid state has settings that the line takes
+pub settings-valid : (T D w : ℕ) → firValidInLine T D w ≡ true → settingsNumberInLine T D ≡ 0
+unfolding settingsNumberInLine
+settings-valid T D w v = elim (decLe 1 T) [
+  | yes h ↦ (let n : T ≡ 0 → ⊥ = omega arith in rw (ne-eqb T 0 n) (valid-on T D w (line-valid T D w n v) .settings))
+  | no h ↦ (let z : T ≡ 0 = omega arith in rw (eq-eqb T 0 z))
+]
+
 -- a valid state has at most 64 taps
 pub valid-few : (T D w : ℕ) → firValidInLine T D w ≡ true → T ≤ mostTaps
 valid-few T D w v = elim (decLe 1 T) [

@@ -31,10 +31,10 @@ returns-2 : tie.Need-returns-2
 returns-2 c = let d = c .before .before .before .args .depth in
     let in-limits = sym (c .before .before .outside .ensures) ∙ c .before .if1 .left in
     let b = within d 1 5 in-limits in (
-  ap {B = Opened HbfStream} (λ (s : HbfStream). record { number = 0; state = s }) (c .fresh2 .ensures)
-      ∙ other _ (record { number = 11; state = streamFresh 0 }) (record { number = 0; state = streamFresh d }) in-limits,
-  λ z. subst (λ (s : HbfStream). StreamMeets d s) (sym (c .fresh2 .ensures)) (stream-meets d (b .least) (b .most)),
-)
+      ap {B = Opened HbfStream} (λ (s : HbfStream). record { number = 0; state = s }) (c .fresh2 .ensures)
+          ∙ other _ (record { number = 11; state = streamFresh 0 }) (record { number = 0; state = streamFresh d }) in-limits,
+      λ z. subst (λ (s : HbfStream). StreamMeets d s) (sym (c .fresh2 .ensures)) (stream-meets d (b .least) (b .most)),
+    )
 
 pub new-spec : {M : Type 1} → statement M
 new-spec = tie.close (tie.spec outside-requires fresh-requires returns fresh-requires-2 returns-2)

@@ -1,4 +1,4 @@
--- `CicDecimator::process_block` meets its contract: `block_at` does it with the parts of the state, which are put together again.
+-- `CicDecimator::process_block` meets its contract: `block_at` does it with the parts of the state, which are stored back.
 use borrow.Author.Needs.{needs}
 use Rattle.integer.proofs.cic_decimator.CicDecimator.process_block.Statement.{statement}
 use Rattle.integer.proofs.cic_decimator.CicDecimator.process_block.Tie as tie
@@ -6,14 +6,11 @@ use Rattle.integer.proofs.cic_decimator.CicDecimator.process_block.Tie 
 block-at-requires : tie.Need-block-at-requires
 block-at-requires c κs = tt
 
-assembled-requires : tie.Need-assembled-requires
-assembled-requires c κs = tt
-
 same-length : tie.Need-same-length
 same-length c = search needs
 
 returns : tie.Need-returns
-returns c = (rw (c .assembled .ensures) (c .before .before .block-at .ensures .0), c .before .before .block-at .ensures .1)
+returns c = c .before .block-at .ensures
 
 pub process-block-spec : {M : Type 1} → statement M
-process-block-spec = tie.close (tie.spec block-at-requires assembled-requires same-length returns)
+process-block-spec = tie.close (tie.spec block-at-requires same-length returns)

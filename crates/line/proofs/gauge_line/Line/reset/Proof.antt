@@ -1,15 +1,16 @@
 -- `Line::reset` meets its contract: it refuses where the line is not valid, and else opens with the line's own settings, taps and prototype, which lie in its arrays.
-use mathlib.Core.Path.{_≡_, sym, _∙_}
-use mathlib.Core.Bool.{true, false}
+use mathlib.Core.Path.{_≡_, sym, ap, _∙_}
+use mathlib.Core.Bool.{true, false, false≢true}
 use Prim.Native.Nat.{_≤_, _*_}
 use native.Mathlib.Omega.{arith}
 use borrow.Author.Needs.{needs}
 use borrow.Author.Tests.{not-true, not-false}
 use lib.ListN.{length}
 use lib.Seq.{length-take-le}
-use Rattle.line.specs.Line.{valid, openingOf, reset}
+use Rattle.refusal.specs.Outcome.{Opened}
+use Rattle.line.specs.Line.{valid, openingOf, reset, toldOpening}
 use Rattle.line.specs.declared.gauge_line.Line.{Line}
-use Rattle.line.proofs.Numbers.{valid-apart, few-taps, few-cells}
+use Rattle.line.proofs.Numbers.{valid-apart, few-taps, few-cells, reset-opens}
 use Rattle.line.proofs.gauge_line.Line.reset.Statement.{statement}
 use Rattle.line.proofs.gauge_line.Line.reset.Tie as tie
 
@@ -38,7 +39,7 @@ returns : tie.Need-returns
 unfolding reset
 returns c =
     let v : valid (lent (c .before)) ≡ false = sym (tested (c .before)) ∙ not-true _ (c .if1 .taken) in
-    rw v
+    (rw v, λ e. absurd (false≢true (sym v ∙ e)))
 
 prototype-length-requires : tie.Need-prototype-length-requires
 prototype-length-requires c κs = tt
@@ -75,7 +76,11 @@ open-requires c κs = tt
 
 returns-2 : tie.Need-returns-2
 unfolding reset openingOf
-returns-2 c = rw (good (c .before .before .before .before .before .before .before .before .before)) (rw (c .before .before .before .before .before .before .before .before .before .before .before .before .before .before .before .numbers-in .ensures) at (c .«open» .ensures))
+returns-2 c =
+    let last = c .before .before .before in
+    let g = good (last .before .before .before .before .before .before) in
+    let same : toldOpening (c .«open» .result) ≡ reset (lent (last .before .before .before .before .before .before .before)) = rw g (rw (last .before .before .before .before .before .before .before .before .before .before .before .before .numbers-in .ensures) at (c .«open» .ensures)) in
+    (same, λ e. ap (λ (o : Opened Line). o .number) same ∙ reset-opens _ g (taps-inside last) (cells-inside last))
 
 pub reset-spec : {M : Type 1} → statement M
 reset-spec =
