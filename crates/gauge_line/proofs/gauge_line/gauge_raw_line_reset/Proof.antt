@@ -11,7 +11,7 @@ opening-number-requires : tie.Need-opening-number-requires
 opening-number-requires c κs = search needs
 
 returns : tie.Need-returns
-returns c = rw (c .opening-number .ensures) (c .before .before .before .before .before .before .before .before .before .before .before .before .before .before .before .reset .ensures)
+returns c = rw (c .opening-number .ensures) (c .before .before .before .before .before .before .before .before .before .before .before .before .before .before .before .reset .ensures .0)
 
 pub gauge-raw-line-reset-spec : {M : Type 1} → statement M
 gauge-raw-line-reset-spec = tie.close (tie.spec reset-requires opening-number-requires returns)
