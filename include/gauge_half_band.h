@@ -170,8 +170,8 @@ typedef struct {
 
 #define GAUGE_HBF_STREAM_FIELDS(s) &(s)->depth, (s)->delays, (s)->held, (s)->counts
 
-// Opens a cascade of depth 0 to GAUGE_MOST_DEPTH; 0 is off and hands every sample on.
-// Refusals: 11; the state is then all zeros.
+// Opens a cascade of depth 1 to GAUGE_MOST_DEPTH.
+// Refusals: 11; the state is then all zeros, and every call on it answers 15.
 static inline uint64_t GaugeHbfStream_new(GaugeHbfStream *state, uint64_t depth) {
     return gauge_raw_hbf_stream_new(depth, GAUGE_HBF_STREAM_FIELDS(state));
 }

@@ -54,10 +54,8 @@ typedef struct {
 
 #define GAUGE_FIR_DECIMATOR_FIELDS(s) (s)->taps, &(s)->tap_count, &(s)->factor, (s)->delay, &(s)->wait
 
-// Opens a FIR of at most GAUGE_MOST_TAPS taps, which are copied, and a factor of 1 to GAUGE_MOST_FACTOR. No taps mean
-// off: the factor is not looked at, the state is all zeros, and every sample is handed on. So a state whose opening was
-// refused hands samples on too.
-// Refusals: 5, 6; the state is then all zeros.
+// Opens a FIR of 1 to GAUGE_MOST_TAPS taps, which are copied, and a factor of 1 to GAUGE_MOST_FACTOR.
+// Refusals: 5, 6; the state is then all zeros, and every call on it answers 15.
 static inline uint64_t
 GaugeFirDecimator_new(GaugeFirDecimator *state, const int16_t *taps, uint64_t taps_len, uint64_t factor) {
     return gauge_raw_fir_decimator_new(taps, taps_len, factor, GAUGE_FIR_DECIMATOR_FIELDS(state));

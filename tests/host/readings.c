@@ -89,8 +89,8 @@ static void fir_decimator(void) {
     CHECK(GaugeFirDecimator_process_sample(&state, -1, &made, &value) == GAUGE_NOT_REFUSED);
     CHECK(made == 1 && value == -2 && state.wait == 3);
     CHECK(GaugeFirDecimator_reset(&state) == GAUGE_NOT_REFUSED && state.wait == 2 && state.delay[0] == 0);
-    CHECK(GaugeFirDecimator_new(&state, NULL, 0, 0) == GAUGE_NOT_REFUSED);
-    CHECK(GaugeFirDecimator_process_sample(&state, 7, &made, &value) == GAUGE_NOT_REFUSED && made == 1 && value == 7);
+    CHECK(GaugeFirDecimator_new(&state, NULL, 0, 1) == GAUGE_REFUSED_TAPS);
+    CHECK(GaugeFirDecimator_process_sample(&state, 7, &made, &value) == GAUGE_REFUSED_STATE && made == 0 && value == 0);
 }
 
 static void half_band_stages(void) {

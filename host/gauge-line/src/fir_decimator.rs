@@ -14,7 +14,7 @@ pub struct FirDecimator {
 }
 
 impl FirDecimator {
-    /// Opens a FIR of at most 64 taps, which are copied, and a factor of 1 to 4,096. No taps mean off: the factor is not looked at, and every sample is handed on.
+    /// Opens a FIR of 1 to 64 taps, which are copied, and a factor of 1 to 4,096.
     ///
     /// Refused: `FirFactor`, `Taps`.
     pub fn new(taps: &[i16], factor: usize) -> Result<FirDecimator, Refusal> {
@@ -111,9 +111,8 @@ mod tests {
     }
 
     #[test]
-    fn no_taps_mean_off() {
-        let mut state = FirDecimator::new(&[], 0).unwrap();
-        assert_eq!(state.process_sample(5), Ok(Some(5)));
+    fn no_taps_are_refused() {
+        assert_eq!(FirDecimator::new(&[], 1).err(), Some(Refusal::Taps));
     }
 
     #[test]

@@ -13,7 +13,7 @@ pub struct HbfStream {
 }
 
 impl HbfStream {
-    /// Opens a cascade of depth 0 to 5; 0 is off and hands every sample on.
+    /// Opens a cascade of depth 1 to 5.
     ///
     /// Refused: `Depth`.
     pub fn new(depth: usize) -> Result<HbfStream, Refusal> {
