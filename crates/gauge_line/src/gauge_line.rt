@@ -1,5 +1,6 @@
 // The gauge line: the fields of its decimator, its FIR, its half-band stages and its resampler, in this order.
 ghost use mathlib.Core.Path.{_≡_};
+ghost use mathlib.Core.Bool.{true};
 ghost use lib.Dec.{ltb};
 ghost use lib.ListN.{length, drop};
 ghost use Rattle.theory.specs.Feeds.{headOf};
@@ -132,6 +133,9 @@ pub extern "C" fn gauge_raw_line_reset(
         let before = lineAt entry stages r integrators combs «sample_counter» taps «tap_count» factor «fir_delay» wait depth delays held counts phases «phase_taps» mu step delay prototype in
         let after = lineAt exit stages r integrators combs «sample_counter» taps «tap_count» factor «fir_delay» wait depth delays held counts phases «phase_taps» mu step delay prototype in
         record { number = n; state = after } ≡ L.reset before) ⌝ }
+    ensures accepted { λ n. ⌜ (
+        let before = lineAt entry stages r integrators combs «sample_counter» taps «tap_count» factor «fir_delay» wait depth delays held counts phases «phase_taps» mu step delay prototype in
+        L.valid before ≡ true → n ≡ 0) ⌝ }
 {
     let line = Line {
         cic: decimator(*stages, *r, *integrators, *combs, *sample_counter),

@@ -65,7 +65,8 @@ fn all_delays(a: [f32; 480])
     ensures { λ _. ⌜ length a ≡ 480 ⌝ }
 {}
 
-// A sample into the first `depth` stages, or all five: held at a stage, or made into an output by all.
+// A sample into the first `depth` stages, or all five: held at a stage, or made into an output by all. A leaf for the line, which has looked at the numbers: it
+// refuses nothing.
 pub fn hbf_stream_at(
     depth: usize,
     delays: &mut [f32; 480],
