@@ -44,12 +44,13 @@ returns c =
     let lent-resampler = done .before in
     let lent-half-band = lent-resampler .before .before .before .before .before in
     let lent-fir = lent-half-band .before .before .before .before .before in
-    let lent-cic = lent-fir .before .before .before .before .before .before in
-    (rw (c .opening-number .ensures, resampler .put-resampler .ensures, half-band .put-stream .ensures, fir .put-fir .ensures, cic .put-decimator .ensures)
-    (rw (lent-resampler .resampler .ensures, lent-half-band .stream .ensures, lent-fir .fir .ensures, lent-cic .decimator .ensures) at (done .reset .ensures .0)),
-    λ valid.
-    c .opening-number .ensures
-    ∙ rw (lent-resampler .resampler .ensures, lent-half-band .stream .ensures, lent-fir .fir .ensures, lent-cic .decimator .ensures) at (done .reset .ensures .1) valid)
+    let lent-cic = lent-fir .before .before .before .before .before .before in (
+      rw (c .opening-number .ensures, resampler .put-resampler .ensures, half-band .put-stream .ensures, fir .put-fir .ensures, cic .put-decimator .ensures)
+          (rw (lent-resampler .resampler .ensures, lent-half-band .stream .ensures, lent-fir .fir .ensures, lent-cic .decimator .ensures) at (done .reset .ensures .0)),
+      λ valid.
+          c .opening-number .ensures
+          ∙ rw (lent-resampler .resampler .ensures, lent-half-band .stream .ensures, lent-fir .fir .ensures, lent-cic .decimator .ensures) at (done .reset .ensures .1) valid,
+    )
 
 pub gauge-raw-line-reset-spec : {M : Type 1} → statement M
 gauge-raw-line-reset-spec =
