@@ -223,7 +223,8 @@ fn interpolate_within(
     blended(prototype, delay, phases, taps, p0, 0, f)
 }
 
-// One output at mu, of the prototype and the delay that are lent. Where P or T is outside its limits, 0.0.
+// One output at mu, of the prototype and the delay that are lent. Where P or T is outside its limits, 0.0. A leaf for the line, which has looked at the numbers:
+// it refuses nothing.
 pub fn interpolate(
     prototype: &[f32; MOST_CELLS],
     delay: &[f32; MOST_TAPS],
@@ -325,7 +326,8 @@ fn run(
     }
 }
 
-// What is due from mu on is written from the place `from` of dst on, as long as it has a place. Where P or T is outside its limits, nothing.
+// What is due from mu on is written from the place `from` of dst on, as long as it has a place. Where P or T is outside its limits, nothing. A leaf for `push_at`
+// and the line, which have looked at the numbers: it refuses nothing.
 pub fn write_due(
     prototype: &[f32; MOST_CELLS],
     delay: &[f32; MOST_TAPS],
@@ -442,7 +444,7 @@ impl PolyphaseResampF32 {
         }
     }
 
-    // The state of an opening: mu is 1.0 and every delay zero.
+    // The state of an opening: mu is 1.0 and every delay zero. A leaf for `from_taps` and the line's opening, which have looked at the settings: it refuses nothing.
     pub fn fresh(phases: usize, taps: usize, prototype: &[f32], step: f32) -> Self
         ensures { λ r. ⌜ r ≡ R.fresh phases taps (now (prototype .entry)) step ⌝ }
     {

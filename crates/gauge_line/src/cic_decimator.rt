@@ -23,6 +23,7 @@ use crate::states::decimator;
 use crate::states::put_decimator;
 use integer::CicDecimator;
 use integer::cic_decimator::block_at;
+use integer::limits::MAX_STAGES;
 
 #[no_mangle]
 pub extern "C" fn gauge_raw_cic_decimator_new(
@@ -30,8 +31,8 @@ pub extern "C" fn gauge_raw_cic_decimator_new(
     wanted_r: usize,
     stages: &mut usize,
     r: &mut usize,
-    integrators: &mut [i32; 8],
-    combs: &mut [i32; 8],
+    integrators: &mut [i32; MAX_STAGES],
+    combs: &mut [i32; MAX_STAGES],
     sample_counter: &mut usize,
 ) -> usize
     ensures answer { λ n. ⌜ record { number = n; state = decimatorAt exit stages r integrators combs «sample_counter» } ≡ opening D.fresh «wanted_stages» «wanted_r» ⌝ }
@@ -48,8 +49,8 @@ pub extern "C" fn gauge_raw_cic_decimator_new(
 pub extern "C" fn gauge_raw_cic_decimator_gain(
     stages: usize,
     r: usize,
-    integrators: &[i32; 8],
-    combs: &[i32; 8],
+    integrators: &[i32; MAX_STAGES],
+    combs: &[i32; MAX_STAGES],
     sample_counter: usize,
     gain: &mut u64,
 ) -> usize
@@ -65,8 +66,8 @@ pub extern "C" fn gauge_raw_cic_decimator_gain(
 pub extern "C" fn gauge_raw_cic_decimator_gain_bits(
     stages: usize,
     r: usize,
-    integrators: &[i32; 8],
-    combs: &[i32; 8],
+    integrators: &[i32; MAX_STAGES],
+    combs: &[i32; MAX_STAGES],
     sample_counter: usize,
     bits: &mut u32,
 ) -> usize
@@ -83,8 +84,8 @@ pub extern "C" fn gauge_raw_cic_decimator_gain_bits(
 pub extern "C" fn gauge_raw_cic_decimator_process_sample(
     stages: &mut usize,
     r: &mut usize,
-    integrators: &mut [i32; 8],
-    combs: &mut [i32; 8],
+    integrators: &mut [i32; MAX_STAGES],
+    combs: &mut [i32; MAX_STAGES],
     sample_counter: &mut usize,
     input: i32,
     made: &mut usize,
@@ -109,8 +110,8 @@ pub extern "C" fn gauge_raw_cic_decimator_process_sample(
 pub extern "C" fn gauge_raw_cic_decimator_process_sample_scaled(
     stages: &mut usize,
     r: &mut usize,
-    integrators: &mut [i32; 8],
-    combs: &mut [i32; 8],
+    integrators: &mut [i32; MAX_STAGES],
+    combs: &mut [i32; MAX_STAGES],
     sample_counter: &mut usize,
     input: i32,
     made: &mut usize,
@@ -135,8 +136,8 @@ pub extern "C" fn gauge_raw_cic_decimator_process_sample_scaled(
 pub extern "C" fn gauge_raw_cic_decimator_process_block(
     stages: &mut usize,
     r: &mut usize,
-    integrators: &mut [i32; 8],
-    combs: &mut [i32; 8],
+    integrators: &mut [i32; MAX_STAGES],
+    combs: &mut [i32; MAX_STAGES],
     sample_counter: &mut usize,
     src: &[i32],
     dst: &mut [i32],

@@ -16,6 +16,7 @@ use crate::states::interpolator;
 use crate::states::put_interpolator;
 use integer::CicInterpolator;
 use integer::cic_interpolator::sample_at;
+use integer::limits::MAX_STAGES;
 
 #[no_mangle]
 pub extern "C" fn gauge_raw_cic_interpolator_new(
@@ -23,8 +24,8 @@ pub extern "C" fn gauge_raw_cic_interpolator_new(
     wanted_r: usize,
     stages: &mut usize,
     r: &mut usize,
-    combs: &mut [i32; 8],
-    integrators: &mut [i32; 8],
+    combs: &mut [i32; MAX_STAGES],
+    integrators: &mut [i32; MAX_STAGES],
 ) -> usize
     ensures answer { λ n. ⌜ record { number = n; state = interpolatorAt exit stages r combs integrators } ≡ opening I.fresh «wanted_stages» «wanted_r» ⌝ }
     ensures stream { λ n. ⌜ (n ≡ 0 → I.Streams «wanted_stages» «wanted_r» (interpolatorAt exit stages r combs integrators)) ⌝ }
@@ -40,8 +41,8 @@ pub extern "C" fn gauge_raw_cic_interpolator_new(
 pub extern "C" fn gauge_raw_cic_interpolator_gain(
     stages: usize,
     r: usize,
-    combs: &[i32; 8],
-    integrators: &[i32; 8],
+    combs: &[i32; MAX_STAGES],
+    integrators: &[i32; MAX_STAGES],
     gain: &mut u64,
 ) -> usize
     ensures answer { λ n. ⌜ record { number = n; value = now (gain .exit) } ≡ onState (I.validAt stages r) (gainOf (stages - 1) r) ⌝ }
@@ -56,8 +57,8 @@ pub extern "C" fn gauge_raw_cic_interpolator_gain(
 pub extern "C" fn gauge_raw_cic_interpolator_gain_bits(
     stages: usize,
     r: usize,
-    combs: &[i32; 8],
-    integrators: &[i32; 8],
+    combs: &[i32; MAX_STAGES],
+    integrators: &[i32; MAX_STAGES],
     bits: &mut u32,
 ) -> usize
     ensures answer { λ n. ⌜ record { number = n; value = now (bits .exit) } ≡ onState (I.validAt stages r) (gainBits (stages - 1) r) ⌝ }
@@ -73,8 +74,8 @@ pub extern "C" fn gauge_raw_cic_interpolator_gain_bits(
 pub extern "C" fn gauge_raw_cic_interpolator_process_sample(
     stages: &mut usize,
     r: &mut usize,
-    combs: &mut [i32; 8],
-    integrators: &mut [i32; 8],
+    combs: &mut [i32; MAX_STAGES],
+    integrators: &mut [i32; MAX_STAGES],
     input: i32,
     out_buf: &mut [i32],
     written: &mut usize,

@@ -11,16 +11,17 @@ use crate::answers::opening_number;
 use crate::states::fir;
 use crate::states::put_fir;
 use q15::FirDecimator;
+use q15::MOST_TAPS;
 use q15::Q15;
 
 #[no_mangle]
 pub extern "C" fn gauge_raw_fir_decimator_new(
     wanted_taps: &[i16],
     wanted_factor: usize,
-    taps: &mut [i16; 64],
+    taps: &mut [i16; MOST_TAPS],
     tap_count: &mut usize,
     factor: &mut usize,
-    delay: &mut [i16; 64],
+    delay: &mut [i16; MOST_TAPS],
     wait: &mut usize,
 ) -> usize
     ensures answer { λ n. ⌜ record { number = n; state = firAt exit taps «tap_count» factor delay wait } ≡ firOpened (now («wanted_taps» .entry)) «wanted_factor» ⌝ }
@@ -35,10 +36,10 @@ pub extern "C" fn gauge_raw_fir_decimator_new(
 
 #[no_mangle]
 pub extern "C" fn gauge_raw_fir_decimator_reset(
-    taps: &mut [i16; 64],
+    taps: &mut [i16; MOST_TAPS],
     tap_count: &mut usize,
     factor: &mut usize,
-    delay: &mut [i16; 64],
+    delay: &mut [i16; MOST_TAPS],
     wait: &mut usize,
 ) -> usize
     ensures answer { λ n. ⌜ (
@@ -56,10 +57,10 @@ pub extern "C" fn gauge_raw_fir_decimator_reset(
 
 #[no_mangle]
 pub extern "C" fn gauge_raw_fir_decimator_process_sample(
-    taps: &mut [i16; 64],
+    taps: &mut [i16; MOST_TAPS],
     tap_count: &mut usize,
     factor: &mut usize,
-    delay: &mut [i16; 64],
+    delay: &mut [i16; MOST_TAPS],
     wait: &mut usize,
     sample: i16,
     made: &mut usize,

@@ -1,5 +1,6 @@
 // The gauge line: the fields of its decimator, its FIR, its half-band stages and its resampler, in this order.
 ghost use mathlib.Core.Path.{_≡_};
+ghost use mathlib.Core.Bool.{true};
 ghost use lib.Dec.{ltb};
 ghost use lib.ListN.{length, drop};
 ghost use Rattle.theory.specs.Feeds.{headOf};
@@ -26,11 +27,17 @@ use crate::states::put_resampler;
 use crate::states::put_stream;
 use crate::states::resampler;
 use crate::states::stream;
+use float::polyphase_resamp::MOST_CELLS;
+use float::polyphase_resamp::MOST_TAPS as MOST_PHASE_TAPS;
+use half_band::DEC_CASCADE_DELAYS;
+use half_band::MOST_STAGES;
+use integer::limits::MAX_STAGES;
 use line::Line;
 use line::LineNumbers;
 use line::Settings;
 use line::feed_lent;
 use line::step_lent;
+use q15::MOST_TAPS;
 
 #[no_mangle]
 pub extern "C" fn gauge_raw_line_open(
@@ -45,24 +52,24 @@ pub extern "C" fn gauge_raw_line_open(
     wanted_prototype: &[f32],
     stages: &mut usize,
     r: &mut usize,
-    integrators: &mut [i32; 8],
-    combs: &mut [i32; 8],
+    integrators: &mut [i32; MAX_STAGES],
+    combs: &mut [i32; MAX_STAGES],
     sample_counter: &mut usize,
-    taps: &mut [i16; 64],
+    taps: &mut [i16; MOST_TAPS],
     tap_count: &mut usize,
     factor: &mut usize,
-    fir_delay: &mut [i16; 64],
+    fir_delay: &mut [i16; MOST_TAPS],
     wait: &mut usize,
     depth: &mut usize,
-    delays: &mut [f32; 480],
-    held: &mut [f32; 5],
-    counts: &mut [usize; 5],
+    delays: &mut [f32; DEC_CASCADE_DELAYS],
+    held: &mut [f32; MOST_STAGES],
+    counts: &mut [usize; MOST_STAGES],
     phases: &mut usize,
     phase_taps: &mut usize,
     mu: &mut f32,
     step: &mut f32,
-    delay: &mut [f32; 16],
-    prototype: &mut [f32; 1024],
+    delay: &mut [f32; MOST_PHASE_TAPS],
+    prototype: &mut [f32; MOST_CELLS],
 ) -> usize
     ensures answer { λ n. ⌜ (
         let settings : Settings = record {
@@ -109,29 +116,32 @@ pub extern "C" fn gauge_raw_line_open(
 pub extern "C" fn gauge_raw_line_reset(
     stages: &mut usize,
     r: &mut usize,
-    integrators: &mut [i32; 8],
-    combs: &mut [i32; 8],
+    integrators: &mut [i32; MAX_STAGES],
+    combs: &mut [i32; MAX_STAGES],
     sample_counter: &mut usize,
-    taps: &mut [i16; 64],
+    taps: &mut [i16; MOST_TAPS],
     tap_count: &mut usize,
     factor: &mut usize,
-    fir_delay: &mut [i16; 64],
+    fir_delay: &mut [i16; MOST_TAPS],
     wait: &mut usize,
     depth: &mut usize,
-    delays: &mut [f32; 480],
-    held: &mut [f32; 5],
-    counts: &mut [usize; 5],
+    delays: &mut [f32; DEC_CASCADE_DELAYS],
+    held: &mut [f32; MOST_STAGES],
+    counts: &mut [usize; MOST_STAGES],
     phases: &mut usize,
     phase_taps: &mut usize,
     mu: &mut f32,
     step: &mut f32,
-    delay: &mut [f32; 16],
-    prototype: &mut [f32; 1024],
+    delay: &mut [f32; MOST_PHASE_TAPS],
+    prototype: &mut [f32; MOST_CELLS],
 ) -> usize
     ensures answer { λ n. ⌜ (
         let before = lineAt entry stages r integrators combs «sample_counter» taps «tap_count» factor «fir_delay» wait depth delays held counts phases «phase_taps» mu step delay prototype in
         let after = lineAt exit stages r integrators combs «sample_counter» taps «tap_count» factor «fir_delay» wait depth delays held counts phases «phase_taps» mu step delay prototype in
         record { number = n; state = after } ≡ L.reset before) ⌝ }
+    ensures accepted { λ n. ⌜ (
+        let before = lineAt entry stages r integrators combs «sample_counter» taps «tap_count» factor «fir_delay» wait depth delays held counts phases «phase_taps» mu step delay prototype in
+        L.valid before ≡ true → n ≡ 0) ⌝ }
 {
     let line = Line {
         cic: decimator(*stages, *r, *integrators, *combs, *sample_counter),
@@ -162,24 +172,24 @@ pub extern "C" fn gauge_raw_line_reset(
 pub extern "C" fn gauge_raw_line_step(
     stages: &mut usize,
     r: &mut usize,
-    integrators: &mut [i32; 8],
-    combs: &mut [i32; 8],
+    integrators: &mut [i32; MAX_STAGES],
+    combs: &mut [i32; MAX_STAGES],
     sample_counter: &mut usize,
-    taps: &mut [i16; 64],
+    taps: &mut [i16; MOST_TAPS],
     tap_count: &mut usize,
     factor: &mut usize,
-    fir_delay: &mut [i16; 64],
+    fir_delay: &mut [i16; MOST_TAPS],
     wait: &mut usize,
     depth: &mut usize,
-    delays: &mut [f32; 480],
-    held: &mut [f32; 5],
-    counts: &mut [usize; 5],
+    delays: &mut [f32; DEC_CASCADE_DELAYS],
+    held: &mut [f32; MOST_STAGES],
+    counts: &mut [usize; MOST_STAGES],
     phases: &mut usize,
     phase_taps: &mut usize,
     mu: &mut f32,
     step: &mut f32,
-    delay: &mut [f32; 16],
-    prototype: &mut [f32; 1024],
+    delay: &mut [f32; MOST_PHASE_TAPS],
+    prototype: &mut [f32; MOST_CELLS],
     samples: &[i32],
     at: usize,
     places: usize,
@@ -245,24 +255,24 @@ pub extern "C" fn gauge_raw_line_step(
 pub extern "C" fn gauge_raw_line_feed(
     stages: &mut usize,
     r: &mut usize,
-    integrators: &mut [i32; 8],
-    combs: &mut [i32; 8],
+    integrators: &mut [i32; MAX_STAGES],
+    combs: &mut [i32; MAX_STAGES],
     sample_counter: &mut usize,
-    taps: &mut [i16; 64],
+    taps: &mut [i16; MOST_TAPS],
     tap_count: &mut usize,
     factor: &mut usize,
-    fir_delay: &mut [i16; 64],
+    fir_delay: &mut [i16; MOST_TAPS],
     wait: &mut usize,
     depth: &mut usize,
-    delays: &mut [f32; 480],
-    held: &mut [f32; 5],
-    counts: &mut [usize; 5],
+    delays: &mut [f32; DEC_CASCADE_DELAYS],
+    held: &mut [f32; MOST_STAGES],
+    counts: &mut [usize; MOST_STAGES],
     phases: &mut usize,
     phase_taps: &mut usize,
     mu: &mut f32,
     step: &mut f32,
-    delay: &mut [f32; 16],
-    prototype: &mut [f32; 1024],
+    delay: &mut [f32; MOST_PHASE_TAPS],
+    prototype: &mut [f32; MOST_CELLS],
     samples: &[i32],
     out: &mut [f32],
     taken: &mut usize,

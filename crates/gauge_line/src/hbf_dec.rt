@@ -10,14 +10,16 @@ use crate::answers::pair_number;
 use crate::answers::pair_value;
 use crate::states::dec;
 use crate::states::put_dec;
+use half_band::DEC_DELAYS;
 use half_band::HbfDec;
+use half_band::MOST_HALF_BAND_TAPS;
 
 #[no_mangle]
 pub extern "C" fn gauge_raw_hbf_dec_new(
     taps: &[f32],
     m: &mut usize,
-    coeffs: &mut [f32; 23],
-    delay: &mut [f32; 96],
+    coeffs: &mut [f32; MOST_HALF_BAND_TAPS],
+    delay: &mut [f32; DEC_DELAYS],
 ) -> usize
     ensures answer { λ n. ⌜ record { number = n; state = decAt exit m coeffs delay } ≡ decOpening (now (taps .entry)) ⌝ }
     ensures meets { λ n. ⌜ (n ≡ 0 → DecMeets (now (taps .entry)) (decAt exit m coeffs delay)) ⌝ }
@@ -32,8 +34,8 @@ pub extern "C" fn gauge_raw_hbf_dec_new(
 #[no_mangle]
 pub extern "C" fn gauge_raw_hbf_dec_reset(
     m: &mut usize,
-    coeffs: &mut [f32; 23],
-    delay: &mut [f32; 96],
+    coeffs: &mut [f32; MOST_HALF_BAND_TAPS],
+    delay: &mut [f32; DEC_DELAYS],
 ) -> usize
     ensures answer { λ n. ⌜ record { number = n; state = decAt exit m coeffs delay } ≡ decReset (decAt entry m coeffs delay) ⌝ }
 {
@@ -48,8 +50,8 @@ pub extern "C" fn gauge_raw_hbf_dec_reset(
 #[no_mangle]
 pub extern "C" fn gauge_raw_hbf_dec_process_pair(
     m: &mut usize,
-    coeffs: &mut [f32; 23],
-    delay: &mut [f32; 96],
+    coeffs: &mut [f32; MOST_HALF_BAND_TAPS],
+    delay: &mut [f32; DEC_DELAYS],
     a: f32,
     b: f32,
     value: &mut f32,
@@ -71,8 +73,8 @@ pub extern "C" fn gauge_raw_hbf_dec_process_pair(
 #[no_mangle]
 pub extern "C" fn gauge_raw_hbf_dec_process(
     m: &mut usize,
-    coeffs: &mut [f32; 23],
-    delay: &mut [f32; 96],
+    coeffs: &mut [f32; MOST_HALF_BAND_TAPS],
+    delay: &mut [f32; DEC_DELAYS],
     src: &[f32],
     dst: &mut [f32],
     written: &mut usize,

@@ -8,13 +8,14 @@ use crate::answers::count_written;
 use crate::answers::opening_number;
 use crate::states::dec_cascade;
 use crate::states::put_dec_cascade;
+use half_band::DEC_CASCADE_DELAYS;
 use half_band::HbfDecCascade;
 
 #[no_mangle]
 pub extern "C" fn gauge_raw_hbf_dec_cascade_new(
     wanted_depth: usize,
     depth: &mut usize,
-    delays: &mut [f32; 480],
+    delays: &mut [f32; DEC_CASCADE_DELAYS],
 ) -> usize
     ensures answer { λ n. ⌜ record { number = n; state = decCascadeAt exit depth delays } ≡ decCascadeOpening «wanted_depth» ⌝ }
     ensures meets { λ n. ⌜ (n ≡ 0 → DecCascadeMeets «wanted_depth» (decCascadeAt exit depth delays)) ⌝ }
@@ -29,7 +30,7 @@ pub extern "C" fn gauge_raw_hbf_dec_cascade_new(
 #[no_mangle]
 pub extern "C" fn gauge_raw_hbf_dec_cascade_reset(
     depth: &mut usize,
-    delays: &mut [f32; 480],
+    delays: &mut [f32; DEC_CASCADE_DELAYS],
 ) -> usize
     ensures answer { λ n. ⌜ record { number = n; state = decCascadeAt exit depth delays } ≡ decCascadeReset (decCascadeAt entry depth delays) ⌝ }
 {
@@ -44,7 +45,7 @@ pub extern "C" fn gauge_raw_hbf_dec_cascade_reset(
 #[no_mangle]
 pub extern "C" fn gauge_raw_hbf_dec_cascade_process(
     depth: &mut usize,
-    delays: &mut [f32; 480],
+    delays: &mut [f32; DEC_CASCADE_DELAYS],
     src: &[f32],
     dst: &mut [f32],
     written: &mut usize,

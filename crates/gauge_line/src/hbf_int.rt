@@ -12,13 +12,15 @@ use crate::answers::opening_number;
 use crate::states::int;
 use crate::states::put_int;
 use half_band::HbfInt;
+use half_band::INT_DELAYS;
+use half_band::MOST_HALF_BAND_TAPS;
 
 #[no_mangle]
 pub extern "C" fn gauge_raw_hbf_int_new(
     taps: &[f32],
     m: &mut usize,
-    coeffs: &mut [f32; 23],
-    delay: &mut [f32; 48],
+    coeffs: &mut [f32; MOST_HALF_BAND_TAPS],
+    delay: &mut [f32; INT_DELAYS],
 ) -> usize
     ensures answer { λ n. ⌜ record { number = n; state = intAt exit m coeffs delay } ≡ intOpening (now (taps .entry)) ⌝ }
     ensures meets { λ n. ⌜ (n ≡ 0 → IntMeets (now (taps .entry)) (intAt exit m coeffs delay)) ⌝ }
@@ -33,8 +35,8 @@ pub extern "C" fn gauge_raw_hbf_int_new(
 #[no_mangle]
 pub extern "C" fn gauge_raw_hbf_int_reset(
     m: &mut usize,
-    coeffs: &mut [f32; 23],
-    delay: &mut [f32; 48],
+    coeffs: &mut [f32; MOST_HALF_BAND_TAPS],
+    delay: &mut [f32; INT_DELAYS],
 ) -> usize
     ensures answer { λ n. ⌜ record { number = n; state = intAt exit m coeffs delay } ≡ intReset (intAt entry m coeffs delay) ⌝ }
 {
@@ -49,8 +51,8 @@ pub extern "C" fn gauge_raw_hbf_int_reset(
 #[no_mangle]
 pub extern "C" fn gauge_raw_hbf_int_process_sample(
     m: &mut usize,
-    coeffs: &mut [f32; 23],
-    delay: &mut [f32; 48],
+    coeffs: &mut [f32; MOST_HALF_BAND_TAPS],
+    delay: &mut [f32; INT_DELAYS],
     x: f32,
     even: &mut f32,
     odd: &mut f32,
@@ -73,8 +75,8 @@ pub extern "C" fn gauge_raw_hbf_int_process_sample(
 #[no_mangle]
 pub extern "C" fn gauge_raw_hbf_int_process(
     m: &mut usize,
-    coeffs: &mut [f32; 23],
-    delay: &mut [f32; 48],
+    coeffs: &mut [f32; MOST_HALF_BAND_TAPS],
+    delay: &mut [f32; INT_DELAYS],
     src: &[f32],
     dst: &mut [f32],
     written: &mut usize,

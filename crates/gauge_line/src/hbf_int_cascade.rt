@@ -9,12 +9,13 @@ use crate::answers::opening_number;
 use crate::states::int_cascade;
 use crate::states::put_int_cascade;
 use half_band::HbfIntCascade;
+use half_band::INT_CASCADE_DELAYS;
 
 #[no_mangle]
 pub extern "C" fn gauge_raw_hbf_int_cascade_new(
     wanted_depth: usize,
     depth: &mut usize,
-    delays: &mut [f32; 240],
+    delays: &mut [f32; INT_CASCADE_DELAYS],
 ) -> usize
     ensures answer { λ n. ⌜ record { number = n; state = intCascadeAt exit depth delays } ≡ intCascadeOpening «wanted_depth» ⌝ }
     ensures meets { λ n. ⌜ (n ≡ 0 → IntCascadeMeets «wanted_depth» (intCascadeAt exit depth delays)) ⌝ }
@@ -29,7 +30,7 @@ pub extern "C" fn gauge_raw_hbf_int_cascade_new(
 #[no_mangle]
 pub extern "C" fn gauge_raw_hbf_int_cascade_reset(
     depth: &mut usize,
-    delays: &mut [f32; 240],
+    delays: &mut [f32; INT_CASCADE_DELAYS],
 ) -> usize
     ensures answer { λ n. ⌜ record { number = n; state = intCascadeAt exit depth delays } ≡ intCascadeReset (intCascadeAt entry depth delays) ⌝ }
 {
@@ -44,7 +45,7 @@ pub extern "C" fn gauge_raw_hbf_int_cascade_reset(
 #[no_mangle]
 pub extern "C" fn gauge_raw_hbf_int_cascade_process(
     depth: &mut usize,
-    delays: &mut [f32; 240],
+    delays: &mut [f32; INT_CASCADE_DELAYS],
     src: &[f32],
     dst: &mut [f32],
     written: &mut usize,

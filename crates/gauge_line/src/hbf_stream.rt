@@ -10,15 +10,17 @@ use crate::answers::stream_number;
 use crate::answers::stream_value;
 use crate::states::put_stream;
 use crate::states::stream;
+use half_band::DEC_CASCADE_DELAYS;
 use half_band::HbfStream;
+use half_band::MOST_STAGES;
 
 #[no_mangle]
 pub extern "C" fn gauge_raw_hbf_stream_new(
     wanted_depth: usize,
     depth: &mut usize,
-    delays: &mut [f32; 480],
-    held: &mut [f32; 5],
-    counts: &mut [usize; 5],
+    delays: &mut [f32; DEC_CASCADE_DELAYS],
+    held: &mut [f32; MOST_STAGES],
+    counts: &mut [usize; MOST_STAGES],
 ) -> usize
     ensures answer { λ n. ⌜ record { number = n; state = streamAt exit depth delays held counts } ≡ streamOpening «wanted_depth» ⌝ }
     ensures meets { λ n. ⌜ (n ≡ 0 → StreamMeets «wanted_depth» (streamAt exit depth delays held counts)) ⌝ }
@@ -33,9 +35,9 @@ pub extern "C" fn gauge_raw_hbf_stream_new(
 #[no_mangle]
 pub extern "C" fn gauge_raw_hbf_stream_reset(
     depth: &mut usize,
-    delays: &mut [f32; 480],
-    held: &mut [f32; 5],
-    counts: &mut [usize; 5],
+    delays: &mut [f32; DEC_CASCADE_DELAYS],
+    held: &mut [f32; MOST_STAGES],
+    counts: &mut [usize; MOST_STAGES],
 ) -> usize
     ensures answer { λ n. ⌜ record { number = n; state = streamAt exit depth delays held counts } ≡ streamReset (streamAt entry depth delays held counts) ⌝ }
 {
@@ -50,9 +52,9 @@ pub extern "C" fn gauge_raw_hbf_stream_reset(
 #[no_mangle]
 pub extern "C" fn gauge_raw_hbf_stream_process_sample(
     depth: &mut usize,
-    delays: &mut [f32; 480],
-    held: &mut [f32; 5],
-    counts: &mut [usize; 5],
+    delays: &mut [f32; DEC_CASCADE_DELAYS],
+    held: &mut [f32; MOST_STAGES],
+    counts: &mut [usize; MOST_STAGES],
     x: f32,
     made: &mut usize,
     value: &mut f32,

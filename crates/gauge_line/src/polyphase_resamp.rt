@@ -9,6 +9,8 @@ use crate::answers::opening_number;
 use crate::states::put_resampler;
 use crate::states::resampler;
 use float::PolyphaseResampF32;
+use float::polyphase_resamp::MOST_CELLS;
+use float::polyphase_resamp::MOST_TAPS as MOST_PHASE_TAPS;
 use float::polyphase_resamp::block_at;
 use float::polyphase_resamp::push_at;
 
@@ -22,8 +24,8 @@ pub extern "C" fn gauge_raw_polyphase_resamp_from_taps(
     taps: &mut usize,
     mu: &mut f32,
     step: &mut f32,
-    delay: &mut [f32; 16],
-    prototype: &mut [f32; 1024],
+    delay: &mut [f32; MOST_PHASE_TAPS],
+    prototype: &mut [f32; MOST_CELLS],
 ) -> usize
     ensures answer { λ n. ⌜ (
         let after = resamplerAt exit phases taps mu step delay prototype in
@@ -50,8 +52,8 @@ pub extern "C" fn gauge_raw_polyphase_resamp_reset(
     taps: &mut usize,
     mu: &mut f32,
     step: &mut f32,
-    delay: &mut [f32; 16],
-    prototype: &mut [f32; 1024],
+    delay: &mut [f32; MOST_PHASE_TAPS],
+    prototype: &mut [f32; MOST_CELLS],
 ) -> usize
     ensures answer { λ n. ⌜ (
         let before = resamplerAt entry phases taps mu step delay prototype in
@@ -76,8 +78,8 @@ pub extern "C" fn gauge_raw_polyphase_resamp_process_block(
     taps: &mut usize,
     mu: &mut f32,
     step: &mut f32,
-    delay: &mut [f32; 16],
-    prototype: &mut [f32; 1024],
+    delay: &mut [f32; MOST_PHASE_TAPS],
+    prototype: &mut [f32; MOST_CELLS],
     src: &[f32],
     dst: &mut [f32],
     taken: &mut usize,
@@ -109,8 +111,8 @@ pub extern "C" fn gauge_raw_polyphase_resamp_push(
     taps: &mut usize,
     mu: &mut f32,
     step: &mut f32,
-    delay: &mut [f32; 16],
-    prototype: &mut [f32; 1024],
+    delay: &mut [f32; MOST_PHASE_TAPS],
+    prototype: &mut [f32; MOST_CELLS],
     x: f32,
     out: &mut [f32],
     written: &mut usize,

@@ -7,20 +7,30 @@ ghost use Rattle.half_band.specs.HbfStream.{streamOf};
 ghost use Rattle.float.specs.PolyphaseResamp.{together};
 ghost use Rattle.gauge_line.specs.States.{exit, decimatorAt, interpolatorAt, firAt, decAt, intAt, decCascadeAt, intCascadeAt, streamAt, resamplerAt};
 use float::PolyphaseResampF32;
+use float::polyphase_resamp::MOST_CELLS;
+use float::polyphase_resamp::MOST_TAPS as MOST_PHASE_TAPS;
+use half_band::DEC_CASCADE_DELAYS;
+use half_band::DEC_DELAYS;
 use half_band::HbfDec;
 use half_band::HbfDecCascade;
 use half_band::HbfInt;
 use half_band::HbfIntCascade;
 use half_band::HbfStream;
+use half_band::INT_CASCADE_DELAYS;
+use half_band::INT_DELAYS;
+use half_band::MOST_HALF_BAND_TAPS;
+use half_band::MOST_STAGES;
 use integer::CicDecimator;
 use integer::CicInterpolator;
+use integer::limits::MAX_STAGES;
 use q15::FirDecimator;
+use q15::MOST_TAPS;
 
 pub(crate) fn decimator(
     stages: usize,
     r: usize,
-    integrators: [i32; 8],
-    combs: [i32; 8],
+    integrators: [i32; MAX_STAGES],
+    combs: [i32; MAX_STAGES],
     sample_counter: usize,
 ) -> CicDecimator
     ensures { λ s. ⌜ s ≡ decimatorOf stages r integrators combs «sample_counter» ⌝ }
@@ -38,8 +48,8 @@ pub(crate) fn put_decimator(
     next: CicDecimator,
     stages: &mut usize,
     r: &mut usize,
-    integrators: &mut [i32; 8],
-    combs: &mut [i32; 8],
+    integrators: &mut [i32; MAX_STAGES],
+    combs: &mut [i32; MAX_STAGES],
     sample_counter: &mut usize,
 )
     ensures { λ _. ⌜ decimatorAt exit stages r integrators combs «sample_counter» ≡ next ⌝ }
@@ -56,8 +66,8 @@ pub(crate) fn put_decimator(
 pub(crate) fn interpolator(
     stages: usize,
     r: usize,
-    combs: [i32; 8],
-    integrators: [i32; 8],
+    combs: [i32; MAX_STAGES],
+    integrators: [i32; MAX_STAGES],
 ) -> CicInterpolator
     ensures { λ s. ⌜ s ≡ interpolatorOf stages r combs integrators ⌝ }
 {
@@ -73,8 +83,8 @@ pub(crate) fn put_interpolator(
     next: CicInterpolator,
     stages: &mut usize,
     r: &mut usize,
-    combs: &mut [i32; 8],
-    integrators: &mut [i32; 8],
+    combs: &mut [i32; MAX_STAGES],
+    integrators: &mut [i32; MAX_STAGES],
 )
     ensures { λ _. ⌜ interpolatorAt exit stages r combs integrators ≡ next ⌝ }
 {
@@ -87,10 +97,10 @@ pub(crate) fn put_interpolator(
 }
 
 pub(crate) fn fir(
-    taps: [i16; 64],
+    taps: [i16; MOST_TAPS],
     tap_count: usize,
     factor: usize,
-    delay: [i16; 64],
+    delay: [i16; MOST_TAPS],
     wait: usize,
 ) -> FirDecimator
     ensures { λ s. ⌜ s ≡ firState taps «tap_count» factor delay wait ⌝ }
@@ -106,10 +116,10 @@ pub(crate) fn fir(
 
 pub(crate) fn put_fir(
     next: FirDecimator,
-    taps: &mut [i16; 64],
+    taps: &mut [i16; MOST_TAPS],
     tap_count: &mut usize,
     factor: &mut usize,
-    delay: &mut [i16; 64],
+    delay: &mut [i16; MOST_TAPS],
     wait: &mut usize,
 )
     ensures { λ _. ⌜ firAt exit taps «tap_count» factor delay wait ≡ next ⌝ }
@@ -123,13 +133,18 @@ pub(crate) fn put_fir(
     *wait = next.wait;
 }
 
-pub(crate) fn dec(m: usize, coeffs: [f32; 23], delay: [f32; 96]) -> HbfDec
+pub(crate) fn dec(m: usize, coeffs: [f32; MOST_HALF_BAND_TAPS], delay: [f32; DEC_DELAYS]) -> HbfDec
     ensures { λ s. ⌜ s ≡ record { m = m; coeffs = coeffs; delay = delay } ⌝ }
 {
     HbfDec { m, coeffs, delay }
 }
 
-pub(crate) fn put_dec(next: HbfDec, m: &mut usize, coeffs: &mut [f32; 23], delay: &mut [f32; 96])
+pub(crate) fn put_dec(
+    next: HbfDec,
+    m: &mut usize,
+    coeffs: &mut [f32; MOST_HALF_BAND_TAPS],
+    delay: &mut [f32; DEC_DELAYS],
+)
     ensures { λ _. ⌜ decAt exit m coeffs delay ≡ next ⌝ }
 {
     let next_coeffs = next.coeffs;
@@ -139,13 +154,18 @@ pub(crate) fn put_dec(next: HbfDec, m: &mut usize, coeffs: &mut [f32; 23], delay
     *delay = next_delay;
 }
 
-pub(crate) fn int(m: usize, coeffs: [f32; 23], delay: [f32; 48]) -> HbfInt
+pub(crate) fn int(m: usize, coeffs: [f32; MOST_HALF_BAND_TAPS], delay: [f32; INT_DELAYS]) -> HbfInt
     ensures { λ s. ⌜ s ≡ record { m = m; coeffs = coeffs; delay = delay } ⌝ }
 {
     HbfInt { m, coeffs, delay }
 }
 
-pub(crate) fn put_int(next: HbfInt, m: &mut usize, coeffs: &mut [f32; 23], delay: &mut [f32; 48])
+pub(crate) fn put_int(
+    next: HbfInt,
+    m: &mut usize,
+    coeffs: &mut [f32; MOST_HALF_BAND_TAPS],
+    delay: &mut [f32; INT_DELAYS],
+)
     ensures { λ _. ⌜ intAt exit m coeffs delay ≡ next ⌝ }
 {
     let next_coeffs = next.coeffs;
@@ -155,13 +175,17 @@ pub(crate) fn put_int(next: HbfInt, m: &mut usize, coeffs: &mut [f32; 23], delay
     *delay = next_delay;
 }
 
-pub(crate) fn dec_cascade(depth: usize, delays: [f32; 480]) -> HbfDecCascade
+pub(crate) fn dec_cascade(depth: usize, delays: [f32; DEC_CASCADE_DELAYS]) -> HbfDecCascade
     ensures { λ s. ⌜ s ≡ record { depth = depth; delays = delays } ⌝ }
 {
     HbfDecCascade { depth, delays }
 }
 
-pub(crate) fn put_dec_cascade(next: HbfDecCascade, depth: &mut usize, delays: &mut [f32; 480])
+pub(crate) fn put_dec_cascade(
+    next: HbfDecCascade,
+    depth: &mut usize,
+    delays: &mut [f32; DEC_CASCADE_DELAYS],
+)
     ensures { λ _. ⌜ decCascadeAt exit depth delays ≡ next ⌝ }
 {
     let next_delays = next.delays;
@@ -169,13 +193,17 @@ pub(crate) fn put_dec_cascade(next: HbfDecCascade, depth: &mut usize, delays: &m
     *delays = next_delays;
 }
 
-pub(crate) fn int_cascade(depth: usize, delays: [f32; 240]) -> HbfIntCascade
+pub(crate) fn int_cascade(depth: usize, delays: [f32; INT_CASCADE_DELAYS]) -> HbfIntCascade
     ensures { λ s. ⌜ s ≡ record { depth = depth; delays = delays } ⌝ }
 {
     HbfIntCascade { depth, delays }
 }
 
-pub(crate) fn put_int_cascade(next: HbfIntCascade, depth: &mut usize, delays: &mut [f32; 240])
+pub(crate) fn put_int_cascade(
+    next: HbfIntCascade,
+    depth: &mut usize,
+    delays: &mut [f32; INT_CASCADE_DELAYS],
+)
     ensures { λ _. ⌜ intCascadeAt exit depth delays ≡ next ⌝ }
 {
     let next_delays = next.delays;
@@ -185,9 +213,9 @@ pub(crate) fn put_int_cascade(next: HbfIntCascade, depth: &mut usize, delays: &m
 
 pub(crate) fn stream(
     depth: usize,
-    delays: [f32; 480],
-    held: [f32; 5],
-    counts: [usize; 5],
+    delays: [f32; DEC_CASCADE_DELAYS],
+    held: [f32; MOST_STAGES],
+    counts: [usize; MOST_STAGES],
 ) -> HbfStream
     ensures { λ s. ⌜ s ≡ streamOf depth delays held counts ⌝ }
 {
@@ -202,9 +230,9 @@ pub(crate) fn stream(
 pub(crate) fn put_stream(
     next: HbfStream,
     depth: &mut usize,
-    delays: &mut [f32; 480],
-    held: &mut [f32; 5],
-    counts: &mut [usize; 5],
+    delays: &mut [f32; DEC_CASCADE_DELAYS],
+    held: &mut [f32; MOST_STAGES],
+    counts: &mut [usize; MOST_STAGES],
 )
     ensures { λ _. ⌜ streamAt exit depth delays held counts ≡ next ⌝ }
 {
@@ -222,8 +250,8 @@ pub(crate) fn resampler(
     taps: usize,
     mu: f32,
     step: f32,
-    delay: [f32; 16],
-    prototype: [f32; 1024],
+    delay: [f32; MOST_PHASE_TAPS],
+    prototype: [f32; MOST_CELLS],
 ) -> PolyphaseResampF32
     ensures { λ s. ⌜ s ≡ together phases taps mu step delay prototype ⌝ }
 {
@@ -243,8 +271,8 @@ pub(crate) fn put_resampler(
     taps: &mut usize,
     mu: &mut f32,
     step: &mut f32,
-    delay: &mut [f32; 16],
-    prototype: &mut [f32; 1024],
+    delay: &mut [f32; MOST_PHASE_TAPS],
+    prototype: &mut [f32; MOST_CELLS],
 )
     ensures { λ _. ⌜ resamplerAt exit phases taps mu step delay prototype ≡ next ⌝ }
 {

@@ -8,6 +8,7 @@ ghost use Rattle.theory.specs.Sections.{state, outs};
 ghost use Rattle.half_band.specs.HalfBand.{flat};
 ghost use Rattle.float.specs.F32.{zero32};
 ghost use Rattle.half_band.specs.Windows.{slid, folded, decValue, intValue, pairs, decimator, interpolator};
+use crate::limits::MOST_HALF_BAND_TAPS;
 use float::span::put_at_end;
 
 // Places for the longest window and for many samples more, or for six frames of the deepest cascade.
@@ -187,11 +188,11 @@ pub(crate) fn interpolate(window: &mut [f32], taps: &[f32], src: &[f32], span: &
 }
 
 // The taps in front, and zeros behind them.
-pub(crate) fn padded(taps: &[f32]) -> [f32; 23]
+pub(crate) fn padded(taps: &[f32]) -> [f32; MOST_HALF_BAND_TAPS]
     requires { ⌜ length (now taps) ≤ 23 ⌝ }
     ensures { λ r. ⌜ r ≡ now (taps .entry) ++ replicate (23 - length (now (taps .entry))) zero32 ⌝ }
 {
-    let mut coeffs = [0.0f32; 23];
+    let mut coeffs = [0.0f32; MOST_HALF_BAND_TAPS];
     let mut i = 0;
     while i < taps.len() {
         coeffs[i] = taps[i];

@@ -7,6 +7,7 @@ ghost use Rattle.half_band.specs.HbfDec.{decOpening, decReset, decStep, 
 use crate::half_band::decimate;
 use crate::half_band::padded;
 use crate::half_band::take_pair;
+use crate::limits::DEC_DELAYS;
 use crate::limits::MOST_HALF_BAND_TAPS;
 use crate::limits::pairs_in;
 use crate::limits::smaller;
@@ -19,8 +20,8 @@ use refusal::rows::samples_refused;
 // m taps in front of coeffs; the last 4m samples in front of delay, the newest at their end.
 pub struct HbfDec {
     pub m: usize,
-    pub coeffs: [f32; 23],
-    pub delay: [f32; 96],
+    pub coeffs: [f32; MOST_HALF_BAND_TAPS],
+    pub delay: [f32; DEC_DELAYS],
 }
 
 pub struct HbfDecOpening {
@@ -50,9 +51,9 @@ impl HbfDec {
         ensures meets { λ r. ⌜ (openingNumber (r .answer) ≡ 0 → DecMeets (now (taps .entry)) (r .state)) ⌝ }
     {
         let m = taps.len();
-        let delay = [0.0f32; 96];
+        let delay = [0.0f32; DEC_DELAYS];
         if outside(m, 1, MOST_HALF_BAND_TAPS) {
-            let none = [0.0f32; 23];
+            let none = [0.0f32; MOST_HALF_BAND_TAPS];
             return HbfDecOpening {
                 answer: Opening::Refused(Refusal::HalfBandTaps),
                 state: HbfDec {

@@ -17,6 +17,8 @@ use crate::half_band::decimate_in_place;
 use crate::half_band::on_tape;
 use crate::hbf_taps::HBF_TAPS;
 use crate::hbf_taps::decimation_stage;
+use crate::limits::DEC_CASCADE_DELAYS;
+use crate::limits::DEC_DELAYS;
 use crate::limits::MOST_STAGES;
 use crate::limits::rate_change;
 use crate::limits::smaller;
@@ -30,7 +32,7 @@ use refusal::rows::samples_refused;
 // Stage k has its last 4M samples in front of the 96 delays from 96k on.
 pub struct HbfDecCascade {
     pub depth: usize,
-    pub delays: [f32; 480],
+    pub delays: [f32; DEC_CASCADE_DELAYS],
 }
 
 pub struct HbfDecCascadeOpening {
@@ -51,7 +53,7 @@ fn decimate_stage(k: usize, delays: &mut [f32], span: &mut [f32], n: usize)
     let taps = decimation_stage(k);
     let first = taps.first;
     let end = first + taps.count;
-    let from = 96 * k;
+    let from = DEC_DELAYS * k;
     let past = from + 4 * taps.count;
     decimate_in_place(&mut delays[from..past], &HBF_TAPS[first..end], span, n)
 }
@@ -101,7 +103,7 @@ fn decimate_frames(depth: usize, delays: &mut [f32], src: &[f32], dst: &mut [f32
 fn fresh(depth: usize) -> HbfDecCascade
     ensures { λ r. ⌜ r ≡ decCascadeFresh depth ⌝ }
 {
-    let delays = [0.0f32; 480];
+    let delays = [0.0f32; DEC_CASCADE_DELAYS];
     HbfDecCascade { depth, delays }
 }
 

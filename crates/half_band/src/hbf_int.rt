@@ -7,6 +7,7 @@ ghost use Rattle.half_band.specs.HbfInt.{intOpening, intReset, intStep, 
 use crate::half_band::interpolate;
 use crate::half_band::padded;
 use crate::half_band::take_sample;
+use crate::limits::INT_DELAYS;
 use crate::limits::MOST_HALF_BAND_TAPS;
 use crate::limits::pairs_in;
 use crate::limits::smaller;
@@ -19,8 +20,8 @@ use refusal::rows::samples_refused;
 // m taps in front of coeffs; the last 2m samples in front of delay, the newest at their end.
 pub struct HbfInt {
     pub m: usize,
-    pub coeffs: [f32; 23],
-    pub delay: [f32; 48],
+    pub coeffs: [f32; MOST_HALF_BAND_TAPS],
+    pub delay: [f32; INT_DELAYS],
 }
 
 pub struct HbfIntOpening {
@@ -50,9 +51,9 @@ impl HbfInt {
         ensures meets { λ r. ⌜ (openingNumber (r .answer) ≡ 0 → IntMeets (now (taps .entry)) (r .state)) ⌝ }
     {
         let m = taps.len();
-        let delay = [0.0f32; 48];
+        let delay = [0.0f32; INT_DELAYS];
         if outside(m, 1, MOST_HALF_BAND_TAPS) {
-            let none = [0.0f32; 23];
+            let none = [0.0f32; MOST_HALF_BAND_TAPS];
             return HbfIntOpening {
                 answer: Opening::Refused(Refusal::HalfBandTaps),
                 state: HbfInt {

@@ -14,6 +14,8 @@ ghost use Rattle.half_band.specs.HbfIntCascade.{intStage, upsampled, int
 use crate::half_band::expand;
 use crate::hbf_taps::HBF_TAPS;
 use crate::hbf_taps::interpolation_stage;
+use crate::limits::INT_CASCADE_DELAYS;
+use crate::limits::INT_DELAYS;
 use crate::limits::MOST_STAGES;
 use crate::limits::rate_change;
 use crate::limits::smaller;
@@ -27,7 +29,7 @@ use refusal::rows::samples_refused;
 // Stage k has its last 2M samples in front of the 48 delays from 48k on.
 pub struct HbfIntCascade {
     pub depth: usize,
-    pub delays: [f32; 240],
+    pub delays: [f32; INT_CASCADE_DELAYS],
 }
 
 pub struct HbfIntCascadeOpening {
@@ -48,7 +50,7 @@ fn expand_stage(k: usize, delays: &mut [f32], span: &mut [f32], n: usize)
     let taps = interpolation_stage(k);
     let first = taps.first;
     let end = first + taps.count;
-    let from = 48 * k;
+    let from = INT_DELAYS * k;
     let past = from + 2 * taps.count;
     expand(&mut delays[from..past], &HBF_TAPS[first..end], span, n)
 }
@@ -71,7 +73,7 @@ fn expand_stages(depth: usize, delays: &mut [f32], src: &[f32], span: &mut [f32]
 fn fresh(depth: usize) -> HbfIntCascade
     ensures { λ r. ⌜ r ≡ intCascadeFresh depth ⌝ }
 {
-    let delays = [0.0f32; 240];
+    let delays = [0.0f32; INT_CASCADE_DELAYS];
     HbfIntCascade { depth, delays }
 }
 

@@ -11,6 +11,8 @@ ghost use Rattle.half_band.specs.HbfStream.{streamOf, streamFresh, hbfSt
 use crate::half_band::take_pair;
 use crate::hbf_taps::HBF_TAPS;
 use crate::hbf_taps::decimation_stage;
+use crate::limits::DEC_CASCADE_DELAYS;
+use crate::limits::DEC_DELAYS;
 use crate::limits::MOST_STAGES;
 use crate::limits::smaller;
 use refusal::Opening;
@@ -20,9 +22,9 @@ use refusal::rows::outside;
 // Stage k has its last 4M samples in front of the 96 delays from 96k on, and holds counts[k] samples, none or one, in held[k].
 pub struct HbfStream {
     pub depth: usize,
-    pub delays: [f32; 480],
-    pub held: [f32; 5],
-    pub counts: [usize; 5],
+    pub delays: [f32; DEC_CASCADE_DELAYS],
+    pub held: [f32; MOST_STAGES],
+    pub counts: [usize; MOST_STAGES],
 }
 
 pub struct HbfStreamOpening {
@@ -55,22 +57,23 @@ fn stage_pair(k: usize, delays: &mut [f32], a: f32, b: f32) -> f32
     let taps = decimation_stage(k);
     let first = taps.first;
     let end = first + taps.count;
-    let from = 96 * k;
+    let from = DEC_DELAYS * k;
     let past = from + 4 * taps.count;
     take_pair(&mut delays[from..past], &HBF_TAPS[first..end], a, b)
 }
 
 // An array by value is as long as its type says; a lent one is known to be so after this call, which compiles to nothing.
-fn all_delays(a: [f32; 480])
+fn all_delays(a: [f32; DEC_CASCADE_DELAYS])
     ensures { λ _. ⌜ length a ≡ 480 ⌝ }
 {}
 
-// A sample into the first `depth` stages, or all five: held at a stage, or made into an output by all.
+// A sample into the first `depth` stages, or all five: held at a stage, or made into an output by all. A leaf for the line, which has looked at the numbers: it
+// refuses nothing.
 pub fn hbf_stream_at(
     depth: usize,
-    delays: &mut [f32; 480],
-    held: &mut [f32; 5],
-    counts: &mut [usize; 5],
+    delays: &mut [f32; DEC_CASCADE_DELAYS],
+    held: &mut [f32; MOST_STAGES],
+    counts: &mut [usize; MOST_STAGES],
     x: f32,
 ) -> HbfOut
     ensures out { λ r. ⌜ valueOf r ≡ hbfStream .out (streamOf depth (now (delays .entry)) (now (held .entry)) (now (counts .entry))) x ⌝ }
@@ -96,7 +99,7 @@ pub fn hbf_stream_at(
 }
 
 // Refusal 15 of a state: no stages or too many, or more than one held sample at a stage that is run.
-fn hbf_stream_refused(depth: usize, counts: [usize; 5]) -> bool
+fn hbf_stream_refused(depth: usize, counts: [usize; MOST_STAGES]) -> bool
     ensures { λ r. ⌜ r ≡ streamRefused depth counts ⌝ }
 {
     if outside(depth, 1, MOST_STAGES) {
@@ -113,7 +116,7 @@ fn hbf_stream_refused(depth: usize, counts: [usize; 5]) -> bool
 }
 
 // Refusal 15 of a state in the line, where no stages means off.
-pub fn hbf_stream_refused_in_line(depth: usize, counts: [usize; 5]) -> bool
+pub fn hbf_stream_refused_in_line(depth: usize, counts: [usize; MOST_STAGES]) -> bool
     ensures { λ r. ⌜ r ≡ streamRefusedInLine depth counts ⌝ }
 {
     if depth == 0 {
@@ -125,9 +128,9 @@ pub fn hbf_stream_refused_in_line(depth: usize, counts: [usize; 5]) -> bool
 fn fresh(depth: usize) -> HbfStream
     ensures { λ r. ⌜ r ≡ streamFresh depth ⌝ }
 {
-    let delays = [0.0f32; 480];
-    let held = [0.0f32; 5];
-    let counts = [0usize; 5];
+    let delays = [0.0f32; DEC_CASCADE_DELAYS];
+    let held = [0.0f32; MOST_STAGES];
+    let counts = [0usize; MOST_STAGES];
     HbfStream {
         depth,
         delays,

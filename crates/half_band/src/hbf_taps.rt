@@ -2,6 +2,7 @@
 ghost use mathlib.Core.Path.{_≡_};
 ghost use Prim.Native.Nat.{_<_};
 ghost use Rattle.half_band.specs.HbfTaps.{hbfTaps, decimation, interpolation, PlaceOf};
+use crate::limits::MOST_STAGES;
 
 pub const HBF_TAPS: [f32; 45] = [
     7.60375795e-07,
@@ -58,9 +59,9 @@ pub(crate) struct StageTaps {
 }
 
 // The stages of a decimation, from the highest rate on.
-const DECIMATION_STARTS: [usize; 5] = [42, 38, 33, 23, 0];
+const DECIMATION_STARTS: [usize; MOST_STAGES] = [42, 38, 33, 23, 0];
 
-const DECIMATION_LENGTHS: [usize; 5] = [3, 4, 5, 10, 23];
+const DECIMATION_LENGTHS: [usize; MOST_STAGES] = [3, 4, 5, 10, 23];
 
 pub(crate) fn decimation_stage(k: usize) -> StageTaps
     requires { ⌜ k < 5 ⌝ }
@@ -73,9 +74,9 @@ pub(crate) fn decimation_stage(k: usize) -> StageTaps
 }
 
 // The stages of an interpolation, from the lowest rate on.
-const INTERPOLATION_STARTS: [usize; 5] = [0, 23, 33, 38, 42];
+const INTERPOLATION_STARTS: [usize; MOST_STAGES] = [0, 23, 33, 38, 42];
 
-const INTERPOLATION_LENGTHS: [usize; 5] = [23, 10, 5, 4, 3];
+const INTERPOLATION_LENGTHS: [usize; MOST_STAGES] = [23, 10, 5, 4, 3];
 
 pub(crate) fn interpolation_stage(k: usize) -> StageTaps
     requires { ⌜ k < 5 ⌝ }

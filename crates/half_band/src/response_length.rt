@@ -1,6 +1,7 @@
 // 01, section 7: how many low-rate samples the response of a half-band cascade lasts, the Rust's numbers.
 ghost use mathlib.Core.Path.{_≡_};
 ghost use Rattle.half_band.specs.ResponseLength.{decLengths, intLengths, lengthAt, toldLength};
+use crate::limits::DEPTHS;
 use crate::limits::MOST_STAGES;
 use refusal::Refusal;
 
@@ -9,11 +10,11 @@ pub enum ResponseLength {
     Refused(Refusal),
 }
 
-const DECIMATION: [usize; 6] = [0, 23, 28, 29, 29, 29];
+const DECIMATION: [usize; DEPTHS] = [0, 23, 28, 29, 29, 29];
 
-const INTERPOLATION: [usize; 6] = [0, 46, 112, 234, 476, 958];
+const INTERPOLATION: [usize; DEPTHS] = [0, 46, 112, 234, 476, 958];
 
-fn at_depth(lengths: [usize; 6], depth: usize) -> ResponseLength
+fn at_depth(lengths: [usize; DEPTHS], depth: usize) -> ResponseLength
     ensures { λ r. ⌜ toldLength r ≡ lengthAt lengths depth ⌝ }
 {
     if MOST_STAGES < depth {

@@ -114,7 +114,7 @@ fn waits(sample_counter: usize, r: usize) -> bool
     sample_counter + 1 < r
 }
 
-// One sample, the numbers by value and the arrays lent.
+// One sample, the numbers by value and the arrays lent. A leaf for the line, which has looked at the numbers: it refuses nothing.
 pub fn sample_at(
     stages: usize,
     r: usize,

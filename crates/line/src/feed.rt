@@ -13,8 +13,14 @@ use crate::sample::Fixed;
 use crate::sample::Numbers;
 use crate::step::Taken;
 use crate::step::take_on;
+use float::polyphase_resamp::MOST_CELLS;
+use float::polyphase_resamp::MOST_TAPS as MOST_PHASE_TAPS;
 use float::polyphase_resamp::write_due;
+use half_band::DEC_CASCADE_DELAYS;
+use half_band::MOST_STAGES;
+use integer::limits::MAX_STAGES;
 use integer::stages::run;
+use q15::MOST_TAPS;
 
 // How far a feed came.
 pub struct Ran {
@@ -33,7 +39,7 @@ fn least(a: usize, b: usize) -> usize
 fn at_once(
     f: Fixed,
     s: Numbers,
-    integrators: &mut [i32; 8],
+    integrators: &mut [i32; MAX_STAGES],
     samples: &[i32],
     at: usize,
     place: bool,
@@ -57,15 +63,15 @@ fn at_once(
 pub(crate) fn feed_on(
     f: Fixed,
     s: Numbers,
-    integrators: &mut [i32; 8],
-    combs: &mut [i32; 8],
-    taps: &[i16; 64],
-    fir_delay: &mut [i16; 64],
-    delays: &mut [f32; 480],
-    held: &mut [f32; 5],
-    counts: &mut [usize; 5],
-    delay: &mut [f32; 16],
-    prototype: &[f32; 1024],
+    integrators: &mut [i32; MAX_STAGES],
+    combs: &mut [i32; MAX_STAGES],
+    taps: &[i16; MOST_TAPS],
+    fir_delay: &mut [i16; MOST_TAPS],
+    delays: &mut [f32; DEC_CASCADE_DELAYS],
+    held: &mut [f32; MOST_STAGES],
+    counts: &mut [usize; MOST_STAGES],
+    delay: &mut [f32; MOST_PHASE_TAPS],
+    prototype: &[f32; MOST_CELLS],
     samples: &[i32],
     out: &mut [f32],
 ) -> Ran

@@ -17,9 +17,15 @@ use crate::opening::answer;
 use crate::settings::Settings;
 use crate::validity::valid_at;
 use float::PolyphaseResampF32;
+use float::polyphase_resamp::MOST_CELLS;
+use float::polyphase_resamp::MOST_TAPS as MOST_PHASE_TAPS;
+use half_band::DEC_CASCADE_DELAYS;
 use half_band::HbfStream;
+use half_band::MOST_STAGES;
 use integer::CicDecimator;
+use integer::limits::MAX_STAGES;
 use q15::FirDecimator;
+use q15::MOST_TAPS;
 use refusal::Counts;
 use refusal::Opening;
 use refusal::Refusal;
@@ -93,7 +99,7 @@ fn fresh(s: Settings, taps: &[i16], prototype: &[f32]) -> Line
 }
 
 // A prototype's length, which no parameter carries.
-fn prototype_length(a: [f32; 1024])
+fn prototype_length(a: [f32; MOST_CELLS])
     ensures { λ _. ⌜ length a ≡ 1024 ⌝ }
 {}
 
@@ -122,15 +128,15 @@ fn numbers_in(l: Line) -> LineNumbers
 // The line put together from what a call held apart.
 fn assembled(
     n: LineNumbers,
-    integrators: [i32; 8],
-    combs: [i32; 8],
-    taps: [i16; 64],
-    fir_delay: [i16; 64],
-    delays: [f32; 480],
-    held: [f32; 5],
-    counts: [usize; 5],
-    delay: [f32; 16],
-    prototype: [f32; 1024],
+    integrators: [i32; MAX_STAGES],
+    combs: [i32; MAX_STAGES],
+    taps: [i16; MOST_TAPS],
+    fir_delay: [i16; MOST_TAPS],
+    delays: [f32; DEC_CASCADE_DELAYS],
+    held: [f32; MOST_STAGES],
+    counts: [usize; MOST_STAGES],
+    delay: [f32; MOST_PHASE_TAPS],
+    prototype: [f32; MOST_CELLS],
 ) -> Line
     ensures { λ l. ⌜ l ≡ N.lineOf n integrators combs taps «fir_delay» delays held counts delay prototype ⌝ }
 {

@@ -13,6 +13,12 @@ use crate::step::Did;
 use crate::step::step_on;
 use crate::validity::bits_at;
 use crate::validity::valid_at;
+use float::polyphase_resamp::MOST_CELLS;
+use float::polyphase_resamp::MOST_TAPS as MOST_PHASE_TAPS;
+use half_band::DEC_CASCADE_DELAYS;
+use half_band::MOST_STAGES;
+use integer::limits::MAX_STAGES;
+use q15::MOST_TAPS;
 use refusal::Counts;
 use refusal::Refusal;
 
@@ -110,15 +116,15 @@ fn public_step(step: Did) -> LineStep
 // One step, where the span has a place or not, with the sample at `at` of those lent as the next, if there is one. Refusal 15.
 pub fn step_lent(
     n: LineNumbers,
-    integrators: &mut [i32; 8],
-    combs: &mut [i32; 8],
-    taps: &[i16; 64],
-    fir_delay: &mut [i16; 64],
-    delays: &mut [f32; 480],
-    held: &mut [f32; 5],
-    counts: &mut [usize; 5],
-    delay: &mut [f32; 16],
-    prototype: &[f32; 1024],
+    integrators: &mut [i32; MAX_STAGES],
+    combs: &mut [i32; MAX_STAGES],
+    taps: &[i16; MOST_TAPS],
+    fir_delay: &mut [i16; MOST_TAPS],
+    delays: &mut [f32; DEC_CASCADE_DELAYS],
+    held: &mut [f32; MOST_STAGES],
+    counts: &mut [usize; MOST_STAGES],
+    delay: &mut [f32; MOST_PHASE_TAPS],
+    prototype: &[f32; MOST_CELLS],
     samples: &[i32],
     at: usize,
     place: bool,
@@ -166,15 +172,15 @@ pub fn step_lent(
 // with `answer` and `span` it is exact. Refusal 15, and no other.
 pub fn feed_lent(
     n: LineNumbers,
-    integrators: &mut [i32; 8],
-    combs: &mut [i32; 8],
-    taps: &[i16; 64],
-    fir_delay: &mut [i16; 64],
-    delays: &mut [f32; 480],
-    held: &mut [f32; 5],
-    counts: &mut [usize; 5],
-    delay: &mut [f32; 16],
-    prototype: &[f32; 1024],
+    integrators: &mut [i32; MAX_STAGES],
+    combs: &mut [i32; MAX_STAGES],
+    taps: &[i16; MOST_TAPS],
+    fir_delay: &mut [i16; MOST_TAPS],
+    delays: &mut [f32; DEC_CASCADE_DELAYS],
+    held: &mut [f32; MOST_STAGES],
+    counts: &mut [usize; MOST_STAGES],
+    delay: &mut [f32; MOST_PHASE_TAPS],
+    prototype: &[f32; MOST_CELLS],
     samples: &[i32],
     out: &mut [f32],
 ) -> LentFed

@@ -6,14 +6,19 @@ ghost use Rattle.integer.specs.Gain.{gainBits};
 ghost use Rattle.half_band.specs.HbfStream.{valueOf};
 ghost use Rattle.line.specs.Line as L;
 ghost use Rattle.line.specs.Together as T;
+use float::polyphase_resamp::MOST_TAPS as MOST_PHASE_TAPS;
 use float::polyphase_resamp::shift_in;
 use float::q15_to_f32;
+use half_band::DEC_CASCADE_DELAYS;
+use half_band::MOST_STAGES;
 use half_band::hbf_stream::HbfOut;
 use half_band::hbf_stream::hbf_stream_at;
 use integer::cic_decimator::CicSum;
 use integer::cic_decimator::sample_at;
 use integer::gain::scaled;
+use integer::limits::MAX_STAGES;
 use q15::FirMade;
+use q15::MOST_TAPS;
 use q15::Q15;
 use q15::cut_q15;
 use q15::fir_at;
@@ -58,7 +63,7 @@ pub struct Sampled {
 }
 
 // A level into the resampler, or past it where it is off.
-fn resampler_in(f: Fixed, mu: f32, delay: &mut [f32; 16], level: f32) -> Resampled
+fn resampler_in(f: Fixed, mu: f32, delay: &mut [f32; MOST_PHASE_TAPS], level: f32) -> Resampled
     ensures { λ r. ⌜ ((h : List Float) →
         T.Takes L.from5 (T.resamplerOf f mu (now (delay .entry)) h) level (valueOf (r .out)) (T.resamplerOf f (r .mu) (now (delay .exit)) h)) ⌝ }
 {
@@ -79,10 +84,10 @@ fn resampler_in(f: Fixed, mu: f32, delay: &mut [f32; 16], level: f32) -> Resampl
 fn half_band_in(
     f: Fixed,
     mu: f32,
-    delays: &mut [f32; 480],
-    held: &mut [f32; 5],
-    counts: &mut [usize; 5],
-    delay: &mut [f32; 16],
+    delays: &mut [f32; DEC_CASCADE_DELAYS],
+    held: &mut [f32; MOST_STAGES],
+    counts: &mut [usize; MOST_STAGES],
+    delay: &mut [f32; MOST_PHASE_TAPS],
     level: f32,
 ) -> Resampled
     ensures { λ r. ⌜ ((h : List Float) →
@@ -110,12 +115,12 @@ fn fir_in(
     f: Fixed,
     wait: usize,
     mu: f32,
-    taps: &[i16; 64],
-    fir_delay: &mut [i16; 64],
-    delays: &mut [f32; 480],
-    held: &mut [f32; 5],
-    counts: &mut [usize; 5],
-    delay: &mut [f32; 16],
+    taps: &[i16; MOST_TAPS],
+    fir_delay: &mut [i16; MOST_TAPS],
+    delays: &mut [f32; DEC_CASCADE_DELAYS],
+    held: &mut [f32; MOST_STAGES],
+    counts: &mut [usize; MOST_STAGES],
+    delay: &mut [f32; MOST_PHASE_TAPS],
     value: Q15,
 ) -> Filtered
     ensures { λ r. ⌜ ((h : List Float) →
@@ -153,14 +158,14 @@ fn fir_in(
 pub(crate) fn sample_in(
     f: Fixed,
     s: Numbers,
-    integrators: &mut [i32; 8],
-    combs: &mut [i32; 8],
-    taps: &[i16; 64],
-    fir_delay: &mut [i16; 64],
-    delays: &mut [f32; 480],
-    held: &mut [f32; 5],
-    counts: &mut [usize; 5],
-    delay: &mut [f32; 16],
+    integrators: &mut [i32; MAX_STAGES],
+    combs: &mut [i32; MAX_STAGES],
+    taps: &[i16; MOST_TAPS],
+    fir_delay: &mut [i16; MOST_TAPS],
+    delays: &mut [f32; DEC_CASCADE_DELAYS],
+    held: &mut [f32; MOST_STAGES],
+    counts: &mut [usize; MOST_STAGES],
+    delay: &mut [f32; MOST_PHASE_TAPS],
     x: i32,
 ) -> Sampled
     requires { ⌜ f .bits ≡ gainBits (f .stages) (f .r) ⌝ }

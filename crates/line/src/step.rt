@@ -13,8 +13,14 @@ ghost use Rattle.line.specs.Together as T;
 use crate::sample::Fixed;
 use crate::sample::Numbers;
 use crate::sample::sample_in;
+use float::polyphase_resamp::MOST_CELLS;
+use float::polyphase_resamp::MOST_TAPS as MOST_PHASE_TAPS;
 use float::polyphase_resamp::interpolate;
+use half_band::DEC_CASCADE_DELAYS;
+use half_band::MOST_STAGES;
 use half_band::hbf_stream::HbfOut;
+use integer::limits::MAX_STAGES;
+use q15::MOST_TAPS;
 
 // What a step of a valid line did.
 pub enum Did {
@@ -75,14 +81,14 @@ fn step_of(step: Taken) -> Did
 pub(crate) fn take_on(
     f: Fixed,
     s: Numbers,
-    integrators: &mut [i32; 8],
-    combs: &mut [i32; 8],
-    taps: &[i16; 64],
-    fir_delay: &mut [i16; 64],
-    delays: &mut [f32; 480],
-    held: &mut [f32; 5],
-    counts: &mut [usize; 5],
-    delay: &mut [f32; 16],
+    integrators: &mut [i32; MAX_STAGES],
+    combs: &mut [i32; MAX_STAGES],
+    taps: &[i16; MOST_TAPS],
+    fir_delay: &mut [i16; MOST_TAPS],
+    delays: &mut [f32; DEC_CASCADE_DELAYS],
+    held: &mut [f32; MOST_STAGES],
+    counts: &mut [usize; MOST_STAGES],
+    delay: &mut [f32; MOST_PHASE_TAPS],
     samples: &[i32],
     at: usize,
     place: bool,
@@ -133,15 +139,15 @@ pub(crate) fn take_on(
 pub(crate) fn step_on(
     f: Fixed,
     s: Numbers,
-    integrators: &mut [i32; 8],
-    combs: &mut [i32; 8],
-    taps: &[i16; 64],
-    fir_delay: &mut [i16; 64],
-    delays: &mut [f32; 480],
-    held: &mut [f32; 5],
-    counts: &mut [usize; 5],
-    delay: &mut [f32; 16],
-    prototype: &[f32; 1024],
+    integrators: &mut [i32; MAX_STAGES],
+    combs: &mut [i32; MAX_STAGES],
+    taps: &[i16; MOST_TAPS],
+    fir_delay: &mut [i16; MOST_TAPS],
+    delays: &mut [f32; DEC_CASCADE_DELAYS],
+    held: &mut [f32; MOST_STAGES],
+    counts: &mut [usize; MOST_STAGES],
+    delay: &mut [f32; MOST_PHASE_TAPS],
+    prototype: &[f32; MOST_CELLS],
     samples: &[i32],
     at: usize,
     place: bool,

@@ -5,6 +5,7 @@ use crate::opening::MAX_BITS;
 use crate::sample::Fixed;
 use crate::sample::Numbers;
 use float::polyphase_resamp::is_valid_in_line;
+use half_band::MOST_STAGES;
 use half_band::hbf_stream::hbf_stream_refused_in_line;
 use integer::cic_decimator::valid;
 use integer::gain::bits_of;
@@ -21,7 +22,7 @@ pub(crate) fn bits_at(stages: usize, r: usize, sample_counter: usize) -> u32
     bits_of(gain_of(stages, r))
 }
 
-pub(crate) fn valid_at(f: Fixed, s: Numbers, counts: [usize; 5]) -> bool
+pub(crate) fn valid_at(f: Fixed, s: Numbers, counts: [usize; MOST_STAGES]) -> bool
     ensures { λ b. ⌜ b ≡ T.validAt f s counts ⌝ }
 {
     if MAX_BITS < f.bits {

@@ -99,7 +99,7 @@ fn fir_output(delay: &[i16; MOST_TAPS], taps: &[i16; MOST_TAPS], t: usize) -> Q1
     cut_q15(sum)
 }
 
-// One sample, with the arrays lent; off, it is handed on.
+// One sample, with the arrays lent; off, it is handed on. A leaf for the line, which has looked at the numbers: it refuses nothing.
 pub fn fir_at(
     delay: &mut [i16; MOST_TAPS],
     taps: &[i16; MOST_TAPS],

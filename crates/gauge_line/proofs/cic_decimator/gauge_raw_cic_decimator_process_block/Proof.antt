@@ -20,7 +20,7 @@ same-length : tie.Need-same-length
 same-length c = search needs
 
 returns : tie.Need-returns
-returns c = rw (c .counts-number .ensures, c .before .counts-written .ensures, c .before .before .counts-taken .ensures) (c .before .before .before .before .block-at .ensures .0, c .before .before .before .before .block-at .ensures .1)
+returns c = rw (c .counts-number .ensures, c .before .counts-written .ensures, c .before .before .counts-taken .ensures) (c .before .before .before .before .block-at .ensures)
 
 pub gauge-raw-cic-decimator-process-block-spec : {M : Type 1} → statement M
 gauge-raw-cic-decimator-process-block-spec =

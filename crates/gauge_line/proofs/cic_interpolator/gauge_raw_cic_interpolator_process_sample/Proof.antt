@@ -21,8 +21,9 @@ same-length c = search needs
 
 returns : tie.Need-returns
 returns c =
-    let x = toZ-ofZ (c .before .before .before .before .before .before .before .before .before .fits .input) in
-    rw (c .count-number .ensures, c .before .count-written .ensures) (rw x at (c .before .before .before .sample-at .ensures .0), rw x at (c .before .before .before .sample-at .ensures .1))
+    let done = c .before .before .before in
+    rw (c .count-number .ensures, c .before .count-written .ensures)
+    (rw (toZ-ofZ (done .before .before .before .before .before .before .fits .input)) at (done .sample-at .ensures))
 
 pub gauge-raw-cic-interpolator-process-sample-spec : {M : Type 1} → statement M
 gauge-raw-cic-interpolator-process-sample-spec =

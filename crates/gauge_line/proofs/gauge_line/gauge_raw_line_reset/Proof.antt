@@ -1,5 +1,5 @@
 -- `gauge_raw_line_reset` meets its contract: it hands over what the layer's `reset` answers, field by field.
-use mathlib.Core.Path.{_≡_}
+use mathlib.Core.Path.{_≡_, _∙_}
 use borrow.Author.Needs.{needs}
 use Rattle.gauge_line.proofs.gauge_line.gauge_raw_line_reset.Statement.{statement}
 use Rattle.gauge_line.proofs.gauge_line.gauge_raw_line_reset.Tie as tie
@@ -44,9 +44,13 @@ returns c =
     let lent-resampler = done .before in
     let lent-half-band = lent-resampler .before .before .before .before .before in
     let lent-fir = lent-half-band .before .before .before .before .before in
-    let lent-cic = lent-fir .before .before .before .before .before .before in
-    rw (c .opening-number .ensures, resampler .put-resampler .ensures, half-band .put-stream .ensures, fir .put-fir .ensures, cic .put-decimator .ensures)
-    (rw (lent-resampler .resampler .ensures, lent-half-band .stream .ensures, lent-fir .fir .ensures, lent-cic .decimator .ensures) at (done .reset .ensures))
+    let lent-cic = lent-fir .before .before .before .before .before .before in (
+      rw (c .opening-number .ensures, resampler .put-resampler .ensures, half-band .put-stream .ensures, fir .put-fir .ensures, cic .put-decimator .ensures)
+          (rw (lent-resampler .resampler .ensures, lent-half-band .stream .ensures, lent-fir .fir .ensures, lent-cic .decimator .ensures) at (done .reset .ensures .0)),
+      λ valid.
+          c .opening-number .ensures
+          ∙ rw (lent-resampler .resampler .ensures, lent-half-band .stream .ensures, lent-fir .fir .ensures, lent-cic .decimator .ensures) at (done .reset .ensures .1) valid,
+    )
 
 pub gauge-raw-line-reset-spec : {M : Type 1} → statement M
 gauge-raw-line-reset-spec =

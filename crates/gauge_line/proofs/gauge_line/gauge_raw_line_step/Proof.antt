@@ -21,7 +21,9 @@ step-number-requires : tie.Need-step-number-requires
 step-number-requires c κs = search needs
 
 returns : tie.Need-returns
-returns c = rw (c .step-number .ensures, c .before .step-value .ensures, c .before .before .step-written .ensures, c .before .before .before .step-taken .ensures) (ap crossedStep (c .before .before .before .before .before .step-lent .ensures))
+returns c =
+    rw (c .step-number .ensures, c .before .step-value .ensures, c .before .before .step-written .ensures, c .before .before .before .step-taken .ensures)
+    (ap crossedStep (c .before .before .before .before .before .step-lent .ensures))
 
 pub gauge-raw-line-step-spec : {M : Type 1} → statement M
 gauge-raw-line-step-spec =

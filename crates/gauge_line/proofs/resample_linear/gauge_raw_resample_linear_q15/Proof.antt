@@ -18,7 +18,9 @@ same-length : tie.Need-same-length
 same-length c = search needs
 
 returns : tie.Need-returns
-returns c = rw (c .count-number .ensures, c .before .count-written .ensures) (rw (toZ-ofZ (c .before .before .before .before .before .fits .ratio-q16)) at (c .before .before .before .resample-linear-q15 .ensures .0), rw (toZ-ofZ (c .before .before .before .before .before .fits .ratio-q16)) at (c .before .before .before .resample-linear-q15 .ensures .1))
+returns c =
+    let done = c .before .before .before in
+    rw (c .count-number .ensures, c .before .count-written .ensures) (rw (toZ-ofZ (done .before .before .fits .ratio-q16)) at (done .resample-linear-q15 .ensures))
 
 pub gauge-raw-resample-linear-q15-spec : {M : Type 1} → statement M
 gauge-raw-resample-linear-q15-spec =
