@@ -98,17 +98,24 @@ impl Constants {
 }
 
 impl Scope<'_> {
-    /// Numbers and names with `+` and `*` between them.
+    /// Numbers and names with `+`, `*` and parentheses between them.
     pub fn whole(&self, value: &str) -> Result<u64, String> {
         let mut sum = 0;
-        for product in value.split('+') {
-            let factors = product.split('*').map(|factor| self.factor(factor.trim()));
+        for product in apart(value, '+') {
+            let factors = apart(product, '*');
+            let factors = factors.into_iter().map(|factor| self.factor(factor.trim()));
             sum += factors.product::<Result<u64, String>>()?;
         }
         Ok(sum)
     }
 
     fn factor(&self, word: &str) -> Result<u64, String> {
+        let inner = word
+            .strip_prefix('(')
+            .and_then(|rest| rest.strip_suffix(')'));
+        if let Some(inner) = inner {
+            return self.whole(inner);
+        }
         if let Ok(number) = word.replace('_', "").parse() {
             return Ok(number);
         }
@@ -124,6 +131,17 @@ impl Scope<'_> {
         };
         self.constants.whole(self.constants.find(crate_name, name)?)
     }
+}
+
+// The parts between the signs that stand in no parentheses.
+fn apart(value: &str, sign: char) -> Vec<&str> {
+    let mut depth = 0;
+    value
+        .split(|c| {
+            depth += i32::from(c == '(') - i32::from(c == ')');
+            c == sign && depth == 0
+        })
+        .collect()
 }
 
 // `pub const NAME: usize = 8`, behind whatever ended before it.
@@ -153,4 +171,20 @@ fn file_of(crate_name: &str, code: &str) -> File {
         file.used.insert(known.trim().to_string(), meant);
     }
     file
+}
+
+#[cfg(test)]
+mod tests {
+    use super::*;
+
+    #[test]
+    fn signs_in_parentheses_keep_their_parts_together() {
+        let constants = Constants {
+            named: BTreeMap::new(),
+        };
+        let scope = constants.scope("any", "");
+        assert_eq!(scope.whole("4 * (23 + 1)"), Ok(96));
+        assert_eq!(scope.whole("(1 + 2) * (3 + (4 * 5)) + 6"), Ok(75));
+        assert!(scope.whole("2 * (3 + 4").is_err());
+    }
 }
