@@ -1,20 +1,23 @@
 -- A stage holds at most one sample, and goes on to: so a state that is not refused is followed by states that are not refused.
-use mathlib.Core.Path.{_≡_, refl, ap, _∙_, subst}
+use mathlib.Core.Path.{_≡_, refl, sym, ap, _∙_, subst}
 use mathlib.Core.Bool.{Bool, true, false, cond, _&&_, true≢false, false≢true}
 use mathlib.Core.List.{List, [], _∷_}
 use mathlib.Core.Option.{Option, none, some}
 use Prim.Native.Nat.{ℕ, zero, suc, _≤_, _<_, min}
 use native.Mathlib.Omega.{arith}
-use native.Mathlib.Decide.{decLt}
-use borrow.Author.Tests.{leb-true, le-leb, le-ltb, lt-ltb, ltb-false}
-use lib.Dec.{eqb, leb, ltb}
+use native.Mathlib.Decide.{decLe, decLt}
+use borrow.Author.Tests.{leb-true, le-leb}
+use lib.Dec.{eqb, leb, eqb·suc-zero}
 use lib.ListN.{getD, set, replicate, getD-replicate}
 use lib.Ieee.{Float}
-use Rattle.theory.specs.Sections.{state}
+use Rattle.refusal.specs.Rows.{outside}
+use Rattle.refusal.proofs.Limits.{within, not-outside}
+use Rattle.theory.specs.Sections.{state, outs}
 use Rattle.float.specs.F32.{zero32}
+use Rattle.half_band.specs.HalfBand.{decimatedBy}
 use Rattle.half_band.specs.HbfTaps.{stageTaps, decimation}
 use Rattle.half_band.specs.Windows.{slid}
-use Rattle.half_band.specs.HbfStream.{Half, half, stageIn, withStage, through, stream, hbfStream, streamFresh, heldFine, streamRefused, StreamMeets}
+use Rattle.half_band.specs.HbfStream.{Half, half, stageIn, withStage, through, stream, hbfStream, streamFresh, heldFine, streamRefused, streamRefusedInLine, StreamMeets}
 use Rattle.half_band.specs.declared.hbf_stream.HbfStream.{HbfStream}
 use Rattle.half_band.proofs.StageTables.{dec-stages}
 use Rattle.half_band.proofs.Streaming.{depth-next, stream-whole}
@@ -51,19 +54,36 @@ held-not n k counts h l = go (heldFine n counts) refl
     go true e = let m = held-says n counts e k h in absurd (omega arith)
     go false e = refl
 
-pub refused-says : (d : ℕ) (counts : List ℕ) → streamRefused d counts ≡ false → (d ≤ 5) × AtMostOne d counts
+-- a state that is not refused
+pub record Fine (d : ℕ) (counts : List ℕ) : Type 0 where
+  pub some : 1 ≤ d
+  pub few : d ≤ 5
+  pub held : AtMostOne d counts
+
+pub refused-says : (d : ℕ) (counts : List ℕ) → streamRefused d counts ≡ false → Fine d counts
 unfolding streamRefused
-refused-says d counts e = go (ltb 5 d) refl (heldFine d counts) refl e
+refused-says d counts e = go (outside d 1 5) refl (heldFine d counts) refl e
   where
-    go : (a : Bool) → ltb 5 d ≡ a → (b : Bool) → heldFine d counts ≡ b → cond a true (cond b false true) ≡ false → (d ≤ 5) × AtMostOne d counts
+    go : (a : Bool) → outside d 1 5 ≡ a → (b : Bool) → heldFine d counts ≡ b → cond a true (cond b false true) ≡ false → Fine d counts
     go true p b q r = absurd (true≢false r)
-    go false p true q r = (ltb-false 5 d p, held-says d counts q)
+    go false p true q r = let w = within d 1 5 p in record { some = w .least; few = w .most; held = held-says d counts q }
     go false p false q r = absurd (true≢false r)
 
-pub not-refused : (d : ℕ) (counts : List ℕ) → d ≤ 5 → AtMostOne d counts → streamRefused d counts ≡ false
+pub not-refused : (d : ℕ) (counts : List ℕ) → Fine d counts → streamRefused d counts ≡ false
 unfolding streamRefused
-not-refused d counts h a =
-    ap (λ (b : Bool). cond b true (cond (heldFine d counts) false true)) (le-ltb 5 d h) ∙ ap (λ (b : Bool). cond b false true) (held-is d counts a)
+not-refused d counts f =
+    ap (λ (b : Bool). cond b true (cond (heldFine d counts) false true)) (not-outside d 1 5 (f .some) (f .few)) ∙ ap (λ (b : Bool). cond b false true) (held-is d counts (f .held))
+
+-- in the line: a state that is not refused beside it, or off
+pub line-not-refused : (d : ℕ) (counts : List ℕ) → (1 ≤ d → streamRefused d counts ≡ false) → streamRefusedInLine d counts ≡ false
+unfolding streamRefusedInLine
+line-not-refused zero counts h = refl
+line-not-refused (suc d) counts h = ap (λ (b : Bool). cond b false (streamRefused (suc d) counts)) (eqb·suc-zero d) ∙ h (omega arith)
+
+pub line-refused-says : (d : ℕ) (counts : List ℕ) → 1 ≤ d → streamRefusedInLine d counts ≡ false → streamRefused d counts ≡ false
+unfolding streamRefusedInLine
+line-refused-says zero counts h e = absurd (omega arith)
+line-refused-says (suc d) counts h e = sym (ap (λ (b : Bool). cond b false (streamRefused (suc d) counts)) (eqb·suc-zero d)) ∙ e
 
 -- a count of none or one put in
 set-most : (l : List ℕ) (k c j : ℕ) → c ≤ 1 → getD l j 0 ≤ 1 → getD (set l k c) j 0 ≤ 1
@@ -96,29 +116,39 @@ unfolding hbfStream stream
 next-not-refused s x e =
     let f = refused-says (s .depth) (s .counts) e in
     let d : hbfStream .next s x .depth ≡ s .depth = depth-next (stageTaps decimation) dec-stages s x in
+    let m : AtMostOne (s .depth) (hbfStream .next s x .counts) = through-most (stageTaps decimation) (s .depth) (min (s .depth) 5) 0 (some x) s (f .held) in
     ap (λ (n : ℕ). streamRefused n (hbfStream .next s x .counts)) d
-    ∙ not-refused (s .depth) (hbfStream .next s x .counts) (f .0) (through-most (stageTaps decimation) (s .depth) (min (s .depth) 5) 0 (some x) s (f .1))
+    ∙ not-refused (s .depth) (hbfStream .next s x .counts) (record { some = f .some; few = f .few; held = m })
 
 pub state-not-refused : (s : HbfStream) (v : List Float) → streamRefused (s .depth) (s .counts) ≡ false → streamRefused (state hbfStream s v .depth) (state hbfStream s v .counts) ≡ false
 state-not-refused s [] e = e
 state-not-refused s (x ∷ v) e = state-not-refused (hbfStream .next s x) v (next-not-refused s x e)
 
-pub fresh-not-refused : (d : ℕ) → d ≤ 5 → streamRefused d (streamFresh d .counts) ≡ false
-fresh-not-refused d h = not-refused d (replicate 5 0) h (λ j l. let e : getD (replicate {A = ℕ} 5 0) j 0 ≡ 0 = getD-replicate {A = ℕ} 5 j 0 0 (omega arith) in omega arith)
+pub fresh-not-refused : (d : ℕ) → 1 ≤ d → d ≤ 5 → streamRefused d (streamFresh d .counts) ≡ false
+fresh-not-refused d p h =
+    let none : AtMostOne d (replicate 5 0) = λ j l. let e : getD (replicate {A = ℕ} 5 0) j 0 ≡ 0 = getD-replicate {A = ℕ} 5 j 0 0 (omega arith) in omega arith in
+    not-refused d (replicate 5 0) (record { some = p; few = h; held = none })
 
-pub stream-meets : (d : ℕ) → d ≤ 5 → StreamMeets d (streamFresh d)
+pub line-fresh-not-refused : (d : ℕ) → d ≤ 5 → streamRefusedInLine d (streamFresh d .counts) ≡ false
+line-fresh-not-refused d h = line-not-refused d (replicate 5 0) (λ p. fresh-not-refused d p h)
+
+-- the outputs of any list, of no stages the list itself
+pub fresh-whole : (d : ℕ) → d ≤ 5 → (v : List Float) → outs hbfStream (streamFresh d) v ≡ decimatedBy (stageTaps decimation) 0 d v
 unfolding hbfStream
-stream-meets d h = record { never-refused = λ v. state-not-refused (streamFresh d) v (fresh-not-refused d h); whole = λ v. stream-whole (stageTaps decimation) dec-stages d h v }
+fresh-whole d h v = stream-whole (stageTaps decimation) dec-stages d h v
+
+pub stream-meets : (d : ℕ) → 1 ≤ d → d ≤ 5 → StreamMeets d (streamFresh d)
+stream-meets d p h = record { never-refused = λ v. state-not-refused (streamFresh d) v (fresh-not-refused d p h); whole = fresh-whole d h }
 
 -- the two ways of being refused
-pub too-deep : (d : ℕ) (counts : List ℕ) → 5 < d → streamRefused d counts ≡ true
+pub not-so-deep : (d : ℕ) (counts : List ℕ) → outside d 1 5 ≡ true → streamRefused d counts ≡ true
 unfolding streamRefused
-too-deep d counts h = ap (λ (b : Bool). cond b true (cond (heldFine d counts) false true)) (lt-ltb 5 d h)
+not-so-deep d counts h = ap (λ (b : Bool). cond b true (cond (heldFine d counts) false true)) h
 
-pub too-many : (d k : ℕ) (counts : List ℕ) → d ≤ 5 → k < d → 1 < getD counts k 0 → streamRefused d counts ≡ true
+pub too-many : (d k : ℕ) (counts : List ℕ) → outside d 1 5 ≡ false → k < d → 1 < getD counts k 0 → streamRefused d counts ≡ true
 unfolding streamRefused
 too-many d k counts h l m =
-    ap (λ (b : Bool). cond b true (cond (heldFine d counts) false true)) (le-ltb 5 d h) ∙ ap (λ (b : Bool). cond b false true) (held-not d k counts l m)
+    ap (λ (b : Bool). cond b true (cond (heldFine d counts) false true)) h ∙ ap (λ (b : Bool). cond b false true) (held-not d k counts l m)
 
 -- a cascade of no stages hands its samples on, and stays as it is
 pub off-out : (s : HbfStream) (x : Float) → s .depth ≡ 0 → hbfStream .out s x ≡ some x
@@ -128,3 +158,13 @@ off-out s x e = ap (λ (n : ℕ). through (stageTaps decimation) n 0 (some x) s 
 pub off-next : (s : HbfStream) (x : Float) → s .depth ≡ 0 → hbfStream .next s x ≡ s
 unfolding hbfStream stream through
 off-next s x e = ap (λ (n : ℕ). through (stageTaps decimation) n 0 (some x) s .state) (ap (λ (d : ℕ). min d 5) e)
+
+-- in the line every sample keeps a state from being refused
+pub line-next-not-refused :
+    (s : HbfStream) (x : Float) → streamRefusedInLine (s .depth) (s .counts) ≡ false
+    → streamRefusedInLine (hbfStream .next s x .depth) (hbfStream .next s x .counts) ≡ false
+line-next-not-refused s x e = elim (decLe 1 (s .depth)) [
+  | yes h ↦ line-not-refused (hbfStream .next s x .depth) (hbfStream .next s x .counts) (λ p. next-not-refused s x (line-refused-says (s .depth) (s .counts) h e))
+  | no h ↦ (let z : s .depth ≡ 0 = omega arith in
+      ap (λ (t : HbfStream). streamRefusedInLine (t .depth) (t .counts)) (off-next s x z) ∙ e)
+]

@@ -5,12 +5,13 @@ use mathlib.Core.Bool.{Bool, true, false, cond, _&&_}
 use mathlib.Core.List.{List, [], _∷_}
 use mathlib.Core.Option.{Option, none, some}
 use Prim.Native.Nat.{ℕ, zero, suc, _*_, min}
-use lib.Dec.{eqb, leb, ltb}
+use lib.Dec.{eqb, leb}
 use lib.ListN.{length, getD, set, take, drop, replicate}
 use lib.Ieee.{Float, nan}
 use Rattle.theory.specs.Sections.{Section, state, outs}
 use Rattle.refusal.specs.Table.{numberOf}
 use Rattle.refusal.specs.Outcome.{Opened, Outcome}
+use Rattle.refusal.specs.Rows.{outside}
 use Rattle.half_band.specs.Limits.{mostStages}
 use Rattle.half_band.specs.HalfBand.{decimatedBy}
 use Rattle.float.specs.F32.{zero32}
@@ -82,18 +83,22 @@ streamOf depth delays held counts = record { depth = depth; delays = delays; hel
 abbrev pub streamFresh : ℕ → HbfStream
 streamFresh depth = streamOf depth (replicate 480 zero32) (replicate mostStages zero32) (replicate mostStages 0)
 
--- 11: "depth over 5"; in the line 0 means off
+-- 11: "depth over 5, or a cascade of 0 (not the line)"
 abbrev pub streamOpening : ℕ → Opened HbfStream
-streamOpening depth = cond (ltb mostStages depth) (record { number = 11; state = streamFresh 0 }) (record { number = 0; state = streamFresh depth })
+streamOpening depth = cond (outside depth 1 mostStages) (record { number = 11; state = streamFresh 0 }) (record { number = 0; state = streamFresh depth })
 
 -- 15: "more than one held sample at one half-band stage", of the first n
 unfoldable pub heldFine : ℕ → List ℕ → Bool
 heldFine zero counts = true
 heldFine (suc n) counts = heldFine n counts && leb (getD counts n 0) 1
 
--- 15: these, and "settings that its opening refuses"
+-- 15 beside the line: these, and "settings that its opening refuses"; so the zeros of a refused opening are refused too
 unfoldable pub streamRefused : ℕ → List ℕ → Bool
-streamRefused depth counts = cond (ltb mostStages depth) true (cond (heldFine depth counts) false true)
+streamRefused depth counts = cond (outside depth 1 mostStages) true (cond (heldFine depth counts) false true)
+
+-- 15 in the line, where 0 means off and "a part that is off is not checked"
+unfoldable pub streamRefusedInLine : ℕ → List ℕ → Bool
+streamRefusedInLine depth counts = cond (eqb depth 0) false (streamRefused depth counts)
 
 abbrev pub streamReset : HbfStream → Opened HbfStream
 streamReset s = cond (streamRefused (s .depth) (s .counts)) (record { number = 15; state = s }) (streamOpening (s .depth))
@@ -125,5 +130,5 @@ toldStreamStep r = toldStreamOut (r .out) (r .state)
 pub record StreamMeets (depth : ℕ) (s : HbfStream) : Type 0 where
   -- no sample after it is refused
   pub never-refused : (v : List Float) → streamRefused (state hbfStream s v .depth) (state hbfStream s v .counts) ≡ false
-  -- the outputs of any list are those of each stage run on the whole list of the stage before; of depth 0 the list itself
+  -- the outputs of any list are those of each stage run on the whole list of the stage before
   pub whole : (v : List Float) → outs hbfStream s v ≡ decimatedBy (stageTaps decimation) 0 depth v

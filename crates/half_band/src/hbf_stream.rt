@@ -7,7 +7,7 @@ ghost use Rattle.refusal.specs.Outcome.{openingNumber};
 ghost use Rattle.half_band.specs.Answers.{toldOpening};
 ghost use Rattle.half_band.specs.HbfTaps.{stageTaps, decimation};
 ghost use Rattle.half_band.specs.Windows.{slid, decValue, spliced};
-ghost use Rattle.half_band.specs.HbfStream.{streamOf, streamFresh, hbfStream, valueOf, answered, streamOpening, streamReset, streamStep, streamRefused, toldStreamStep, StreamMeets};
+ghost use Rattle.half_band.specs.HbfStream.{streamOf, streamFresh, hbfStream, valueOf, answered, streamOpening, streamReset, streamStep, streamRefused, streamRefusedInLine, toldStreamStep, StreamMeets};
 use crate::half_band::take_pair;
 use crate::hbf_taps::HBF_TAPS;
 use crate::hbf_taps::decimation_stage;
@@ -15,6 +15,7 @@ use crate::limits::MOST_STAGES;
 use crate::limits::smaller;
 use refusal::Opening;
 use refusal::Refusal;
+use refusal::rows::outside;
 
 // Stage k has its last 4M samples in front of the 96 delays from 96k on, and holds counts[k] samples, none or one, in held[k].
 pub struct HbfStream {
@@ -94,11 +95,11 @@ pub fn hbf_stream_at(
     HbfOut::Value(v)
 }
 
-// Refusal 15 of a state: too many stages, or more than one held sample at a stage that is run.
-pub fn hbf_stream_refused(depth: usize, counts: [usize; 5]) -> bool
+// Refusal 15 of a state: no stages or too many, or more than one held sample at a stage that is run.
+fn hbf_stream_refused(depth: usize, counts: [usize; 5]) -> bool
     ensures { λ r. ⌜ r ≡ streamRefused depth counts ⌝ }
 {
-    if MOST_STAGES < depth {
+    if outside(depth, 1, MOST_STAGES) {
         return true;
     }
     let mut k = 0;
@@ -109,6 +110,16 @@ pub fn hbf_stream_refused(depth: usize, counts: [usize; 5]) -> bool
         k += 1;
     }
     false
+}
+
+// Refusal 15 of a state in the line, where no stages means off.
+pub fn hbf_stream_refused_in_line(depth: usize, counts: [usize; 5]) -> bool
+    ensures { λ r. ⌜ r ≡ streamRefusedInLine depth counts ⌝ }
+{
+    if depth == 0 {
+        return false;
+    }
+    hbf_stream_refused(depth, counts)
 }
 
 fn fresh(depth: usize) -> HbfStream
@@ -136,12 +147,12 @@ fn answer(o: HbfOut) -> HbfStreamOut
 }
 
 impl HbfStream {
-    // A cascade of so many stages; of none, which hands its samples on. Refusal 11: over five.
+    // A cascade of so many stages. Refusal 11: none, or over five.
     pub fn new(depth: usize) -> HbfStreamOpening
         ensures answer { λ r. ⌜ toldOpening (r .answer) (r .state) ≡ streamOpening depth ⌝ }
         ensures meets { λ r. ⌜ (openingNumber (r .answer) ≡ 0 → StreamMeets depth (r .state)) ⌝ }
     {
-        if MOST_STAGES < depth {
+        if outside(depth, 1, MOST_STAGES) {
             let state = fresh(0);
             return HbfStreamOpening {
                 answer: Opening::Refused(Refusal::Depth),

@@ -31,7 +31,7 @@ pub use crate::hbf_stream::HbfStreamOpening;
 pub use crate::hbf_stream::HbfStreamOut;
 pub use crate::hbf_stream::HbfStreamStep;
 pub use crate::hbf_stream::hbf_stream_at;
-pub use crate::hbf_stream::hbf_stream_refused;
+pub use crate::hbf_stream::hbf_stream_refused_in_line;
 pub use crate::hbf_taps::HBF_TAPS;
 pub use crate::hbf_taps::hbf_tap_table;
 pub use crate::limits::MOST_STAGES;

@@ -20,12 +20,12 @@ use Rattle.q15.specs.Fixed.{cut}
 use Rattle.q15.specs.FirDecimator.{fir}
 use Rattle.q15.specs.FirDecimator as Q
 use Rattle.q15.specs.declared.fir_decimator.FirDecimator.{FirDecimator}
-use Rattle.q15.proofs.FirSteps.{valid-next}
-use Rattle.half_band.specs.HbfStream.{hbfStream, streamRefused}
+use Rattle.q15.proofs.FirSteps.{line-next}
+use Rattle.half_band.specs.HbfStream.{hbfStream}
 use Rattle.float.specs.PolyphaseResamp.{inLine, validInLine}
 use Rattle.half_band.specs.declared.hbf_stream.HbfStream.{HbfStream}
 use Rattle.float.specs.declared.polyphase_resamp.PolyphaseResampF32.{PolyphaseResampF32}
-use Rattle.half_band.proofs.HeldOnes.{next-not-refused}
+use Rattle.half_band.proofs.HeldOnes.{line-next-not-refused}
 use Rattle.float.proofs.PolyphaseRange as Res
 use Rattle.float.specs.Level.{level}
 use Rattle.line.specs.Line.{Parts, partsOf, ofParts, from3, from4, from5, chain, line, cicFine, halfBandFine, valid}
@@ -41,7 +41,7 @@ cic-kept d x h =
 
 half-band-kept : (s : HbfStream) (x : Float) → halfBandFine s ≡ true → halfBandFine (hbfStream .next s x) ≡ true
 unfolding halfBandFine
-half-band-kept s x h = not-is _ (next-not-refused s x (not-says _ h))
+half-band-kept s x h = not-is _ (line-next-not-refused s x (not-says _ h))
 
 -- the machine from each section on, with what is asked of its states
 abbrev Good5 : PolyphaseResampF32 → Type 0
@@ -54,7 +54,7 @@ abbrev GoodLevel : Unit {0} × (HbfStream × PolyphaseResampF32) → Type 0
 GoodLevel p = Unit {0} × Good4 (p .1)
 
 abbrev Good3 : FirDecimator × (Unit {0} × (HbfStream × PolyphaseResampF32)) → Type 0
-Good3 p = (Q.valid (p .0) ≡ true) × GoodLevel (p .1)
+Good3 p = (Q.validInLine (p .0) ≡ true) × GoodLevel (p .1)
 
 abbrev Good2 : Unit {0} × (FirDecimator × (Unit {0} × (HbfStream × PolyphaseResampF32))) → Type 0
 Good2 p = Unit {0} × Good3 (p .1)
@@ -69,7 +69,7 @@ law-level : Lawful (before (each level) from4) 64 GoodLevel
 law-level = lawful-before (each level) from4 64 Good4 law4 (λ s. Unit {0}) (λ s a g. tt)
 
 law3 : Lawful from3 64 Good3
-law3 = lawful-before fir (before (each level) from4) 64 GoodLevel law-level (λ s. Q.valid s ≡ true) valid-next
+law3 = lawful-before fir (before (each level) from4) 64 GoodLevel law-level (λ s. Q.validInLine s ≡ true) line-next
 
 law2 : Lawful (before (each (cut w16)) from3) 64 Good2
 law2 = lawful-before (each (cut w16)) from3 64 Good3 law3 (λ s. Unit {0}) (λ s a g. tt)
@@ -81,7 +81,7 @@ pub to-parts : (l : Line) → valid l ≡ true → Good1 (partsOf l)
 unfolding valid
 to-parts l h =
     let a : Bool = cicFine (l .cic) in
-    let b : Bool = Q.valid (l .fir) in
+    let b : Bool = Q.validInLine (l .fir) in
     let d : Bool = halfBandFine (l .«half_band») in
     let e : Bool = validInLine (l .resampler) in
     let r : b && (d && e) ≡ true = and-right a (b && (d && e)) h in

@@ -40,7 +40,7 @@ due-limits f s integrators combs taps firDelay delays held counts delay prototyp
 -- the tests of a line held apart are those of the line
 pub valid-apart : (l : Line) → validAt (fixedIn (numbersIn l)) (changingIn (numbersIn l)) (l .«half_band» .counts) ≡ valid l
 unfolding validAt valid cicFine halfBandFine bitsAt validInLine
-valid-apart l = ap (λ (b : Bool). b && (Q.valid (l .fir) && (halfBandFine (l .«half_band») && validInLine (l .resampler)))) (go (C.valid (l .cic)))
+valid-apart l = ap (λ (b : Bool). b && (Q.validInLine (l .fir) && (halfBandFine (l .«half_band») && validInLine (l .resampler)))) (go (C.valid (l .cic)))
   where
     go : (v : Bool) → leb (cond v (gainBits (l .cic .stages) (l .cic .r)) 64) mostBits ≡ (v && leb (gainBits (l .cic .stages) (l .cic .r)) mostBits)
     go true = refl

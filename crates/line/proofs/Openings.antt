@@ -4,7 +4,7 @@ use mathlib.Core.Bool.{Bool, true, false, cond, _&&_, not, false≢true}
 use mathlib.Core.List.{List, [], map}
 use Prim.Native.Nat.{ℕ, zero, suc, _*_, _≤_}
 use native.Mathlib.Omega.{arith}
-use borrow.Author.Tests.{ltb-false, le-ltb, ne-eqb, eqb-true}
+use borrow.Author.Tests.{ltb-false, ne-eqb, eqb-true}
 use lib.Dec.{leb, ltb, eqb}
 use lib.IntN.{ℤ}
 use lib.Ieee.{Float}
@@ -21,9 +21,9 @@ use Rattle.integer.specs.CicDecimator.{scaledDecimator}
 use Rattle.integer.specs.CicDecimator as C
 use Rattle.integer.proofs.Streaming.{streams}
 use Rattle.q15.specs.Fixed.{cut}
-use Rattle.q15.specs.FirDecimator.{fir, firWhole, settingsNumber}
+use Rattle.q15.specs.FirDecimator.{fir, firWhole, settingsNumberInLine}
 use Rattle.q15.specs.FirDecimator as Q
-use Rattle.q15.proofs.FirStream.{fresh-streamed}
+use Rattle.q15.proofs.FirStream.{line-streamed}
 use Rattle.q15.proofs.FirOpening as FirOpening
 use Rattle.half_band.specs.HalfBand.{decimatedBy}
 use Rattle.half_band.specs.HbfTaps.{stageTaps, decimation}
@@ -31,11 +31,12 @@ use Rattle.half_band.specs.HbfStream.{hbfStream, streamFresh, streamOpening}
 use Rattle.float.specs.PolyphaseResamp.{inLine, inLimits, stepInLine, validInLine}
 use Rattle.float.specs.PolyphaseResamp as R
 use Rattle.float.specs.declared.polyphase_resamp.PolyphaseResampF32.{PolyphaseResampF32}
-use Rattle.half_band.proofs.HeldOnes.{fresh-not-refused, stream-meets}
+use Rattle.half_band.proofs.HeldOnes.{line-fresh-not-refused, fresh-whole}
 use Rattle.float.proofs.PolyphaseRange.{line-fresh, line-off}
 use Rattle.float.proofs.PolyphaseWhole.{becomes-all, becomes-one, off-hands-on}
 use Rattle.float.specs.Level.{level}
-use Rattle.refusal.proofs.Limits.{first-none}
+use Rattle.refusal.specs.Rows.{outside}
+use Rattle.refusal.proofs.Limits.{first-none, not-outside}
 use Rattle.line.specs.Outputs.{Opening, levels, Resampled, Outputs}
 use Rattle.line.specs.Line.{line, cicFine, halfBandFine, valid, cicNumber, depthNumber, resamplerNumber, numberAt, openingNumberOf, resamplerFresh, fresh}
 use Rattle.line.specs.declared.gauge_line.Line.{Line}
@@ -57,7 +58,7 @@ pub record Accepted (o : Opening) : Type 0 where
   pub stages : stagesOk (o .settings .stages) ≡ true
   pub factor : factorOk (o .settings .r) ≡ true
   pub bits : leb (gainBits (o .settings .stages) (o .settings .r)) mostBits ≡ true
-  pub filter : settingsNumber (length (o .taps)) (o .settings .factor) ≡ 0
+  pub filter : settingsNumberInLine (length (o .taps)) (o .settings .factor) ≡ 0
   pub depth : o .settings .depth ≤ 5
   pub resampler : (o .settings .phases ≡ 0 → ⊥) → On o
 
@@ -66,7 +67,7 @@ unfolding numberAt cicNumber depthNumber resamplerNumber
 accepted o e =
     let s = o .settings in
     let p = first-none (cicNumber (s .stages) (s .r)) _ e in
-    let q = first-none (settingsNumber (length (o .taps)) (s .factor)) _ (p .1) in
+    let q = first-none (settingsNumberInLine (length (o .taps)) (s .factor)) _ (p .1) in
     let t = first-none (depthNumber (s .depth)) _ (q .1) in
     let a = passed (stagesOk (s .stages)) _ 0 (p .0) in
     let b = passed (factorOk (s .r)) _ 1 (a .1) in
@@ -111,8 +112,8 @@ module _ (o : Opening) (ok : Accepted o) where
   unfolding valid fresh resamplerFresh cicFine halfBandFine
   fresh-valid =
       and-both _ _ (and-both _ _ (streams (o .settings .stages) (o .settings .r) (ok .stages) (ok .factor) .unrefused []) (ok .bits))
-      (and-both _ _ (FirOpening.fresh-valid (o .taps) (o .settings .factor) (ok .filter))
-      (and-both _ _ (not-is _ (fresh-not-refused (o .settings .depth) (ok .depth))) (resampler-valid (o .settings .phases) refl)))
+      (and-both _ _ (FirOpening.line-fresh-valid (o .taps) (o .settings .factor) (ok .filter))
+      (and-both _ _ (not-is _ (line-fresh-not-refused (o .settings .depth) (ok .depth))) (resampler-valid (o .settings .phases) refl)))
 
   resampled : (v : List Float) (n : ℕ) → o .settings .phases ≡ n → Resampled n o v (all inLine 64 resampler v)
   resampled v zero e = rw e (off-hands-on R.zeros v (unfold R.zeros in refl))
@@ -127,18 +128,18 @@ module _ (o : Opening) (ok : Accepted o) where
           (becomes-all (suc n) (o .settings .taps) (o .prototype) (subst (λ (k : ℕ). inLimits k (o .settings .taps) ≡ true) e (on .limits)) (on .long ∙ ap (λ (k : ℕ). k * o .settings .taps) e) (o .settings .step) (on .step) v))
 
   reaches : (w : List ℤ) →
-      outs hbfStream (streamFresh (o .settings .depth)) (outs (each level) (tt {0}) (outs fir (Q.fresh (o .taps) (o .settings .factor)) (outs (each (cut w16)) (tt {0}) (outs scaledDecimator (C.fresh (o .settings .stages) (o .settings .r)) w))))
+      outs hbfStream (streamFresh (o .settings .depth)) (outs (each level) (tt {0}) (outs fir (Q.freshInLine (o .taps) (o .settings .factor)) (outs (each (cut w16)) (tt {0}) (outs scaledDecimator (C.fresh (o .settings .stages) (o .settings .r)) w))))
       ≡ levels o w
   unfolding levels
   reaches w =
       let sums = outs scaledDecimator (C.fresh (o .settings .stages) (o .settings .r)) w in
       let cuts = outs (each (cut w16)) (tt {0}) sums in
-      let values = outs fir (Q.fresh (o .taps) (o .settings .factor)) cuts in
-      stream-meets (o .settings .depth) (ok .depth) .whole (outs (each level) (tt {0}) values)
+      let values = outs fir (Q.freshInLine (o .taps) (o .settings .factor)) cuts in
+      fresh-whole (o .settings .depth) (ok .depth) (outs (each level) (tt {0}) values)
       ∙ ap (decimatedBy (stageTaps decimation) 0 (o .settings .depth))
       (outs-each level (tt {0}) values
       ∙ ap (map level)
-      (fresh-streamed (o .taps) (o .settings .factor) (ok .filter) cuts
+      (line-streamed (o .taps) (o .settings .factor) (ok .filter) cuts
       ∙ ap (firWhole (o .taps) (o .settings .factor))
       (outs-each (cut w16) (tt {0}) sums ∙ ap (map (cut w16)) (streams (o .settings .stages) (o .settings .r) (ok .stages) (ok .factor) .scaled-made w))))
 
@@ -157,14 +158,19 @@ one-list o w a b = go (o .settings .phases)
     go zero p q = p ∙ sym q
     go (suc n) p q = becomes-one (suc n) (o .settings .taps) (o .prototype) (o .settings .step) (levels o w) a b p q
 
--- the layers' openings, where they are not refused
+-- the half-band part: of no stages zeros, which a refused opening leaves
+opened-to : (d : ℕ) → d ≤ 5 → streamOpening d .state ≡ streamFresh d
+opened-to zero h = unfold outside in refl
+opened-to (suc d) h = rw (not-outside (suc d) 1 5 (omega arith) h)
+
+-- the layers' openings, with settings that the line takes
 module _ (o : Opening) (ok : Accepted o) where
   pub cic-opened : CicOpening.opening C.fresh (o .settings .stages) (o .settings .r) .state ≡ C.fresh (o .settings .stages) (o .settings .r)
   unfolding CicOpening.opening
   cic-opened = rw (ok .stages, ok .factor)
 
-  pub fir-opened : Q.firOpened (o .taps) (o .settings .factor) .state ≡ Q.fresh (o .taps) (o .settings .factor)
-  fir-opened = ap (λ (n : ℕ). Q.openedBy n (o .taps) (o .settings .factor)) (ok .filter)
+  pub fir-opened : Q.firOpened (o .taps) (o .settings .factor) .state ≡ Q.freshInLine (o .taps) (o .settings .factor)
+  fir-opened = FirOpening.line-opened (o .taps) (o .settings .factor) (ok .filter)
 
   pub half-band-opened : streamOpening (o .settings .depth) .state ≡ streamFresh (o .settings .depth)
-  half-band-opened = rw (le-ltb 5 (o .settings .depth) (ok .depth))
+  half-band-opened = opened-to (o .settings .depth) (ok .depth)

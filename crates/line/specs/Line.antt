@@ -22,11 +22,11 @@ use Rattle.integer.specs.CicDecimator.{scaledDecimator}
 use Rattle.integer.specs.CicDecimator as C
 use Rattle.integer.specs.declared.cic_decimator.CicDecimator.{CicDecimator}
 use Rattle.q15.specs.Fixed.{cut}
-use Rattle.q15.specs.FirDecimator.{fir, settingsNumber}
+use Rattle.q15.specs.FirDecimator.{fir, settingsNumberInLine}
 use Rattle.q15.specs.FirDecimator as Q
 use Rattle.q15.specs.declared.fir_decimator.FirDecimator.{FirDecimator}
 use Rattle.half_band.specs.Limits.{mostStages}
-use Rattle.half_band.specs.HbfStream.{hbfStream, streamFresh, streamRefused}
+use Rattle.half_band.specs.HbfStream.{hbfStream, streamFresh, streamRefusedInLine}
 use Rattle.float.specs.PolyphaseResamp.{inLine, inLimits, stepInLine, validInLine}
 use Rattle.float.specs.PolyphaseResamp as R
 use Rattle.half_band.specs.declared.hbf_stream.HbfStream.{HbfStream}
@@ -73,10 +73,10 @@ unfoldable pub cicFine : CicDecimator → Bool
 cicFine d = C.valid d && leb (gainBits (d .stages) (d .r)) mostBits
 
 unfoldable pub halfBandFine : HbfStream → Bool
-halfBandFine s = not (streamRefused (s .depth) (s .counts))
+halfBandFine s = not (streamRefusedInLine (s .depth) (s .counts))
 
 unfoldable pub valid : Line → Bool
-valid l = cicFine (l .cic) && (Q.valid (l .fir) && (halfBandFine (l .«half_band») && validInLine (l .resampler)))
+valid l = cicFine (l .cic) && (Q.validInLine (l .fir) && (halfBandFine (l .«half_band») && validInLine (l .resampler)))
 
 -- each case of LineStep in the words of section 6: "it took a sample, wrote one float sample, did both, or stopped", and its number
 abbrev pub eventOf : LineStep → F.Event Float
@@ -140,7 +140,7 @@ resamplerNumber P T cells step = cond (eqb P 0) 0 (cond (inLimits P T) (cond (eq
 unfoldable pub numberAt : Settings → ℕ → ℕ → ℕ
 numberAt s tapCount cells =
     firstOf (cicNumber (s .stages) (s .r))
-    (firstOf (settingsNumber tapCount (s .factor)) (firstOf (depthNumber (s .depth)) (resamplerNumber (s .phases) (s .taps) cells (s .step))))
+    (firstOf (settingsNumberInLine tapCount (s .factor)) (firstOf (depthNumber (s .depth)) (resamplerNumber (s .phases) (s .taps) cells (s .step))))
 
 abbrev pub openingNumberOf : Opening → ℕ
 openingNumberOf o = numberAt (o .settings) (length (o .taps)) (length (o .prototype))
@@ -153,7 +153,7 @@ unfoldable pub fresh : Opening → Line
 fresh o =
     record {
       cic = C.fresh (o .settings .stages) (o .settings .r);
-      fir = Q.fresh (o .taps) (o .settings .factor);
+      fir = Q.freshInLine (o .taps) (o .settings .factor);
       «half_band» = streamFresh (o .settings .depth);
       resampler = resamplerFresh (o .settings) (o .prototype);
     }

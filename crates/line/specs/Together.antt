@@ -14,10 +14,10 @@ use Rattle.integer.specs.Gain.{gainBits, mostBits}
 use Rattle.integer.specs.CicDecimator.{decimatorOf}
 use Rattle.integer.specs.CicDecimator as C
 use Rattle.integer.specs.declared.cic_decimator.CicDecimator.{CicDecimator}
-use Rattle.q15.specs.FirDecimator.{firState, firValid}
+use Rattle.q15.specs.FirDecimator.{firState, firValidInLine}
 use Rattle.q15.specs.declared.fir_decimator.FirDecimator.{FirDecimator}
 use Rattle.float.specs.F32.{one32}
-use Rattle.half_band.specs.HbfStream.{streamOf, streamRefused}
+use Rattle.half_band.specs.HbfStream.{streamOf, streamRefusedInLine}
 use Rattle.float.specs.PolyphaseResamp as R
 use Rattle.half_band.specs.declared.hbf_stream.HbfStream.{HbfStream}
 use Rattle.float.specs.declared.polyphase_resamp.PolyphaseResampF32.{PolyphaseResampF32}
@@ -93,7 +93,7 @@ bitsAt N r counter = cond (C.validAt N r counter) (gainBits N r) 64
 unfoldable pub validAt : Fixed → Numbers → List ℕ → Bool
 validAt f s counts =
     leb (f .bits) mostBits
-    && (firValid (f .«tap_count») (f .factor) (s .wait) && (not (streamRefused (f .depth) counts) && R.validInLineAt (f .phases) (f .taps) (f .step) (s .mu)))
+    && (firValidInLine (f .«tap_count») (f .factor) (s .wait) && (not (streamRefusedInLine (f .depth) counts) && R.validInLineAt (f .phases) (f .taps) (f .step) (s .mu)))
 
 -- what a feed of the line l left: the counts, the line k and the span are those of section 6's feed
 pub record RanTo (l : Line) (xs : List ℤ) (before after : List Float) (taken written : ℕ) (k : Line) : Type 0 where

@@ -48,6 +48,7 @@ pub struct LineFed {
     pub line: Line,
 }
 
+// Each part as its refused opening leaves it, which is zeros.
 fn zeros() -> Line
     ensures { λ l. ⌜ l ≡ L.zeros ⌝ }
 {
@@ -73,6 +74,7 @@ fn resampler_of(s: Settings, prototype: &[f32]) -> PolyphaseResampF32
     PolyphaseResampF32::fresh(s.phases, s.taps, prototype, s.step)
 }
 
+// A part that is off is one that its own opening refuses, and what that leaves is what the line has for it: zeros, settings too.
 fn fresh(s: Settings, taps: &[i16], prototype: &[f32]) -> Line
     requires { ⌜ L.numberAt s (length (now taps)) (length (now prototype)) ≡ 0 ⌝ }
     ensures { λ l. ⌜ l ≡ L.fresh (record { settings = s; taps = now (taps .entry); prototype = now (prototype .entry) }) ⌝ }

@@ -11,7 +11,7 @@ use integer::gain::bits_of;
 use integer::gain::gain_of;
 use integer::limits::factor_ok;
 use integer::limits::stages_ok;
-use q15::fir_decimator::settings_answer;
+use q15::fir_decimator::settings_answer_in_line;
 use refusal::Opening;
 use refusal::Refusal;
 
@@ -75,7 +75,7 @@ pub(crate) fn answer(s: Settings, tap_count: usize, cells: usize) -> Opening
     ensures { λ a. ⌜ openingNumber a ≡ L.numberAt s «tap_count» cells ⌝ }
 {
     let cic = cic_answer(s.stages, s.r);
-    let fir = settings_answer(tap_count, s.factor);
+    let fir = settings_answer_in_line(tap_count, s.factor);
     let half_band = depth_answer(s.depth);
     let resampler = resampler_answer(s.phases, s.taps, cells, s.step);
     let behind = first(half_band, resampler);

@@ -5,11 +5,11 @@ use crate::opening::MAX_BITS;
 use crate::sample::Fixed;
 use crate::sample::Numbers;
 use float::polyphase_resamp::is_valid_in_line;
-use half_band::hbf_stream::hbf_stream_refused;
+use half_band::hbf_stream::hbf_stream_refused_in_line;
 use integer::cic_decimator::valid;
 use integer::gain::bits_of;
 use integer::gain::gain_of;
-use q15::fir_valid;
+use q15::fir_valid_in_line;
 
 // The gain bits of a valid decimator; 64 for another, whose gain is not looked at.
 pub(crate) fn bits_at(stages: usize, r: usize, sample_counter: usize) -> u32
@@ -27,10 +27,10 @@ pub(crate) fn valid_at(f: Fixed, s: Numbers, counts: [usize; 5]) -> bool
     if MAX_BITS < f.bits {
         return false;
     }
-    if !fir_valid(f.tap_count, f.factor, s.wait) {
+    if !fir_valid_in_line(f.tap_count, f.factor, s.wait) {
         return false;
     }
-    if hbf_stream_refused(f.depth, counts) {
+    if hbf_stream_refused_in_line(f.depth, counts) {
         return false;
     }
     is_valid_in_line(f.phases, f.taps, f.step, s.mu)

@@ -2,7 +2,7 @@
 use mathlib.Core.Path.{_≡_, refl, sym, ap, _∙_}
 use mathlib.Core.Bool.{true}
 use mathlib.Core.List.{List}
-use Prim.Native.Nat.{ℕ, _≤_}
+use Prim.Native.Nat.{ℕ, zero, suc, _≤_}
 use native.Mathlib.Decide.{decLe}
 use native.Mathlib.Omega.{arith}
 use borrow.Author.Tests.{eq-eqb, ne-eqb}
@@ -11,25 +11,42 @@ use lib.ListN.{length}
 use Rattle.refusal.specs.declared.Refusal.{Refusal}
 use Rattle.refusal.specs.Table.{numberOf}
 use Rattle.refusal.specs.Outcome.{Opened}
-use Rattle.q15.specs.FirDecimator.{firZeros, settingsNumber, firValid, valid, fresh, openedBy, firOpened, Streams}
+use Rattle.q15.specs.FirDecimator.{firZeros, settingsNumber, settingsNumberInLine, firValidInLine, valid, validInLine, fresh, freshInLine, openedBy, firOpened, Streams}
 use Rattle.q15.specs.declared.fir_decimator.FirDecimator.{FirDecimator}
 use Rattle.q15.proofs.Rows.{turned, not-zero}
-use Rattle.q15.proofs.FirSteps.{on-valid, outs-steps, never-refused}
+use Rattle.q15.proofs.FirSteps.{settings-in, line-settings, on-valid, valid-in-line, outs-steps, never-refused}
 use Rattle.q15.proofs.FirStream.{fresh-streamed}
-
--- off, nothing is checked
-zeros-valid : valid firZeros ≡ true
-unfolding firValid
-zeros-valid = refl
 
 module _ (c : List ℤ) (D : ℕ) where
   pub fresh-valid : settingsNumber (length c) D ≡ 0 → valid (fresh c D) ≡ true
   unfolding fresh
-  fresh-valid e = go (decLe 1 (length c))
+  fresh-valid e = on-valid (length c) D (length c) e (settings-in (length c) D e .some) (omega arith)
+
+  -- in the line, where one that is off is not checked
+  pub line-fresh-valid : settingsNumberInLine (length c) D ≡ 0 → validInLine (freshInLine c D) ≡ true
+  unfolding freshInLine firValidInLine
+  line-fresh-valid e = go (decLe 1 (length c))
     where
-      go : Dec (1 ≤ length c) → valid (fresh c D) ≡ true
-      go (yes h) = let n : length c ≡ 0 → ⊥ = omega arith in rw (ne-eqb (length c) 0 n) (on-valid (length c) D (length c) e h (omega arith))
-      go (no h) = let z : length c ≡ 0 = omega arith in rw (eq-eqb (length c) 0 z) zeros-valid
+      go : Dec (1 ≤ length c) → validInLine (freshInLine c D) ≡ true
+      go (yes h) =
+          let n : length c ≡ 0 → ⊥ = omega arith in
+          rw (ne-eqb (length c) 0 n) (valid-in-line _ _ _ (fresh-valid (line-settings (length c) D n e)))
+      go (no h) = let z : length c ≡ 0 = omega arith in rw (eq-eqb (length c) 0 z) refl
+
+  zeros-by : (n : ℕ) → (n ≡ 0 → ⊥) → openedBy n c D ≡ firZeros
+  zeros-by zero h = absurd (h refl)
+  zeros-by (suc n) h = refl
+
+  -- an opening with settings that the line takes gives the line's part, since both are zeros where there are no taps
+  pub line-opened : settingsNumberInLine (length c) D ≡ 0 → firOpened c D .state ≡ freshInLine c D
+  unfolding freshInLine
+  line-opened e = go (decLe 1 (length c))
+    where
+      go : Dec (1 ≤ length c) → firOpened c D .state ≡ freshInLine c D
+      go (yes h) =
+          let n : length c ≡ 0 → ⊥ = omega arith in
+          rw (ne-eqb (length c) 0 n) (ap (λ (k : ℕ). openedBy k c D) (line-settings (length c) D n e))
+      go (no h) = let z : length c ≡ 0 = omega arith in rw (eq-eqb (length c) 0 z) (zeros-by (settingsNumber (length c) D) (λ q. let i = settings-in (length c) D q .some in absurd (omega arith)))
 
   pub fresh-streams : settingsNumber (length c) D ≡ 0 → Streams c D (fresh c D)
   fresh-streams e =

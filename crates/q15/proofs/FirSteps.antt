@@ -1,5 +1,5 @@
 -- One sample of the streaming FIR: the four ways it goes, and that a valid state stays valid, so that no sample after an opening is refused.
-use mathlib.Core.Path.{_≡_, refl, ap, _∙_}
+use mathlib.Core.Path.{_≡_, refl, ap, _∙_, subst}
 use mathlib.Core.Bool.{Bool, true, false, not, _&&_, cond, true≢false, false≢true}
 use mathlib.Core.List.{List, [], _∷_}
 use mathlib.Core.Option.{none, some}
@@ -14,7 +14,7 @@ use Rattle.theory.proofs.Sections.{state-keeps}
 use Rattle.refusal.specs.Rows.{outside}
 use Rattle.q15.specs.Block.{mostFactor}
 use Rattle.q15.specs.PolyphaseDecimate.{filtered}
-use Rattle.q15.specs.FirDecimator.{mostTaps, firState, stored, moved, firNext, firOut, fir, settingsNumber, badWait, firValid, valid, firStep, steps}
+use Rattle.q15.specs.FirDecimator.{mostTaps, firState, stored, moved, firNext, firOut, fir, settingsNumber, settingsNumberInLine, badWait, firValid, firValidInLine, valid, validInLine, firStep, steps}
 use Rattle.q15.specs.declared.fir_decimator.FirDecimator.{FirDecimator}
 use Rattle.refusal.proofs.Limits.{within}
 
@@ -42,15 +42,27 @@ module _ (c : List ℤ) (T D : ℕ) (d : List ℤ) (w : ℕ) (x : ℤ) where
       rw (ne-eqb T 0 n, le-ltb mostTaps T t, le-leb w 1 l)
       (ap some (v ∙ ap (λ (p : List ℤ). filtered c T p 0) h), ap (λ (p : List ℤ). firState c T D p D) (k ∙ ap (moved T D) h))
 
--- settings that are not refused, of a part that is on
-pub settings-in : (T D : ℕ) → (T ≡ 0 → ⊥) → settingsNumber T D ≡ 0 → (T ≤ mostTaps) × (1 ≤ D)
+-- settings that are not refused
+pub record SettingsIn (T D : ℕ) : Type 0 where
+  pub some : 1 ≤ T
+  pub few : T ≤ mostTaps
+  pub factor : 1 ≤ D
+
+pub settings-in : (T D : ℕ) → settingsNumber T D ≡ 0 → SettingsIn T D
 unfolding settingsNumber
-settings-in T D n e = go (outside D 1 mostFactor) refl (ltb mostTaps T) refl (rw (ne-eqb T 0 n) at e)
+settings-in T D e = go (outside D 1 mostFactor) refl (outside T 1 mostTaps) refl e
   where
-    go : (a : Bool) → outside D 1 mostFactor ≡ a → (b : Bool) → ltb mostTaps T ≡ b → _≡_ {A = ℕ} (cond a 5 (cond b 6 0)) 0 → (T ≤ mostTaps) × (1 ≤ D)
+    go : (a : Bool) → outside D 1 mostFactor ≡ a → (b : Bool) → outside T 1 mostTaps ≡ b → _≡_ {A = ℕ} (cond a 5 (cond b 6 0)) 0 → SettingsIn T D
     go true p b q e = absurd (omega (arith, e))
     go false p true q e = absurd (omega (arith, e))
-    go false p false q e = (ltb-false mostTaps T q, within D 1 mostFactor p .least)
+    go false p false q e =
+        let t = within T 1 mostTaps q in
+        record { some = t .least; few = t .most; factor = within D 1 mostFactor p .least }
+
+-- in the line, of a part that is on
+pub line-settings : (T D : ℕ) → (T ≡ 0 → ⊥) → settingsNumberInLine T D ≡ 0 → settingsNumber T D ≡ 0
+unfolding settingsNumberInLine
+line-settings T D n e = rw (ne-eqb T 0 n) at e
 
 -- a wait that is not bad, both ways
 good-wait : (T D w : ℕ) → badWait T D w ≡ false → (0 < w) × (w ≤ max T D)
@@ -73,56 +85,71 @@ wait-good T D w p l =
       | no h ↦ rw (lt-ltb T w (omega arith), le-ltb D w (omega arith))
     ])
 
--- a valid state of a part that is on
+-- a valid state
 pub record On (T D w : ℕ) : Type 0 where
   pub settings : settingsNumber T D ≡ 0
-  pub few : T ≤ mostTaps
-  pub factor : 1 ≤ D
+  pub within : SettingsIn T D
   pub waits : (0 < w) × (w ≤ max T D)
 
-pub valid-on : (T D w : ℕ) → (T ≡ 0 → ⊥) → firValid T D w ≡ true → On T D w
+pub valid-on : (T D w : ℕ) → firValid T D w ≡ true → On T D w
 unfolding firValid
-valid-on T D w n e = go (eqb (settingsNumber T D) 0) refl (rw (ne-eqb T 0 n) at e)
+valid-on T D w e = go (eqb (settingsNumber T D) 0) refl e
   where
     go : (b : Bool) → eqb (settingsNumber T D) 0 ≡ b → cond b (not (badWait T D w)) false ≡ true → On T D w
     go true p e =
         let s = eqb-true (settingsNumber T D) 0 p in
-        let i = settings-in T D n s in
-        record { settings = s; few = i .0; factor = i .1; waits = good-wait T D w (not-true (badWait T D w) e) }
+        record { settings = s; within = settings-in T D s; waits = good-wait T D w (not-true (badWait T D w) e) }
     go false p e = absurd (false≢true e)
 
 pub on-valid : (T D w : ℕ) → settingsNumber T D ≡ 0 → 0 < w → w ≤ max T D → firValid T D w ≡ true
 unfolding firValid
-on-valid T D w s p l = go (eqb T 0)
+on-valid T D w s p l = rw (eq-eqb (settingsNumber T D) 0 s, wait-good T D w p l)
+
+-- in the line: a state that is valid beside it, or off
+pub valid-in-line : (T D w : ℕ) → firValid T D w ≡ true → firValidInLine T D w ≡ true
+unfolding firValidInLine
+valid-in-line T D w v = go (eqb T 0)
   where
-    go : (b : Bool) → cond b true (cond (eqb (settingsNumber T D) 0) (not (badWait T D w)) false) ≡ true
+    go : (b : Bool) → cond b true (firValid T D w) ≡ true
     go true = refl
-    go false = rw (eq-eqb (settingsNumber T D) 0 s, wait-good T D w p l)
+    go false = v
+
+pub line-valid : (T D w : ℕ) → (T ≡ 0 → ⊥) → firValidInLine T D w ≡ true → firValid T D w ≡ true
+unfolding firValidInLine
+line-valid T D w n v = rw (ne-eqb T 0 n) at v
 
 -- a valid state has at most 64 taps
-pub valid-few : (T D w : ℕ) → firValid T D w ≡ true → T ≤ mostTaps
+pub valid-few : (T D w : ℕ) → firValidInLine T D w ≡ true → T ≤ mostTaps
 valid-few T D w v = elim (decLe 1 T) [
-  | yes h ↦ valid-on T D w (let n : T ≡ 0 → ⊥ = omega arith in n) v .few
+  | yes h ↦ valid-on T D w (line-valid T D w (let n : T ≡ 0 → ⊥ = omega arith in n) v) .within .few
   | no h ↦ (let l : T ≤ mostTaps = omega arith in l)
 ]
 
 -- every sample keeps a state valid
 pub valid-next : (s : FirDecimator) (x : ℤ) → valid s ≡ true → valid (firNext s x) ≡ true
 unfolding firNext
-valid-next s x v = go (eqb (s .«tap_count») 0) refl (ltb mostTaps (s .«tap_count»)) (leb (s .wait) 1) refl _ _
+valid-next s x v = go (eqb (s .«tap_count») 0) (ltb mostTaps (s .«tap_count»)) (leb (s .wait) 1) refl _ _
   where
+    o : On (s .«tap_count») (s .factor) (s .wait)
+    o = valid-on (s .«tap_count») (s .factor) (s .wait) v
+
     go :
-        (a : Bool) → eqb (s .«tap_count») 0 ≡ a → (b e : Bool) → leb (s .wait) 1 ≡ e → (p q : List ℤ)
+        (a b e : Bool) → leb (s .wait) 1 ≡ e → (p q : List ℤ)
         → valid (cond a s (cond b s (cond e (firState (s .taps) (s .«tap_count») (s .factor) p (s .factor)) (firState (s .taps) (s .«tap_count») (s .factor) q (s .wait - 1))))) ≡ true
-    go true n b e l p q = v
-    go false n true e l p q = v
-    go false n false true l p q =
-        let o = valid-on (s .«tap_count») (s .factor) (s .wait) (eqb-false (s .«tap_count») 0 n) v in
-        on-valid (s .«tap_count») (s .factor) (s .factor) (o .settings) (o .factor) (omega arith)
-    go false n false false l p q =
-        let o = valid-on (s .«tap_count») (s .factor) (s .wait) (eqb-false (s .«tap_count») 0 n) v in
+    go true b e l p q = v
+    go false true e l p q = v
+    go false false true l p q = on-valid (s .«tap_count») (s .factor) (s .factor) (o .settings) (o .within .factor) (omega arith)
+    go false false false l p q =
         let h = leb-false (s .wait) 1 l in
         on-valid (s .«tap_count») (s .factor) (s .wait - 1) (o .settings) (omega arith) (omega (arith, o .waits))
+
+pub line-next : (s : FirDecimator) (x : ℤ) → validInLine s ≡ true → validInLine (firNext s x) ≡ true
+line-next s x v = elim (decLe 1 (s .«tap_count»)) [
+  | yes h ↦ (let n : s .«tap_count» ≡ 0 → ⊥ = omega arith in
+      valid-in-line _ _ _ (valid-next s x (line-valid (s .«tap_count») (s .factor) (s .wait) n v)))
+  | no h ↦ (let z : s .«tap_count» ≡ 0 = omega arith in
+      subst (λ (t : FirDecimator). validInLine t ≡ true) (off (s .taps) (s .«tap_count») (s .factor) (s .delay) (s .wait) x z .1) v)
+]
 
 -- what a caller sees of a valid state is the section, and no sample is refused
 pub outs-steps : (s : FirDecimator) (w : List ℤ) → valid s ≡ true → outs steps s w ≡ outs fir s w

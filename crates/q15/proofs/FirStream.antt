@@ -22,13 +22,13 @@ use Rattle.theory.proofs.Decimation.{firFires, fir-one, fir-no, fir-listed}
 use Rattle.q15.specs.Fixed.{flooredProduct, cut, at}
 use Rattle.q15.specs.FirSum.{firSum}
 use Rattle.q15.specs.PolyphaseDecimate.{filtered, decimatedCount, decimated}
-use Rattle.q15.specs.FirDecimator.{mostTaps, firState, firZeros, stored, moved, firNext, firOut, fir, settingsNumber, padded, fresh, firWhole}
+use Rattle.q15.specs.FirDecimator.{mostTaps, firState, firZeros, stored, moved, firNext, firOut, fir, settingsNumber, settingsNumberInLine, padded, fresh, freshInLine, firWhole}
 use Rattle.q15.specs.declared.fir_decimator.FirDecimator.{FirDecimator}
 use Rattle.q15.proofs.Sums.{sum-ext}
 use Rattle.q15.proofs.Filling.{listed-ext}
 use Rattle.q15.proofs.Counts.{decimated-in}
 use Rattle.q15.proofs.Windows.{length-moved, moved-at, length-stored}
-use Rattle.q15.proofs.FirSteps.{settings-in}
+use Rattle.q15.proofs.FirSteps.{settings-in, line-settings}
 
 -- what a section makes of a whole list, where a relation between the values so far and the state is kept
 module _ {S A B : Type 0} (f : Section S A B) (R : List A → S → Type 0) (made : List A → Option B)
@@ -225,14 +225,19 @@ padding c D w =
     (λ i l.
     filtered-ext (padded c) c (length c) w w (i * D) (i * D) (λ t h. List·getD-append c (replicate (mostTaps - length c) (pos 0)) (pos 0) t h) (λ t h. refl))
 
--- a fresh part, off or on, makes section 3 of any list
-pub fresh-streamed : (c : List ℤ) (D : ℕ) → settingsNumber (length c) D ≡ 0 → (w : List ℤ) → outs fir (fresh c D) w ≡ firWhole c D w
-unfolding fresh firWhole
-fresh-streamed c D e w = go (decLe 1 (length c))
+-- a fresh decimator makes section 3 of any list; in the line also one that is off
+pub fresh-streamed : (c : List ℤ) (D : ℕ) → settingsNumber (length c) D ≡ 0 → (w : List ℤ) → outs fir (fresh c D) w ≡ decimated c D w
+unfolding fresh
+fresh-streamed c D e w =
+    let i = settings-in (length c) D e in
+    streamed (padded c) (length c) D (i .some) (i .few) (i .factor) w ∙ padding c D w
+
+pub line-streamed : (c : List ℤ) (D : ℕ) → settingsNumberInLine (length c) D ≡ 0 → (w : List ℤ) → outs fir (freshInLine c D) w ≡ firWhole c D w
+unfolding freshInLine firWhole
+line-streamed c D e w = go (decLe 1 (length c))
   where
-    go : Dec (1 ≤ length c) → outs fir (fresh c D) w ≡ firWhole c D w
+    go : Dec (1 ≤ length c) → outs fir (freshInLine c D) w ≡ firWhole c D w
     go (yes h) =
         let n : length c ≡ 0 → ⊥ = omega arith in
-        let i = settings-in (length c) D n e in
-        rw (ne-eqb (length c) 0 n) (streamed (padded c) (length c) D h (i .0) (i .1) w ∙ padding c D w)
+        rw (ne-eqb (length c) 0 n) (fresh-streamed c D (line-settings (length c) D n e) w)
     go (no h) = let z : length c ≡ 0 = omega arith in rw (eq-eqb (length c) 0 z) (off w)

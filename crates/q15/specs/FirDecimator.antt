@@ -1,5 +1,6 @@
 -- 01, section 3, the line's streaming form: "makes output i when sample iD+T−1 arrives; its wait is the number of samples up to and with the one that makes
--- the next output, T at opening and D after each output; T is at most 64, D may exceed T. In the line no taps means off, and D is not looked at."
+-- the next output, T at opening and D after each output; T is at most 64, D may exceed T. In the line no taps means off, and D is not looked at." Only there:
+-- beside the line no taps is refused by 6, as row 6 has it, and the zeros that a refused opening leaves answer 15.
 use mathlib.Core.Path.{_≡_}
 use mathlib.Core.Bool.{Bool, true, false, not, _&&_, cond}
 use mathlib.Core.List.{List, _++_}
@@ -63,22 +64,33 @@ firOut s x =
 abbrev pub fir : Section FirDecimator ℤ ℤ
 fir = record { next = firNext; out = firOut }
 
--- rows 5 and 6 in the line: "no taps means off, and D is not looked at", "factor not 1..4,096", "line: only over 64"
+-- rows 5 and 6 beside the line: "factor not 1..4,096", "taps empty, or over" the most that the state holds
 unfoldable pub settingsNumber : ℕ → ℕ → ℕ
-settingsNumber T D = cond (eqb T 0) 0 (cond (outside D 1 mostFactor) 5 (cond (ltb mostTaps T) 6 0))
+settingsNumber T D = cond (outside D 1 mostFactor) 5 (cond (outside T 1 mostTaps) 6 0)
+
+-- in the line "no taps means off, and D is not looked at", so that of row 6 "only over 64" is left
+unfoldable pub settingsNumberInLine : ℕ → ℕ → ℕ
+settingsNumberInLine T D = cond (eqb T 0) 0 (settingsNumber T D)
 
 -- row 15: "FIR wait 0 or above both T and D"
 unfoldable pub badWait : ℕ → ℕ → ℕ → Bool
 badWait T D w = cond (eqb w 0) true (ltb T w && ltb D w)
 
--- row 15: "settings that its opening refuses; FIR wait ..; a part that is off is not checked"
+-- row 15 beside the line: "settings that its opening refuses; FIR wait .."; so the zeros of a refused opening are refused too
 unfoldable pub firValid : ℕ → ℕ → ℕ → Bool
-firValid T D w = cond (eqb T 0) true (cond (eqb (settingsNumber T D) 0) (not (badWait T D w)) false)
+firValid T D w = cond (eqb (settingsNumber T D) 0) (not (badWait T D w)) false
+
+-- row 15 in the line, where no taps means off and "a part that is off is not checked"
+unfoldable pub firValidInLine : ℕ → ℕ → ℕ → Bool
+firValidInLine T D w = cond (eqb T 0) true (firValid T D w)
 
 abbrev pub valid : FirDecimator → Bool
 valid s = firValid (s .«tap_count») (s .factor) (s .wait)
 
--- one sample of the line's part: "any call on a state" answers 15 first
+abbrev pub validInLine : FirDecimator → Bool
+validInLine s = firValidInLine (s .«tap_count») (s .factor) (s .wait)
+
+-- one sample beside the line: "any call on a state" answers 15 first
 abbrev pub firStep : FirDecimator → ℤ → Outcome (Option ℤ) FirDecimator
 firStep s x = cond (valid s) (record { number = 0; value = firOut s x; state = firNext s x }) (record { number = 15; value = none; state = s })
 
@@ -88,7 +100,11 @@ padded c = c ++ replicate (mostTaps - length c) (pos 0)
 
 -- "T at opening", and no samples yet
 unfoldable pub fresh : List ℤ → ℕ → FirDecimator
-fresh c D = cond (eqb (length c) 0) firZeros (firState (padded c) (length c) D (replicate mostTaps (pos 0)) (length c))
+fresh c D = firState (padded c) (length c) D (replicate mostTaps (pos 0)) (length c)
+
+-- in the line, where no taps means off: "opened as zeros, settings too"
+unfoldable pub freshInLine : List ℤ → ℕ → FirDecimator
+freshInLine c D = cond (eqb (length c) 0) firZeros (fresh c D)
 
 -- "a refused opening's state is all zeros"
 abbrev pub openedBy : ℕ → List ℤ → ℕ → FirDecimator
@@ -128,13 +144,13 @@ toldOpening r = record { number = openingNumber (r .answer); state = r .state }
 abbrev pub steps : Section FirDecimator ℤ ℤ
 steps = record { next = λ s x. firStep s x .state; out = λ s x. firStep s x .value }
 
--- section 3 of a whole list, as the block has it: "A part that is off hands its list on unchanged"
+-- section 3 of a whole list in the line, as the block has it: "A part that is off hands its list on unchanged"
 unfoldable pub firWhole : List ℤ → ℕ → List ℤ → List ℤ
 firWhole c D w = cond (eqb (length c) 0) w (decimated c D w)
 
 -- what a state is good for that an opening of the taps c and the factor D did not refuse
 pub record Streams (c : List ℤ) (D : ℕ) (s : FirDecimator) : Type 0 where
   -- over any list, so after every sample, its outputs are the block's for the list so far: output i comes with sample iD+T−1
-  pub outputs : (w : List ℤ) → outs steps s w ≡ firWhole c D w
+  pub outputs : (w : List ℤ) → outs steps s w ≡ decimated c D w
   -- no sample after the opening is refused
   pub never-refused : (w : List ℤ) (x : ℤ) → firStep (state steps s w) x .number ≡ 0

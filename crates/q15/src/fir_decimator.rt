@@ -5,7 +5,7 @@ ghost use Prim.Native.Nat.{_≤_};
 ghost use lib.ListN.{length};
 ghost use Rattle.refusal.specs.Outcome.{openingNumber};
 ghost use Rattle.q15.specs.PolyphaseDecimate.{filtered};
-ghost use Rattle.q15.specs.FirDecimator.{mostTaps, firState, firZeros, stored, moved, firNext, firOut, settingsNumber, badWait, firValid, firStep, padded, fresh, firOpened, firReset, madeValue, outputNumber, outputValue, told, toldOpening, Streams};
+ghost use Rattle.q15.specs.FirDecimator.{mostTaps, firState, firZeros, stored, moved, firNext, firOut, settingsNumber, settingsNumberInLine, badWait, firValid, firValidInLine, firStep, padded, fresh, firOpened, firReset, madeValue, outputNumber, outputValue, told, toldOpening, Streams};
 use crate::block::MOST_FACTOR;
 use crate::fir_sum::fir_sum;
 use crate::fixed::Q15;
@@ -18,7 +18,7 @@ use refusal::rows::outside;
 pub const MOST_TAPS: usize = 64;
 
 // A FIR decimator between two samples. The window of the next output stands at the front of the delay; wait counts the samples up to and with the one
-// that makes it. No taps: off.
+// that makes it. No taps: in the line off, beside it a state that no opening gives.
 pub struct FirDecimator {
     pub taps: [i16; MOST_TAPS],
     pub tap_count: usize,
@@ -139,20 +139,27 @@ pub fn fir_at(
     }
 }
 
-// Rows 5 and 6, as the line has them.
-pub fn settings_answer(t: usize, factor: usize) -> Opening
+// Rows 5 and 6.
+fn settings_answer(t: usize, factor: usize) -> Opening
     ensures { λ r. ⌜ openingNumber r ≡ settingsNumber t factor ⌝ }
+{
+    if outside(factor, 1, MOST_FACTOR) {
+        return Opening::Refused(Refusal::FirFactor);
+    }
+    if outside(t, 1, MOST_TAPS) {
+        return Opening::Refused(Refusal::Taps);
+    }
+    Opening::Opened
+}
+
+// Rows 5 and 6, as the line has them: no taps means off, and the factor is not looked at.
+pub fn settings_answer_in_line(t: usize, factor: usize) -> Opening
+    ensures { λ r. ⌜ openingNumber r ≡ settingsNumberInLine t factor ⌝ }
 {
     if t == 0 {
         return Opening::Opened;
     }
-    if outside(factor, 1, MOST_FACTOR) {
-        return Opening::Refused(Refusal::FirFactor);
-    }
-    if MOST_TAPS < t {
-        return Opening::Refused(Refusal::Taps);
-    }
-    Opening::Opened
+    settings_answer(t, factor)
 }
 
 // Row 15: a wait of 0, or above both the taps and the factor.
@@ -168,13 +175,10 @@ fn wait_is_bad(t: usize, factor: usize, wait: usize) -> bool
     factor < wait
 }
 
-// Whether a state is none of row 15.
-pub fn fir_valid(t: usize, factor: usize, wait: usize) -> bool
+// Whether a call on a state with these numbers is not refused by 15.
+fn fir_valid(t: usize, factor: usize, wait: usize) -> bool
     ensures { λ r. ⌜ r ≡ firValid t factor wait ⌝ }
 {
-    if t == 0 {
-        return true;
-    }
     let settings = settings_answer(t, factor);
     match settings {
         Opening::Refused(_) => false,
@@ -182,7 +186,17 @@ pub fn fir_valid(t: usize, factor: usize, wait: usize) -> bool
     }
 }
 
-// A decimator that is off, or refused.
+// Whether a call on a line with these numbers is not refused by 15: no taps means off.
+pub fn fir_valid_in_line(t: usize, factor: usize, wait: usize) -> bool
+    ensures { λ r. ⌜ r ≡ firValidInLine t factor wait ⌝ }
+{
+    if t == 0 {
+        return true;
+    }
+    fir_valid(t, factor, wait)
+}
+
+// The state of a refused opening, and in the line of a decimator that is off.
 fn zeros() -> FirDecimator
     ensures { λ r. ⌜ r ≡ firZeros ⌝ }
 {
@@ -217,9 +231,6 @@ fn fresh_state(taps: &[i16], factor: usize) -> FirDecimator
     ensures { λ r. ⌜ r ≡ fresh (now (taps .entry)) factor ⌝ }
 {
     let t = taps.len();
-    if t == 0 {
-        return zeros();
-    }
     let a = pad(taps);
     let delay: [i16; MOST_TAPS] = [0; MOST_TAPS];
     FirDecimator {
@@ -242,7 +253,7 @@ fn output_of(made: FirMade) -> FirOutput
 }
 
 impl FirDecimator {
-    // No taps: off, whatever the factor. Refusals 5, 6. `stream` says what an opening that is not refused is good for.
+    // Refusals 5, 6; no taps is 6. `stream` says what an opening that is not refused is good for.
     pub fn new(taps: &[i16], factor: usize) -> FirOpening
         ensures answer { λ r. ⌜ toldOpening r ≡ firOpened (now (taps .entry)) factor ⌝ }
         ensures stream { λ r. ⌜ (openingNumber (r .answer) ≡ 0 → Streams (now (taps .entry)) factor (r .state)) ⌝ }

@@ -16,7 +16,7 @@ pub use crate::fir_decimator::FirOutput;
 pub use crate::fir_decimator::FirStep;
 pub use crate::fir_decimator::MOST_TAPS;
 pub use crate::fir_decimator::fir_at;
-pub use crate::fir_decimator::fir_valid;
+pub use crate::fir_decimator::fir_valid_in_line;
 pub use crate::fixed::Q15;
 pub use crate::fixed::cut_q15;
 pub use crate::polyphase_decimate::polyphase_decimate_q15;

@@ -84,7 +84,7 @@ fields! {
 }
 
 impl State {
-    /// "wait .. T at opening"; no taps: zeros, settings too.
+    /// "wait .. T at opening"; no taps, in the line: zeros, settings too.
     pub fn opened(taps: &[i16], factor: u64) -> Self {
         let mut state = State::zeros();
         if !taps.is_empty() {
@@ -136,7 +136,7 @@ impl State {
     }
 }
 
-/// Every output of the list, which the Rust makes of it as a whole.
+/// Every output of the list, which the Rust makes of it as a whole; no taps, in the line: the list.
 pub fn outputs(taps: &[i16], factor: u64, list: &[i16]) -> Vec<i16> {
     match taps.is_empty() {
         true => list.to_vec(),
@@ -149,10 +149,8 @@ fn run(call: &mut Run) {
     let list = &call.lent.samples.elements;
     call.answer.outputs = outputs(taps, factor, list);
     call.answer.state = State::opened(taps, factor);
-    if !taps.is_empty() {
-        list.iter()
-            .for_each(|&sample| call.answer.state.keep(sample));
-    }
+    list.iter()
+        .for_each(|&sample| call.answer.state.keep(sample));
 }
 
 fn some_sample(rng: &mut Rng, state: &mut State) -> Box<dyn Case> {
@@ -189,7 +187,7 @@ fn some_opening(rng: &mut Rng) -> Box<dyn Case> {
     NEW.of(Settings::of(factor, q15_samples::list(rng, taps))).0
 }
 
-/// Valid settings and wait, anything in the delay and in the places past T.
+/// Settings and a wait that the line takes, anything in the delay and in the places past T.
 pub fn midway(rng: &mut Rng) -> State {
     let tap_count = some_taps(rng);
     let factor = settings::factor_around(rng, tap_count);
@@ -207,7 +205,7 @@ pub fn midway(rng: &mut Rng) -> State {
     }
 }
 
-/// A state that 15 turns back, or one that is off, of which nothing is checked.
+/// A state that 15 turns back.
 fn damaged(rng: &mut Rng) -> State {
     let mut state = midway(rng);
     let faults = rng.within(1, 7);
@@ -225,7 +223,7 @@ fn damaged(rng: &mut Rng) -> State {
     state
 }
 
-/// From an opening: calls, each on the state that the one before left.
+/// From an opening, now and then a refused one: calls, each on the state that the one before left.
 fn stream(rng: &mut Rng) -> Cases {
     let taps = some_taps(rng);
     let factor = match rng.below(2) {

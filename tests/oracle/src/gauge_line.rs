@@ -57,11 +57,16 @@ impl Line {
     }
 
     pub fn refusal(&self) -> u32 {
-        let (cic, resampler) = (&self.cic, &self.resampler);
+        let Line {
+            cic,
+            fir,
+            half_band,
+            resampler,
+        } = self;
         refusals::first([
             refusals::line_cic_state(cic.stages, cic.r, cic.sample_counter),
-            self.fir.refusal(),
-            self.half_band.refusal(),
+            refusals::line_fir_state(fir.tap_count, fir.factor, fir.wait),
+            refusals::line_held_cascade(half_band.depth, &half_band.counts),
             refusals::line_resampler_state(
                 resampler.phases,
                 resampler.taps,

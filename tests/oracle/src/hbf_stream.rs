@@ -22,7 +22,7 @@ type Run = Stream<Depth, State, f32>;
 const NEW: Operation<New> = Operation {
     code: 0xa1,
     name: "HbfStream::new",
-    refusal: Some(|call| refusals::depth(call.lent.depth)),
+    refusal: Some(|call| refusals::cascade_opening(call.lent.depth)),
     rust: |call| call.answer = State::opened(call.lent.depth),
     archive: float::hbf_stream_new,
 };
@@ -46,7 +46,7 @@ const RESET: Operation<Reset> = Operation {
 const RUN: Operation<Run> = Operation {
     code: 0,
     name: "HbfStream::new, then process_sample for each sample",
-    refusal: Some(|call| refusals::depth(call.lent.opening.depth)),
+    refusal: Some(|call| refusals::cascade_opening(call.lent.opening.depth)),
     rust: |call| {
         let (depth, list) = (call.lent.opening.depth, &call.lent.samples.elements);
         (call.answer.state, call.answer.outputs) = whole_list(depth, list);
@@ -142,7 +142,7 @@ fn any_call(rng: &mut Rng, state: &mut State) -> Box<dyn Case> {
     }
 }
 
-/// Valid settings and counts, anything held and in the delays, and in what belongs to stages that are not run. Often the next sample goes through.
+/// Settings and counts that the line takes, anything held and in the delays, and in what belongs to stages that are not run. Often the next sample goes through.
 pub fn midway(rng: &mut Rng) -> State {
     let depth = rng.below(6);
     let full = rng.one_in(2);
@@ -175,7 +175,7 @@ fn damaged(rng: &mut Rng) -> State {
 
 /// Some samples after a list from an opening, often where whole frames end, each on the state that the whole list so far leads to.
 fn stream(rng: &mut Rng) -> Cases {
-    let depth = rng.below(6);
+    let depth = rng.within(1, 5);
     let start = (rng.below(40) << depth).saturating_sub(rng.within(1, 3)) as usize;
     let calls = rng.within(1, 4) as usize;
     let list: Slice<f32> = float_samples::list(rng, (start + calls) as u64).into();
@@ -191,7 +191,7 @@ fn stream(rng: &mut Rng) -> Cases {
 pub fn cases(rng: &mut Rng) -> Cases {
     match rng.below(32) {
         0..=2 => {
-            let depth = rng.below(6);
+            let depth = rng.within(1, 5);
             vec![NEW.of(Depth { depth }).0]
         }
         3 => {

@@ -55,7 +55,7 @@ impl Settings {
     pub fn refusal(&self) -> u32 {
         refusals::first([
             refusals::line_cic(self.stages, self.r),
-            refusals::fir_opening(self.fir.len() as u64, self.factor),
+            refusals::line_fir(self.fir.len() as u64, self.factor),
             refusals::depth(self.depth),
             refusals::line_resampler(self.phases, self.taps, self.prototype.len(), self.step),
         ])

@@ -118,27 +118,39 @@ pub fn linear(samples: usize, span: usize, ratio_is_good: bool) -> u32 {
     }
 }
 
-/// "line": 5, then 6 only over 64; no taps means off, and D is not looked at.
+/// The streaming FIR beside the line: 5 where the factor is not 1..4,096, 6 where the taps are none or over 64.
 pub fn fir_opening(taps: u64, factor: u64) -> u32 {
-    if taps == 0 {
-        0
-    } else if !(1..=4096).contains(&factor) {
+    if !(1..=4096).contains(&factor) {
         FIR_FACTOR
-    } else if taps > 64 {
+    } else if !(1..=64).contains(&taps) {
         TAPS
     } else {
         0
     }
 }
 
-/// "any call on a state": settings that its opening refuses; FIR wait 0 or above both T and D; "a part that is off is not checked".
+/// "line": no taps means off, and D is not looked at.
+pub fn line_fir(taps: u64, factor: u64) -> u32 {
+    match taps {
+        0 => 0,
+        _ => fir_opening(taps, factor),
+    }
+}
+
+/// "any call on a state": settings that its opening refuses; FIR wait 0 or above both T and D.
 pub fn fir_state(taps: u64, factor: u64, wait: u64) -> u32 {
-    if taps == 0 {
-        0
-    } else if fir_opening(taps, factor) != 0 || wait == 0 || wait > taps && wait > factor {
+    if fir_opening(taps, factor) != 0 || wait == 0 || wait > taps && wait > factor {
         STATE
     } else {
         0
+    }
+}
+
+/// The same of the line's FIR: "a part that is off is not checked".
+pub fn line_fir_state(taps: u64, factor: u64, wait: u64) -> u32 {
+    match taps {
+        0 => 0,
+        _ => fir_state(taps, factor, wait),
     }
 }
 
@@ -195,12 +207,21 @@ pub fn depth(depth: u64) -> u32 {
     if depth > 5 { DEPTH } else { 0 }
 }
 
-/// "any call on a state" of the line's cascade: settings that its opening refuses; more than one held sample at one half-band stage.
+/// "any call on a state" of the streaming cascade: settings that its opening refuses; more than one held sample at one half-band stage.
 pub fn held_cascade(depth: u64, counts: &[u64; 5]) -> u32 {
-    if depth > 5 || counts[..depth as usize].iter().any(|&count| count > 1) {
+    let held_twice = |run: u64| counts[..run as usize].iter().any(|&count| count > 1);
+    if cascade_opening(depth) != 0 || held_twice(depth) {
         STATE
     } else {
         0
+    }
+}
+
+/// The same of the line's cascade: "a part that is off is not checked".
+pub fn line_held_cascade(depth: u64, counts: &[u64; 5]) -> u32 {
+    match depth {
+        0 => 0,
+        _ => held_cascade(depth, counts),
     }
 }
 

@@ -80,7 +80,7 @@ pub fn long_block(rng: &mut Rng, takes: u64, gives: u64) -> (u64, u64) {
     (length, places.min(MOST))
 }
 
-/// A depth that every cascade refuses, and 0, which the line's takes for off.
+/// A depth that every cascade refuses; the line takes 0 for off.
 pub fn bad_depth(rng: &mut Rng) -> u64 {
     rng.pick(&[0, 6, 6, 7, 1 << 32, (1 << 32) + 1, u64::MAX])
 }

@@ -1,12 +1,12 @@
--- `zeros` meets its contract: each part, refused or off, is zeros.
+-- `zeros` meets its contract: each part is what its refused opening leaves.
 use mathlib.Core.Path.{_≡_, refl, sym, ap, _∙_}
 use mathlib.Core.Bool.{true, false}
 use borrow.Author.Needs.{needs}
 use Rattle.refusal.specs.Outcome.{Opened}
+use Rattle.refusal.specs.Rows.{outside}
 use Rattle.integer.specs.Limits.{stagesOk}
 use Rattle.integer.specs.Opening.{opening}
 use Rattle.q15.specs.FirDecimator.{settingsNumber}
-use Rattle.q15.specs.FirDecimator as Q
 use Rattle.line.specs.Line.{zeros}
 use Rattle.half_band.specs.declared.hbf_stream.HbfStream.{HbfStream}
 use Rattle.q15.specs.declared.fir_decimator.FirDecimator.{FirDecimator}
@@ -30,7 +30,7 @@ zeros-requires : tie.Need-zeros-requires
 zeros-requires c κs = search needs
 
 returns : tie.Need-returns
-unfolding zeros opening stagesOk settingsNumber Q.fresh
+unfolding zeros opening stagesOk settingsNumber outside
 returns c =
     rw (
       ap (λ (o : Opened CicDecimator). o .state) (c .before .before .before .before .before .before .before .new .ensures .0),

@@ -8,8 +8,8 @@ use Rattle.line.proofs.opening.answer.Tie as tie
 cic-answer-requires : tie.Need-cic-answer-requires
 cic-answer-requires c κs = search needs
 
-settings-answer-requires : tie.Need-settings-answer-requires
-settings-answer-requires c κs = search needs
+settings-answer-in-line-requires : tie.Need-settings-answer-in-line-requires
+settings-answer-in-line-requires c κs = search needs
 
 depth-answer-requires : tie.Need-depth-answer-requires
 depth-answer-requires c κs = search needs
@@ -28,14 +28,14 @@ first-requires-3 c κs = search needs
 
 returns : tie.Need-returns
 unfolding numberAt
-returns c = rw (c .first3 .ensures, c .before .first2 .ensures, c .before .before .first .ensures, c .before .before .before .resampler-answer .ensures, c .before .before .before .before .depth-answer .ensures, c .before .before .before .before .before .settings-answer .ensures, c .before .before .before .before .before .before .cic-answer .ensures)
+returns c = rw (c .first3 .ensures, c .before .first2 .ensures, c .before .before .first .ensures, c .before .before .before .resampler-answer .ensures, c .before .before .before .before .depth-answer .ensures, c .before .before .before .before .before .settings-answer-in-line .ensures, c .before .before .before .before .before .before .cic-answer .ensures)
 
 pub answer-spec : {M : Type 1} → statement M
 answer-spec =
     tie.close
     (tie.spec
     cic-answer-requires
-    settings-answer-requires
+    settings-answer-in-line-requires
     depth-answer-requires
     resampler-answer-requires
     first-requires

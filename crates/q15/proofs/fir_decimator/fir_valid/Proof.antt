@@ -9,10 +9,6 @@ use Rattle.q15.proofs.Rows.{not-zero}
 use Rattle.q15.proofs.fir_decimator.fir_valid.Statement.{statement}
 use Rattle.q15.proofs.fir_decimator.fir_valid.Tie as tie
 
-returns : tie.Need-returns
-unfolding firValid
-returns c = rw (eq-eqb (c .before .args .t) 0 (c .if1 .taken))
-
 settings-answer-requires : tie.Need-settings-answer-requires
 settings-answer-requires c κs = tt
 
@@ -25,28 +21,19 @@ enum-told-2 c = search needs
 wait-is-bad-requires : tie.Need-wait-is-bad-requires
 wait-is-bad-requires c κs = tt
 
+returns : tie.Need-returns
+unfolding firValid
+returns c =
+    let s = c .before .before .before in
+    let e = sym (ap openingNumber (c .enum-told .given .1)) ∙ c .before .before .settings-answer .ensures in
+    rw (ne-eqb (settingsNumber (s .args .t) (s .args .factor)) 0 (not-zero _ (c .enum-told .given .0 .0) e))
+
 returns-2 : tie.Need-returns-2
 unfolding firValid
 returns-2 c =
     let s = c .before .before .before .before in
-    let e = sym (ap openingNumber (c .enum-told .given .1)) ∙ c .before .before .settings-answer .ensures in
-    rw (ne-eqb (s .args .t) 0 (c .before .before .before .if1 .left), ne-eqb (settingsNumber (s .args .t) (s .args .factor)) 0 (not-zero _ (c .enum-told .given .0 .0) e))
-
-returns-3 : tie.Need-returns-3
-unfolding firValid
-returns-3 c =
-    let s = c .before .before .before .before .before in
     let e = sym (c .before .before .before .settings-answer .ensures) ∙ ap openingNumber (c .before .enum-told2 .given .1) in
-    rw (ne-eqb (s .args .t) 0 (c .before .before .before .before .if1 .left), eq-eqb (settingsNumber (s .args .t) (s .args .factor)) 0 e) (ap not (c .wait-is-bad .ensures))
+    rw (eq-eqb (settingsNumber (s .args .t) (s .args .factor)) 0 e) (ap not (c .wait-is-bad .ensures))
 
 pub fir-valid-spec : {M : Type 1} → statement M
-fir-valid-spec =
-    tie.close
-    (tie.spec
-    returns
-    settings-answer-requires
-    enum-told
-    enum-told-2
-    wait-is-bad-requires
-    returns-2
-    returns-3)
+fir-valid-spec = tie.close (tie.spec settings-answer-requires enum-told enum-told-2 wait-is-bad-requires returns returns-2)

@@ -1,12 +1,9 @@
 -- `FirDecimator::new` meets its contract: settings that a row turns back are opened as zeros, and the others are good for every stream.
 use mathlib.Core.Path.{_≡_, sym, ap, _∙_}
-use Prim.Native.Nat.{ℕ, _≤_}
-use native.Mathlib.Decide.{decLe}
-use native.Mathlib.Omega.{arith}
 use borrow.Author.Needs.{needs}
 use lib.ListN.{length}
 use Rattle.refusal.specs.Outcome.{openingNumber}
-use Rattle.q15.specs.FirDecimator.{mostTaps, settingsNumber}
+use Rattle.q15.specs.FirDecimator.{settingsNumber}
 use Rattle.q15.proofs.FirSteps.{settings-in}
 use Rattle.q15.proofs.FirOpening.{opening-refused, opening-taken}
 use Rattle.q15.proofs.fir_decimator.FirDecimator.new.Statement.{statement}
@@ -31,14 +28,8 @@ module _ (c : tie.After-enum-told) where
   none : settingsNumber (length (start .args .taps .now)) (start .args .factor) ≡ 0
   none = sym (c .before .before .settings-answer .ensures) ∙ ap openingNumber (c .enum-told .given .1)
 
-few : (T D : ℕ) → settingsNumber T D ≡ 0 → T ≤ mostTaps
-few T D e = elim (decLe 1 T) [
-  | yes h ↦ settings-in T D (let n : T ≡ 0 → ⊥ = omega arith in n) e .0
-  | no h ↦ (let l : T ≤ mostTaps = omega arith in l)
-]
-
 fresh-state-requires : tie.Need-fresh-state-requires
-fresh-state-requires c κs = few _ _ (none c)
+fresh-state-requires c κs = settings-in _ _ (none c) .few
 
 returns : tie.Need-returns
 returns c =

@@ -7,7 +7,7 @@ use borrow.Author.Tests.{not-true, not-false}
 use lib.ListN.{length}
 use lib.Seq.{length-take-le}
 use Rattle.q15.specs.FirDecimator.{valid}
-use Rattle.q15.proofs.FirSteps.{valid-few}
+use Rattle.q15.proofs.FirSteps.{valid-on}
 use Rattle.q15.proofs.fir_decimator.FirDecimator.reset.Statement.{statement}
 use Rattle.q15.proofs.fir_decimator.FirDecimator.reset.Tie as tie
 
@@ -26,7 +26,7 @@ good : (c : tie.Else1) → valid (c .before .before .args .self) ≡ true
 good c = sym (c .before .fir-valid .ensures) ∙ not-false (c .before .fir-valid .result) (c .if1 .left)
 
 inside : (c : tie.After-array-length) → c .before .before .before .before .args .self .«tap_count» ≤ length (c .before .before .before .before .args .self .taps)
-inside c = omega (arith, valid-few _ _ _ (good (c .before .before)), c .array-length .ensures)
+inside c = omega (arith, valid-on _ _ _ (good (c .before .before)) .within .few, c .array-length .ensures)
 
 array-share-prefix-taps : tie.Need-array-share-prefix-taps
 array-share-prefix-taps c = inside c
