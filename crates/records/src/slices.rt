@@ -1,7 +1,9 @@
 // Slices that a record lends: a word each for length, pattern, stride and count of those listed, then the listed elements. An element behind them is the
 // pattern plus its index times the stride, modulo 2^32. No words at all lend zeros.
 ghost use mathlib.Core.Path.{_≡_};
+ghost use Prim.Native.Nat.{_+_};
 ghost use lib.ListN as ListN;
+ghost use Rattle.records.specs.Comparison.{wordAt};
 use crate::words::LOST;
 use crate::words::bits;
 use crate::words::float;
@@ -34,12 +36,16 @@ pub fn no_floats() -> [f32; LONGEST]
     [0.0; LONGEST]
 }
 
-pub fn length(lent: &[u32]) -> usize {
+pub fn length(lent: &[u32]) -> usize
+    ensures { λ r. ⌜ r ≡ wordAt (now (lent .entry)) 0 ⌝ }
+{
     word(lent, 0) as usize
 }
 
 // The words behind the slice.
-pub fn behind(lent: &[u32]) -> &[u32] {
+pub fn behind(lent: &[u32]) -> &[u32]
+    ensures { λ r. ⌜ now r ≡ ListN.drop (4 + wordAt (now (lent .entry)) 3) (now (lent .entry)) ⌝ }
+{
     rest(lent, 4 + (word(lent, 3) as usize))
 }
 

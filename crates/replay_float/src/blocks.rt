@@ -69,7 +69,7 @@ fn agrees_in(operation: u32, w: &[u32], samples: &mut [f32], span: &mut [f32]) -
 }
 
 // Whether a converter answers as a record says; `w` is what follows the operation's code.
-pub fn agrees(operation: u32, w: &[u32]) -> bool {
+pub(crate) fn agrees(operation: u32, w: &[u32]) -> bool {
     let mut samples = no_floats();
     let mut span = no_floats();
     let n = length(samples_of(operation, w));
