@@ -81,7 +81,12 @@ fn same_moved(w: &[u32], taken: usize, answer: Count) -> usize {
     }
 }
 
-pub(crate) fn process_block(w: &[u32], lent_span: &[u32], samples: &[f32], span: &mut [f32]) -> bool {
+pub(crate) fn process_block(
+    w: &[u32],
+    lent_span: &[u32],
+    samples: &[f32],
+    span: &mut [f32],
+) -> bool {
     let block = state_of(w).process_block(samples, span);
     let answer = block.answer;
     let state = block.state;
