@@ -101,11 +101,21 @@ pub fn hbf_int_cascade_new(call: &mut cascade::New<240>) -> u64 {
 }
 
 pub fn hbf_dec_cascade_process(call: &mut cascade::Block<480>) -> u64 {
-    with_buffers!(with_cascade, gauge_raw_hbf_dec_cascade_process, call, [written])
+    with_buffers!(
+        with_cascade,
+        gauge_raw_hbf_dec_cascade_process,
+        call,
+        [written]
+    )
 }
 
 pub fn hbf_int_cascade_process(call: &mut cascade::Block<240>) -> u64 {
-    with_buffers!(with_cascade, gauge_raw_hbf_int_cascade_process, call, [written])
+    with_buffers!(
+        with_cascade,
+        gauge_raw_hbf_int_cascade_process,
+        call,
+        [written]
+    )
 }
 
 pub fn hbf_dec_cascade_reset(call: &mut cascade::Reset<480>) -> u64 {

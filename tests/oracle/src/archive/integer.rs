@@ -31,7 +31,12 @@ macro_rules! with_interpolator {
 
 pub fn cic_decimator_new(call: &mut cic_decimator::New) -> u64 {
     let (lent, state) = (&call.lent, &mut call.answer);
-    with_decimator!(gauge_raw_cic_decimator_new, [lent.stages, lent.r], state, [])
+    with_decimator!(
+        gauge_raw_cic_decimator_new,
+        [lent.stages, lent.r],
+        state,
+        []
+    )
 }
 
 type DecimatorStep = unsafe extern "C" fn(
@@ -100,7 +105,12 @@ pub fn cic_decimator_gain_bits(call: &mut cic_decimator::Reading<u32>) -> u64 {
 
 pub fn cic_interpolator_new(call: &mut cic_interpolator::New) -> u64 {
     let (lent, state) = (&call.lent, &mut call.answer);
-    with_interpolator!(gauge_raw_cic_interpolator_new, [lent.stages, lent.r], state, [])
+    with_interpolator!(
+        gauge_raw_cic_interpolator_new,
+        [lent.stages, lent.r],
+        state,
+        []
+    )
 }
 
 pub fn cic_interpolator_process_sample(call: &mut cic_interpolator::Step) -> u64 {
