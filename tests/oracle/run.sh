@@ -20,6 +20,8 @@ if ! in_target check replay >"$target/oracle/check.log" 2>&1; then
     exit 1
 fi
 
+tests/oracle/damage.sh
+
 said=$("$oracle" list --seed 2 --cases "$listed" | "$target/bin/replay") || true
 echo "replay, seed 2: $said"
 [ "$said" = "$listed records, 0 differences" ]

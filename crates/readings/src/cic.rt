@@ -52,7 +52,7 @@ fn bits(name: &[u8], stages: usize, r: usize) {
     words(b"\n");
 }
 
-pub fn readings() {
+pub(crate) fn readings() {
     sums(b"N=1 r=4, 1 to 8:", 1, 4, false, &[1, 2, 3, 4, 5, 6, 7, 8]);
     sums(b"N=2 r=2, 1 to 4:", 2, 2, false, &[1, 2, 3, 4]);
     sums(

@@ -36,7 +36,7 @@ fn shown(counts: Counts, span: &[f32]) -> usize {
     }
 }
 
-pub fn readings() {
+pub(crate) fn readings() {
     words(b"Line N=1 r=1, P=2 T=1, step 0.5, samples 16384, 0:");
     let settings = Settings {
         stages: 1,

@@ -11,7 +11,7 @@ fn shown(out: HbfDecOut) {
     }
 }
 
-pub fn readings() {
+pub(crate) fn readings() {
     words(b"Half-band M=1 tap 0.5, pairs 1, 0 and 0, 0:");
     let d = HbfDec::new(&[0.5]).state;
     let made = d.process_pair(1.0, 0.0);

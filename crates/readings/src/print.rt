@@ -2,12 +2,12 @@
 use float::f32_to_usize_saturating;
 use libc::STDOUT_FILENO;
 
-pub fn words(text: &[u8]) {
+pub(crate) fn words(text: &[u8]) {
     io::write_all(STDOUT_FILENO, text);
 }
 
 // A space and a signed number.
-pub fn signed(x: i32) {
+pub(crate) fn signed(x: i32) {
     let wide = x as i64;
     if wide < 0 {
         words(b" -");
@@ -19,13 +19,13 @@ pub fn signed(x: i32) {
 }
 
 // A space and a number.
-pub fn number(n: u64) {
+pub(crate) fn number(n: u64) {
     words(b" ");
     io::print_decimal(STDOUT_FILENO, n);
 }
 
 // A space and a level to two places.
-pub fn hundredths(x: f32) {
+pub(crate) fn hundredths(x: f32) {
     words(b" ");
     let mut size = x;
     if x < 0.0 {

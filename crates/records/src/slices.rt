@@ -1,7 +1,9 @@
 // Slices that a record lends: a word each for length, pattern, stride and count of those listed, then the listed elements. An element behind them is the
 // pattern plus its index times the stride, modulo 2^32. No words at all lend zeros.
 ghost use mathlib.Core.Path.{_≡_};
+ghost use Prim.Native.Nat.{_+_, min};
 ghost use lib.ListN as ListN;
+ghost use Rattle.records.specs.Comparison.{wordAt};
 use crate::words::LOST;
 use crate::words::bits;
 use crate::words::byte;
@@ -42,45 +44,59 @@ pub fn no_bytes() -> [u8; LONGEST]
     [0; LONGEST]
 }
 
-pub fn length(lent: &[u32]) -> usize {
+pub fn length(lent: &[u32]) -> usize
+    ensures { λ r. ⌜ r ≡ wordAt (now (lent .entry)) 0 ⌝ }
+{
     word(lent, 0) as usize
 }
 
 // The words behind the slice.
-pub fn behind(lent: &[u32]) -> &[u32] {
+pub fn behind(lent: &[u32]) -> &[u32]
+    ensures { λ r. ⌜ now r ≡ ListN.drop (4 + wordAt (now (lent .entry)) 3) (now (lent .entry)) ⌝ }
+{
     rest(lent, 4 + (word(lent, 3) as usize))
 }
 
 // The first places of an array that has room for every slice.
-pub fn front(places: &mut [i32], length: usize) -> &mut [i32] {
+pub fn front(places: &mut [i32], length: usize) -> &mut [i32]
+    ensures { λ r. ⌜ ListN.length (now r) ≡ min length (ListN.length (now (places .entry))) ⌝ }
+{
     if length <= places.len() {
         return &mut places[0..length];
     }
     places
 }
 
-pub fn front_shorts(places: &mut [i16], length: usize) -> &mut [i16] {
+pub fn front_shorts(places: &mut [i16], length: usize) -> &mut [i16]
+    ensures { λ r. ⌜ ListN.length (now r) ≡ min length (ListN.length (now (places .entry))) ⌝ }
+{
     if length <= places.len() {
         return &mut places[0..length];
     }
     places
 }
 
-pub fn front_floats(places: &mut [f32], length: usize) -> &mut [f32] {
+pub fn front_floats(places: &mut [f32], length: usize) -> &mut [f32]
+    ensures { λ r. ⌜ ListN.length (now r) ≡ min length (ListN.length (now (places .entry))) ⌝ }
+{
     if length <= places.len() {
         return &mut places[0..length];
     }
     places
 }
 
-pub fn front_bytes(places: &mut [u8], length: usize) -> &mut [u8] {
+pub fn front_bytes(places: &mut [u8], length: usize) -> &mut [u8]
+    ensures { λ r. ⌜ ListN.length (now r) ≡ min length (ListN.length (now (places .entry))) ⌝ }
+{
     if length <= places.len() {
         return &mut places[0..length];
     }
     places
 }
 
-pub fn front_lengths(places: &mut [usize], length: usize) -> &mut [usize] {
+pub fn front_lengths(places: &mut [usize], length: usize) -> &mut [usize]
+    ensures { λ r. ⌜ ListN.length (now r) ≡ min length (ListN.length (now (places .entry))) ⌝ }
+{
     if length <= places.len() {
         return &mut places[0..length];
     }
@@ -97,7 +113,9 @@ fn element(lent: &[u32], i: usize, pattern: u32) -> u32 {
 }
 
 // The slice's elements, into places that are as many.
-pub fn lend(lent: &[u32], places: &mut [i32]) {
+pub fn lend(lent: &[u32], places: &mut [i32])
+    ensures { λ _. ⌜ ListN.length (now (places .exit)) ≡ ListN.length (now (places .entry)) ⌝ }
+{
     let stride = word(lent, 2);
     let mut pattern = word(lent, 1);
     let mut i = 0;
@@ -108,7 +126,9 @@ pub fn lend(lent: &[u32], places: &mut [i32]) {
     }
 }
 
-pub fn lend_shorts(lent: &[u32], places: &mut [i16]) {
+pub fn lend_shorts(lent: &[u32], places: &mut [i16])
+    ensures { λ _. ⌜ ListN.length (now (places .exit)) ≡ ListN.length (now (places .entry)) ⌝ }
+{
     let stride = word(lent, 2);
     let mut pattern = word(lent, 1);
     let mut i = 0;
@@ -119,7 +139,9 @@ pub fn lend_shorts(lent: &[u32], places: &mut [i16]) {
     }
 }
 
-pub fn lend_floats(lent: &[u32], places: &mut [f32]) {
+pub fn lend_floats(lent: &[u32], places: &mut [f32])
+    ensures { λ _. ⌜ ListN.length (now (places .exit)) ≡ ListN.length (now (places .entry)) ⌝ }
+{
     let stride = word(lent, 2);
     let mut pattern = word(lent, 1);
     let mut i = 0;
@@ -130,7 +152,9 @@ pub fn lend_floats(lent: &[u32], places: &mut [f32]) {
     }
 }
 
-pub fn lend_bytes(lent: &[u32], places: &mut [u8]) {
+pub fn lend_bytes(lent: &[u32], places: &mut [u8])
+    ensures { λ _. ⌜ ListN.length (now (places .exit)) ≡ ListN.length (now (places .entry)) ⌝ }
+{
     let stride = word(lent, 2);
     let mut pattern = word(lent, 1);
     let mut i = 0;
@@ -141,7 +165,9 @@ pub fn lend_bytes(lent: &[u32], places: &mut [u8]) {
     }
 }
 
-pub fn lend_lengths(lent: &[u32], places: &mut [usize]) {
+pub fn lend_lengths(lent: &[u32], places: &mut [usize])
+    ensures { λ _. ⌜ ListN.length (now (places .exit)) ≡ ListN.length (now (places .entry)) ⌝ }
+{
     let stride = word(lent, 2);
     let mut pattern = word(lent, 1);
     let mut i = 0;

@@ -1,9 +1,12 @@
 // Replays a list of what the Rust answered: does each operation through the crates, compares every word, and writes how many records differ.
+mod tally;
+mod text;
+
 ghost use mathlib.Core.Path.{_≡_};
 ghost use lib.ListN.{length};
-use records::tally::Tally;
-use records::text::Read;
-use records::text::read_record;
+use crate::tally::Tally;
+use crate::text::Read;
+use crate::text::read_record;
 use records::words::first;
 use records::words::rest;
 use records::words::word;

@@ -4,6 +4,6 @@ use records::slices::same_floats;
 use refusal::Count;
 
 // 01's number, the count and the span.
-pub fn same_written(w: &[u32], answer: Count, lent_span: &[u32], span: &[f32]) -> usize {
+pub(crate) fn same_written(w: &[u32], answer: Count, lent_span: &[u32], span: &[f32]) -> usize {
     same_floats(w, same_count(w, 0, answer), lent_span, span)
 }

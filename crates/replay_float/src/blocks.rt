@@ -1,4 +1,7 @@
 // The operations that are lent slices: those are read from the record, and the comparison with the answers behind them is the converter's.
+ghost use mathlib.Core.Bool.{false};
+ghost use mathlib.Core.Path.{_≡_};
+ghost use Prim.Native.Nat.{_<_};
 use crate::hbf_dec;
 use crate::hbf_dec_cascade;
 use crate::hbf_int;
@@ -45,7 +48,10 @@ fn span_of(operation: u32, w: &[u32]) -> &[u32] {
     }
 }
 
-fn call(operation: u32, w: &[u32], lent_span: &[u32], samples: &[f32], span: &mut [f32]) -> bool {
+fn call(operation: u32, w: &[u32], lent_span: &[u32], samples: &[f32], span: &mut [f32]) -> bool
+    ensures below { λ r. ⌜ (operation < 81 → r ≡ false) ⌝ }
+    ensures above { λ r. ⌜ (180 < operation → r ≡ false) ⌝ }
+{
     match operation {
         0x51 => values::linear(w, lent_span, samples, span),
         0x61 => hbf_dec::new(w, samples),
@@ -61,7 +67,10 @@ fn call(operation: u32, w: &[u32], lent_span: &[u32], samples: &[f32], span: &mu
     }
 }
 
-fn agrees_in(operation: u32, w: &[u32], samples: &mut [f32], span: &mut [f32]) -> bool {
+fn agrees_in(operation: u32, w: &[u32], samples: &mut [f32], span: &mut [f32]) -> bool
+    ensures below { λ r. ⌜ (operation < 81 → r ≡ false) ⌝ }
+    ensures above { λ r. ⌜ (180 < operation → r ≡ false) ⌝ }
+{
     let lent_span = span_of(operation, w);
     lend_floats(samples_of(operation, w), samples);
     lend_floats(lent_span, span);
@@ -69,7 +78,10 @@ fn agrees_in(operation: u32, w: &[u32], samples: &mut [f32], span: &mut [f32]) -
 }
 
 // Whether a converter answers as a record says; `w` is what follows the operation's code.
-pub fn agrees(operation: u32, w: &[u32]) -> bool {
+pub(crate) fn agrees(operation: u32, w: &[u32]) -> bool
+    ensures below { λ r. ⌜ (operation < 81 → r ≡ false) ⌝ }
+    ensures above { λ r. ⌜ (180 < operation → r ≡ false) ⌝ }
+{
     let mut samples = no_floats();
     let mut span = no_floats();
     let n = length(samples_of(operation, w));

@@ -66,12 +66,12 @@ fn same_opened(w: &[u32], lent: &[u32], opened: HbfStreamOpening) -> bool {
     same_state(w, same_opening(w, 0, answer), lent, state) == w.len()
 }
 
-pub fn new(w: &[u32]) -> bool {
+pub(crate) fn new(w: &[u32]) -> bool {
     let opened = HbfStream::new(long(w, 0));
     same_opened(rest(w, 2), first(w, 0), opened)
 }
 
-pub fn reset(w: &[u32]) -> bool {
+pub(crate) fn reset(w: &[u32]) -> bool {
     let opened = state_of(w).reset();
     same_opened(behind_state(w), w, opened)
 }
@@ -90,7 +90,7 @@ fn same_step(w: &[u32], lent: &[u32], step: HbfStreamStep) -> bool {
     same_state(w, same_output(w, output), lent, state) == w.len()
 }
 
-pub fn process_sample(w: &[u32]) -> bool {
+pub(crate) fn process_sample(w: &[u32]) -> bool {
     let given = behind_state(w);
     let step = state_of(w).process_sample(float(word(given, 0)));
     same_step(rest(given, 1), w, step)

@@ -1,4 +1,7 @@
 // The operations by their codes. tests/oracle/README.md has them.
+ghost use mathlib.Core.Bool.{false};
+ghost use mathlib.Core.Path.{_≡_};
+ghost use Prim.Native.Nat.{_<_};
 use crate::blocks;
 use crate::hbf_dec;
 use crate::hbf_dec_cascade;
@@ -8,8 +11,11 @@ use crate::hbf_stream;
 use crate::polyphase_resamp;
 use crate::values;
 
-// Whether the converters answer as a record says; `w` is what follows the operation's code.
-pub fn agrees(operation: u32, w: &[u32]) -> bool {
+// Whether the converters answer as a record says; `w` is what follows the operation's code. A code that is none of this layer's agrees with nothing.
+pub fn agrees(operation: u32, w: &[u32]) -> bool
+    ensures below { λ r. ⌜ (operation < 81 → r ≡ false) ⌝ }
+    ensures above { λ r. ⌜ (180 < operation → r ≡ false) ⌝ }
+{
     match operation {
         0x52 => values::to_f32(w),
         0x53 => values::dec_response_length(w),

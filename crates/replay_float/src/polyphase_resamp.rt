@@ -37,7 +37,7 @@ fn state_of(w: &[u32]) -> PolyphaseResampF32 {
 }
 
 // The words behind a state.
-pub fn behind_state(w: &[u32]) -> &[u32] {
+pub(crate) fn behind_state(w: &[u32]) -> &[u32] {
     behind(behind(rest(w, DELAY)))
 }
 
@@ -60,13 +60,13 @@ fn same_opened(w: &[u32], lent: &[u32], opened: PolyphaseOpening) -> bool {
     same_state(w, same_opening(w, 0, answer), lent, state) == w.len()
 }
 
-pub fn from_taps(w: &[u32], prototype: &[f32]) -> bool {
+pub(crate) fn from_taps(w: &[u32], prototype: &[f32]) -> bool {
     let step = float(word(w, 4));
     let opened = PolyphaseResampF32::from_taps(long(w, 0), long(w, 2), prototype, step);
     same_opened(behind(rest(w, 5)), first(w, 0), opened)
 }
 
-pub fn reset(w: &[u32]) -> bool {
+pub(crate) fn reset(w: &[u32]) -> bool {
     let opened = state_of(w).reset();
     same_opened(behind_state(w), w, opened)
 }
@@ -81,7 +81,12 @@ fn same_moved(w: &[u32], taken: usize, answer: Count) -> usize {
     }
 }
 
-pub fn process_block(w: &[u32], lent_span: &[u32], samples: &[f32], span: &mut [f32]) -> bool {
+pub(crate) fn process_block(
+    w: &[u32],
+    lent_span: &[u32],
+    samples: &[f32],
+    span: &mut [f32],
+) -> bool {
     let block = state_of(w).process_block(samples, span);
     let answer = block.answer;
     let state = block.state;
@@ -91,7 +96,7 @@ pub fn process_block(w: &[u32], lent_span: &[u32], samples: &[f32], span: &mut [
     same_state(expected, next, w, state) == expected.len()
 }
 
-pub fn push(w: &[u32], lent_span: &[u32], span: &mut [f32]) -> bool {
+pub(crate) fn push(w: &[u32], lent_span: &[u32], span: &mut [f32]) -> bool {
     let pushed = state_of(w).push(float(word(behind_state(w), 0)), span);
     let answer = pushed.answer;
     let state = pushed.state;

@@ -19,13 +19,13 @@ use records::words::same_long;
 use records::words::short;
 use records::words::word;
 
-pub fn linear(w: &[u32], lent_span: &[u32], samples: &[f32], span: &mut [f32]) -> bool {
+pub(crate) fn linear(w: &[u32], lent_span: &[u32], samples: &[f32], span: &mut [f32]) -> bool {
     let answer = resample_linear_f32(samples, span, float(word(w, 0)));
     let expected = behind(lent_span);
     same_written(expected, answer, lent_span, span) == expected.len()
 }
 
-pub fn to_f32(w: &[u32]) -> bool {
+pub(crate) fn to_f32(w: &[u32]) -> bool {
     same_float(w, 1, q15_to_f32(Q15(short(word(w, 0))))) == w.len()
 }
 
@@ -38,16 +38,16 @@ fn same_length(w: &[u32], answer: ResponseLength) -> bool {
     }
 }
 
-pub fn dec_response_length(w: &[u32]) -> bool {
+pub(crate) fn dec_response_length(w: &[u32]) -> bool {
     same_length(w, hbf_dec_response_length(long(w, 0)))
 }
 
-pub fn int_response_length(w: &[u32]) -> bool {
+pub(crate) fn int_response_length(w: &[u32]) -> bool {
     same_length(w, hbf_int_response_length(long(w, 0)))
 }
 
 // The table's 45 taps, as a span that was zeros.
-pub fn tap_table(w: &[u32]) -> bool {
+pub(crate) fn tap_table(w: &[u32]) -> bool {
     let table = hbf_tap_table();
     same_floats(w, 0, &w[..0], &table) == w.len()
 }

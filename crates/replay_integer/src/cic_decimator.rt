@@ -1,6 +1,8 @@
 // The operations of CicDecimator. Each takes the words behind its code: its inputs, then the answers.
 use crate::gain::same_gain;
 use crate::gain::same_gain_bits;
+use crate::numbers::eight;
+use crate::numbers::same_numbers;
 use integer::CicDecimator;
 use integer::cic_decimator::CicBlock;
 use integer::cic_decimator::CicOutput;
@@ -14,14 +16,12 @@ use records::slices::lend;
 use records::slices::length;
 use records::slices::no_numbers;
 use records::slices::same_span;
-use records::words::eight;
 use records::words::long;
 use records::words::number;
 use records::words::rest;
 use records::words::same;
 use records::words::same_long;
 use records::words::same_number;
-use records::words::same_numbers;
 
 // Words of a state.
 const STATE: usize = 22;
@@ -62,7 +62,7 @@ fn same_step(w: &[u32], step: CicStep) -> bool {
     same_state(w, same_output(w, 0, output), state) == w.len()
 }
 
-pub fn new(w: &[u32]) -> bool {
+pub(crate) fn new(w: &[u32]) -> bool {
     let opened = CicDecimator::new(long(w, 0), long(w, 2));
     let expected = rest(w, 4);
     let answer = opened.answer;
@@ -70,22 +70,22 @@ pub fn new(w: &[u32]) -> bool {
     same_state(expected, same_opening(expected, 0, answer), state) == expected.len()
 }
 
-pub fn process_sample(w: &[u32]) -> bool {
+pub(crate) fn process_sample(w: &[u32]) -> bool {
     let step = state_of(w).process_sample(number(w, STATE));
     same_step(rest(w, STATE + 1), step)
 }
 
-pub fn process_sample_scaled(w: &[u32]) -> bool {
+pub(crate) fn process_sample_scaled(w: &[u32]) -> bool {
     let step = state_of(w).process_sample_scaled(number(w, STATE));
     same_step(rest(w, STATE + 1), step)
 }
 
-pub fn gain(w: &[u32]) -> bool {
+pub(crate) fn gain(w: &[u32]) -> bool {
     let expected = rest(w, STATE);
     same_gain(expected, 0, state_of(w).gain()) == expected.len()
 }
 
-pub fn gain_bits(w: &[u32]) -> bool {
+pub(crate) fn gain_bits(w: &[u32]) -> bool {
     let expected = rest(w, STATE);
     same_gain_bits(expected, 0, state_of(w).gain_bits()) == expected.len()
 }
@@ -106,7 +106,7 @@ fn block_in(w: &[u32], samples: &mut [i32], span: &mut [i32]) -> bool {
     same_block(behind(lent_span), block, lent_span, span)
 }
 
-pub fn process_block(w: &[u32]) -> bool {
+pub(crate) fn process_block(w: &[u32]) -> bool {
     let mut samples = no_numbers();
     let mut span = no_numbers();
     let lent = rest(w, STATE);

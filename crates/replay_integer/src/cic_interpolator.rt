@@ -1,6 +1,8 @@
 // The operations of CicInterpolator. Each takes the words behind its code: its inputs, then the answers.
 use crate::gain::same_gain;
 use crate::gain::same_gain_bits;
+use crate::numbers::eight;
+use crate::numbers::same_numbers;
 use integer::CicInterpolator;
 use integer::cic_interpolator::CicInterpolated;
 use records::answers::same_count;
@@ -11,12 +13,10 @@ use records::slices::lend;
 use records::slices::length;
 use records::slices::no_numbers;
 use records::slices::same_span;
-use records::words::eight;
 use records::words::long;
 use records::words::number;
 use records::words::rest;
 use records::words::same_long;
-use records::words::same_numbers;
 
 // Words of a state.
 const STATE: usize = 20;
@@ -41,7 +41,7 @@ fn same_state(w: &[u32], at: usize, state: CicInterpolator) -> usize {
     same_numbers(w, next, &integrators)
 }
 
-pub fn new(w: &[u32]) -> bool {
+pub(crate) fn new(w: &[u32]) -> bool {
     let opened = CicInterpolator::new(long(w, 0), long(w, 2));
     let expected = rest(w, 4);
     let answer = opened.answer;
@@ -49,12 +49,12 @@ pub fn new(w: &[u32]) -> bool {
     same_state(expected, same_opening(expected, 0, answer), state) == expected.len()
 }
 
-pub fn gain(w: &[u32]) -> bool {
+pub(crate) fn gain(w: &[u32]) -> bool {
     let expected = rest(w, STATE);
     same_gain(expected, 0, state_of(w).gain()) == expected.len()
 }
 
-pub fn gain_bits(w: &[u32]) -> bool {
+pub(crate) fn gain_bits(w: &[u32]) -> bool {
     let expected = rest(w, STATE);
     same_gain_bits(expected, 0, state_of(w).gain_bits()) == expected.len()
 }
@@ -73,7 +73,7 @@ fn sample_in(w: &[u32], span: &mut [i32]) -> bool {
     same_sample(behind(lent), sample, lent, span)
 }
 
-pub fn process_sample(w: &[u32]) -> bool {
+pub(crate) fn process_sample(w: &[u32]) -> bool {
     let mut span = no_numbers();
     let places = length(rest(w, STATE + 1));
     sample_in(w, front(&mut span, places))

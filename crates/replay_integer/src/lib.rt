@@ -2,6 +2,7 @@
 mod cic_decimator;
 mod cic_interpolator;
 mod gain;
+mod numbers;
 pub mod operations;
 
 pub use crate::operations::agrees;

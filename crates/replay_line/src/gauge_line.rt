@@ -67,7 +67,7 @@ fn behind_opening(w: &[u32]) -> &[u32] {
     behind(behind(rest(w, TAPS)))
 }
 
-pub fn open(w: &[u32]) -> bool {
+pub(crate) fn open(w: &[u32]) -> bool {
     let expected = behind_opening(w);
     let answer = opened(w).answer;
     same_opening(expected, 0, answer) == expected.len()
@@ -129,7 +129,7 @@ fn same_feeds(w: &[u32], opened: Line) -> bool {
     left == 0
 }
 
-pub fn feeds(w: &[u32]) -> bool {
+pub(crate) fn feeds(w: &[u32]) -> bool {
     let line = opened(w).line;
     same_feeds(behind_opening(w), line)
 }
@@ -208,7 +208,7 @@ fn same_step(w: &[u32], at: usize, step: LineStep) -> usize {
 }
 
 // A feed, a reset and a step of a line that row 15 names: each is refused, and the feed hands the line back as it was.
-pub fn damaged(w: &[u32]) -> bool {
+pub(crate) fn damaged(w: &[u32]) -> bool {
     let numbers = behind_opening(w);
     let line = with_numbers(numbers, opened(w).line);
     let compared = feed(rest(numbers, NUMBERS), line);

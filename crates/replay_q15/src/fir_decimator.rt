@@ -69,13 +69,13 @@ fn new_in(w: &[u32], taps: &mut [i16]) -> bool {
     same_opened(behind(lent), first(w, 0), opened)
 }
 
-pub fn new(w: &[u32]) -> bool {
+pub(crate) fn new(w: &[u32]) -> bool {
     let mut taps = no_shorts();
     let t = length(rest(w, 2));
     new_in(w, front_shorts(&mut taps, t))
 }
 
-pub fn reset(w: &[u32]) -> bool {
+pub(crate) fn reset(w: &[u32]) -> bool {
     let opened = state_of(w).reset();
     same_opened(behind_state(w), w, opened)
 }
@@ -94,7 +94,7 @@ fn same_step(w: &[u32], lent: &[u32], step: FirStep) -> bool {
     same_state(w, same_output(w, 0, output), lent, state) == w.len()
 }
 
-pub fn process_sample(w: &[u32]) -> bool {
+pub(crate) fn process_sample(w: &[u32]) -> bool {
     let given = behind_state(w);
     let step = state_of(w).process_sample(Q15(short(word(given, 0))));
     same_step(rest(given, 1), w, step)

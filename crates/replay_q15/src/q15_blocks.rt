@@ -57,11 +57,11 @@ fn fir_block(up: bool, w: &[u32]) -> bool {
     )
 }
 
-pub fn decimate(w: &[u32]) -> bool {
+pub(crate) fn decimate(w: &[u32]) -> bool {
     fir_block(false, w)
 }
 
-pub fn interpolate(w: &[u32]) -> bool {
+pub(crate) fn interpolate(w: &[u32]) -> bool {
     fir_block(true, w)
 }
 
@@ -74,7 +74,7 @@ fn linear_in(w: &[u32], samples: &mut [i16], span: &mut [i16]) -> bool {
     same_block(behind(lent_span), count, lent_span, span)
 }
 
-pub fn linear(w: &[u32]) -> bool {
+pub(crate) fn linear(w: &[u32]) -> bool {
     let mut samples = no_shorts();
     let mut span = no_shorts();
     let lent = rest(w, 1);
@@ -83,7 +83,7 @@ pub fn linear(w: &[u32]) -> bool {
     linear_in(w, front_shorts(&mut samples, n), front_shorts(&mut span, m))
 }
 
-pub fn cut(w: &[u32]) -> bool {
+pub(crate) fn cut(w: &[u32]) -> bool {
     let y = cut_q15(signed_long(long(w, 0)));
     same_short(w, 2, y.0) == w.len()
 }

@@ -180,6 +180,13 @@ fn gains(state: &State) -> Cases {
     vec![GAIN.of(state.clone()).0, GAIN_BITS.of(state.clone()).0]
 }
 
+/// The gain and its bits of every N and r.
+pub fn every_gain() -> Cases {
+    cic_settings::every()
+        .flat_map(|settings| gains(&State::opened(settings.stages, settings.r)))
+        .collect()
+}
+
 /// A block whose samples complete about `outputs` sums, with a span around their number.
 fn some_block(rng: &mut Rng, state: &mut State, outputs: u64) -> Box<dyn Case> {
     let r = state.r.clamp(1, 4096);

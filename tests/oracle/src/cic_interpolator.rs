@@ -21,7 +21,7 @@ const NEW: Operation<New> = Operation {
     code: 0x21,
     name: "CicInterpolator::new",
     refusal: Some(|call| call.lent.refusal()),
-    rust: |call| call.answer = with_stages!(call.lent.stages, opened(call.lent.r)),
+    rust: |call| call.answer = State::opened(call.lent.stages, call.lent.r),
     archive: integer::cic_interpolator_new,
 };
 
@@ -60,6 +60,10 @@ fields! {
 }
 
 impl State {
+    fn opened(stages: u64, r: u64) -> Self {
+        with_stages!(stages, opened(r))
+    }
+
     fn rust<const N: usize>(&self) -> CicInterpolator<N> {
         CicInterpolator::from_parts(
             self.r as usize,
@@ -109,6 +113,13 @@ fn some_opening(rng: &mut Rng) -> Box<dyn Case> {
 
 fn gains(state: &State) -> Cases {
     vec![GAIN.of(state.clone()).0, GAIN_BITS.of(state.clone()).0]
+}
+
+/// The gain and its bits of every N and r.
+pub fn every_gain() -> Cases {
+    cic_settings::every()
+        .flat_map(|settings| gains(&State::opened(settings.stages, settings.r)))
+        .collect()
 }
 
 /// A span that is exactly r long, longer, or too short.
@@ -172,7 +183,7 @@ fn gain_edge(rng: &mut Rng) -> State {
 fn stream(rng: &mut Rng) -> Cases {
     let stages = cic_settings::stages(rng);
     let r = cic_settings::factor_up_to(rng, 24);
-    let mut state = with_stages!(stages, opened(r));
+    let mut state = State::opened(stages, r);
     (0..rng.within(4, 16))
         .map(|_| any_call(rng, &mut state))
         .collect()

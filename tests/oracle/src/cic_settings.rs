@@ -21,6 +21,11 @@ impl Settings {
     }
 }
 
+/// Every N and r within the limits.
+pub fn every() -> impl Iterator<Item = Settings> {
+    (1..=8).flat_map(|stages| (1..=MOST).map(move |r| Settings { stages, r }))
+}
+
 pub fn stages(rng: &mut Rng) -> u64 {
     rng.within(1, 8)
 }

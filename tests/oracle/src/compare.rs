@@ -12,20 +12,32 @@ pub struct Done {
 }
 
 impl Done {
-    /// The next cases: as many as wanted, then long ones while samples are wanted.
-    fn draw(&self, request: &Request, rng: &mut Rng) -> Cases {
-        let converter = rng.pick(&request.converters);
-        let left = request.cases.saturating_sub(self.cases);
-        if left == 0 {
-            return (converter.long)(rng);
+    /// Counts the cases in, or stops at one that differs.
+    fn compare(&mut self, cases: Cases) -> Result<(), Difference> {
+        for case in cases {
+            self.cases += 1;
+            if !case.agrees() {
+                let number = self.cases;
+                return Err(Difference { number, case });
+            }
+            self.samples += case.samples();
         }
-        let mut cases = match rng.one_in(4) {
-            true => (converter.more)(rng),
-            false => (converter.cases)(rng),
-        };
-        cases.truncate(left);
-        cases
+        Ok(())
     }
+}
+
+/// The next cases: at most so many while some are left, then long ones.
+fn draw(request: &Request, left: usize, rng: &mut Rng) -> Cases {
+    let converter = rng.pick(&request.converters);
+    if left == 0 {
+        return (converter.long)(rng);
+    }
+    let mut cases = match rng.one_in(4) {
+        true => (converter.more)(rng),
+        false => (converter.cases)(rng),
+    };
+    cases.truncate(left);
+    cases
 }
 
 /// A case whose answers differ, counted from 1.
@@ -34,19 +46,17 @@ pub struct Difference {
     pub case: Box<dyn Case>,
 }
 
-/// All that was wanted, or the first difference.
+/// The fixed cases and all that was wanted, or the first difference.
 pub fn compare(request: &Request) -> Result<Done, Difference> {
     let mut rng = Rng::new(request.seed);
     let mut done = Done::default();
-    while done.cases < request.cases || done.samples < request.samples {
-        for case in done.draw(request, &mut rng) {
-            done.cases += 1;
-            if !case.agrees() {
-                let number = done.cases;
-                return Err(Difference { number, case });
-            }
-            done.samples += case.samples();
-        }
+    for converter in &request.converters {
+        done.compare((converter.fixed)())?;
+    }
+    let wanted = done.cases + request.cases;
+    while done.cases < wanted || done.samples < request.samples {
+        let left = wanted.saturating_sub(done.cases);
+        done.compare(draw(request, left, &mut rng))?;
     }
     Ok(done)
 }

@@ -37,7 +37,7 @@ fn nearest(decimal: &str) -> f32 {
     let significand = quotient as u32 + u32::from(up);
 
     // A significand of 2^24 carries into the exponent's field.
-    f32::from_bits(sign << 31 | (((exponent + 149) as u32) << 23) + significand)
+    f32::from_bits((sign << 31) | ((((exponent + 149) as u32) << 23) + significand))
 }
 
 pub fn rounded() -> Vec<f32> {

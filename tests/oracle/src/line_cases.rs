@@ -7,7 +7,7 @@ use crate::field::Fields;
 use crate::fir_decimator;
 use crate::gauge_line::Line;
 use crate::hbf_stream;
-use crate::lent::Slice;
+use crate::lent::{Lent, Slice};
 use crate::line_calls::{FEED, Next, OPEN, RESET, STEP};
 use crate::line_damage;
 use crate::line_feeds;
@@ -29,6 +29,36 @@ fn some_case(rng: &mut Rng) -> Box<dyn Case> {
 
 pub fn cases(rng: &mut Rng) -> Cases {
     vec![some_case(rng)]
+}
+
+/// A FIR factor whose low 32 bits are a factor: refused at the opening, and by every call on a line that has it.
+fn wide_factor(taps: u64, low: u64) -> Cases {
+    let wide = (1 << 32) + low;
+    let (opening, _) = OPEN.of(line_settings::fir_alone(taps, wide));
+    let mut line = Line::opened(&line_settings::fir_alone(taps, low));
+    line.fir.factor = wide;
+    let samples = || Lent::pattern(taps + 1, 1, 1);
+    let next = Next {
+        samples: samples().into(),
+        at: 0,
+        places: 1,
+    };
+    vec![
+        opening,
+        FEED.on(&mut line, Buffers::of(samples(), Lent::pattern(2, 0, 0))),
+        STEP.on(&mut line, next),
+        RESET.on(&mut line, ()),
+    ]
+}
+
+/// Factors of 2^32 and more with taps, which a factor of 32 bits would take for small ones.
+pub fn fir_factors() -> Cases {
+    let lows = [1, 2, 3, 63, 64, 65, 4095, 4096];
+    [1, 2, 64]
+        .into_iter()
+        .flat_map(|taps| lows.map(|low| wide_factor(taps, low)))
+        .flatten()
+        .collect()
 }
 
 /// A valid line with anything in its arrays, and in what belongs to parts that are off.

@@ -116,6 +116,21 @@ pub fn step(rng: &mut Rng) -> f32 {
     }
 }
 
+/// A line with a CIC that hands samples on and so many taps, and nothing behind them.
+pub fn fir_alone(taps: u64, factor: u64) -> Settings {
+    Settings {
+        stages: 1,
+        r: 1,
+        factor,
+        depth: 0,
+        phases: 0,
+        taps: 0,
+        step: 0.0,
+        fir: Lent::pattern(taps, 1 << 14, 0).into(),
+        prototype: Lent::pattern(0, 0, 0).into(),
+    }
+}
+
 /// An opening that is not refused. What belongs to a resampler that is off may be anything.
 pub fn good(rng: &mut Rng) -> Settings {
     let (stages, r) = cic(rng);
@@ -195,7 +210,7 @@ pub fn spoilt(rng: &mut Rng) -> Settings {
     if faults & 256 != 0 {
         let length = rng.pick(&[1, 64, 65, 66, 65_536]);
         opening.fir = q15_samples::list(rng, length).into();
-        opening.factor = rng.pick(&[0, 1, 4096, 4097, opening.factor]);
+        opening.factor = rng.pick(&[0, 1, 4096, 4097, (1 << 32) + 1, opening.factor]);
     }
     spoil_resampler(rng, &mut opening, faults);
     opening

@@ -89,6 +89,12 @@ pub fn longest_buffers<T: Element, R: Element>(
     Buffers::of(ratio, input, samples::span(rng, places))
 }
 
+/// As many samples and places as 01 allows: samples that all differ, and a span of zeros.
+pub fn most_buffers<T: Element, R: Element>(ratio: R, pattern: u32, stride: u32) -> Buffers<T, R> {
+    let samples = Lent::pattern(settings::MOST, pattern, stride);
+    Buffers::of(ratio, samples, Lent::pattern(settings::MOST, 0, 0))
+}
+
 /// As long as 01 allows, and of any samples.
 pub fn long_buffers<T: Element, R: Element>(rng: &mut Rng, ratio: R, list: List) -> Buffers<T, R> {
     let (length, places) = settings::long_block(rng, 1, 1);

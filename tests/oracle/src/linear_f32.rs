@@ -53,6 +53,16 @@ fn longest_call(rng: &mut Rng) -> Box<dyn Case> {
         .0
 }
 
+/// The last place of the longest call: before the last sample, at it, just past it and far past it.
+pub fn at_limits() -> Cases {
+    let ratios = [0.5, 0.999_985, 0.999_99, 1.0, 1.000_01, 1.000_015_3, 2.0];
+    let samples_from = 1.0f32.to_bits();
+    ratios
+        .into_iter()
+        .map(|ratio| LINEAR.of(linear::most_buffers(ratio, samples_from, 97)).0)
+        .collect()
+}
+
 pub fn long(rng: &mut Rng) -> Cases {
     let ratio = rng.within(1 << 14, 1 << 18) as f32 / 65_536.0;
     let buffers = linear::long_buffers(rng, ratio, float_samples::noise);

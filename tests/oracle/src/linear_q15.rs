@@ -54,6 +54,15 @@ fn longest_call(rng: &mut Rng) -> Box<dyn Case> {
         .0
 }
 
+/// The last place of the longest call: before the last sample, at it, just past it and far past it.
+pub fn at_limits() -> Cases {
+    let ratios = [32_768, 65_535, 65_536, 65_537, 131_072];
+    ratios
+        .into_iter()
+        .map(|ratio| LINEAR.of(linear::most_buffers(ratio, 0, 1)).0)
+        .collect()
+}
+
 pub fn long(rng: &mut Rng) -> Cases {
     let ratio = rng.within(1 << 14, 1 << 18) as i32;
     let buffers = linear::long_buffers(rng, ratio, q15_samples::noise);

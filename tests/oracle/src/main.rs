@@ -53,16 +53,18 @@ mod tap_sheet;
 mod values;
 
 use cascade::Cascade;
+use case::Cases;
 use compare::{Difference, Done};
 use half_band::HalfBand;
 use request::{Command, Converter, Draw, Request, USAGE};
 use std::io::{self, BufWriter, Write};
 use std::process::ExitCode;
 
-/// A converter that has no cases but those of a list, and none with more samples.
+/// A converter that has no cases but those of a list, none with more samples and none that are fixed.
 const fn listed(name: &'static str, cases: Draw) -> Converter {
     Converter {
         name,
+        fixed: Vec::new,
         cases,
         more: cases,
         long: cases,
@@ -70,6 +72,11 @@ const fn listed(name: &'static str, cases: Draw) -> Converter {
 }
 
 impl Converter {
+    const fn fixed(mut self, fixed: fn() -> Cases) -> Self {
+        self.fixed = fixed;
+        self
+    }
+
     const fn more(mut self, more: Draw) -> Self {
         self.more = more;
         self
@@ -82,15 +89,21 @@ impl Converter {
 }
 
 const CONVERTERS: [Converter; 15] = [
-    listed("cic_decimator", cic_decimator::cases).long(cic_decimator::long),
-    listed("cic_interpolator", cic_interpolator::cases),
+    listed("cic_decimator", cic_decimator::cases)
+        .fixed(cic_decimator::every_gain)
+        .long(cic_decimator::long),
+    listed("cic_interpolator", cic_interpolator::cases).fixed(cic_interpolator::every_gain),
     listed("polyphase_q15", polyphase_q15::cases).long(polyphase_q15::long),
-    listed("linear_q15", linear_q15::cases).long(linear_q15::long),
+    listed("linear_q15", linear_q15::cases)
+        .fixed(linear_q15::at_limits)
+        .long(linear_q15::long),
     listed("fir_decimator", fir_decimator::cases)
         .more(fir_decimator::more)
         .long(fir_decimator::long),
     listed("values", values::cases),
-    listed("linear_f32", linear_f32::cases).long(linear_f32::long),
+    listed("linear_f32", linear_f32::cases)
+        .fixed(linear_f32::at_limits)
+        .long(linear_f32::long),
     listed("hbf_dec", hbf_dec::Decimator::cases).long(hbf_dec::Decimator::long),
     listed("hbf_int", hbf_int::Interpolator::cases).long(hbf_int::Interpolator::long),
     listed("hbf_dec_cascade", hbf_dec_cascade::Decimators::cases)
@@ -104,6 +117,7 @@ const CONVERTERS: [Converter; 15] = [
         .more(polyphase_resamp::more)
         .long(polyphase_resamp::long),
     listed("gauge_line", line_cases::cases)
+        .fixed(line_cases::fir_factors)
         .more(line_cases::more)
         .long(line_cases::long),
     listed("tap_sheet", tap_sheet::cases),

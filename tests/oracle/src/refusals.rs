@@ -105,7 +105,7 @@ pub fn block(samples: usize, span: usize) -> u32 {
 /// "Q15 up": after the blocks' rows 8, where the taps are not a multiple of L.
 pub fn q15_up(factor: u64, taps: usize, samples: usize, span: usize) -> u32 {
     match q15_block(factor, taps, samples, span) {
-        0 if taps as u64 % factor != 0 => TAPS_MULTIPLE,
+        0 if !(taps as u64).is_multiple_of(factor) => TAPS_MULTIPLE,
         number => number,
     }
 }

@@ -18,6 +18,8 @@ pub type Draw = fn(&mut Rng) -> Cases;
 #[derive(Clone, Copy)]
 pub struct Converter {
     pub name: &'static str,
+    /// Those that every comparison begins with.
+    pub fixed: fn() -> Cases,
     /// Those that a list has.
     pub cases: Draw,
     /// Those that only a comparison has.

@@ -60,12 +60,15 @@ impl<S: Fields, T: Element> Fields for Left<S, T> {
     }
 }
 
+/// A call for one sample.
+type OneSample<S, T> = Single<S, Sample<T>, Made<T>>;
+
 impl<L: Fields, S: Fields, T: Element> Stream<L, S, T> {
     /// Through the archive's opening and its call for one sample: the first refusal's number.
     pub fn run(
         &mut self,
         new: fn(&mut Free<L, S>) -> u64,
-        process_sample: fn(&mut Single<S, Sample<T>, Made<T>>) -> u64,
+        process_sample: fn(&mut OneSample<S, T>) -> u64,
     ) -> u64 {
         let mut opening = Single::of((), self.lent.opening.clone());
         let mut refusal = new(&mut opening);

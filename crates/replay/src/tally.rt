@@ -1,7 +1,7 @@
 // How many records were compared, and how many differ.
 use libc::STDOUT_FILENO;
 
-pub struct Tally {
+pub(crate) struct Tally {
     pub records: u64,
     pub differences: u64,
     // The record, counted from 1, and the operation of the first difference.
@@ -10,7 +10,7 @@ pub struct Tally {
 }
 
 impl Tally {
-    pub fn none() -> Tally {
+    pub(crate) fn none() -> Tally {
         Tally {
             records: 0,
             differences: 0,
@@ -19,7 +19,7 @@ impl Tally {
         }
     }
 
-    pub fn counted(mut self, operation: u32, same: bool) -> Tally {
+    pub(crate) fn counted(mut self, operation: u32, same: bool) -> Tally {
         self.records = std::num::wrapping_add_u64(self.records, 1);
         if same {
             return self;
@@ -32,7 +32,7 @@ impl Tally {
         self
     }
 
-    pub fn report(self) {
+    pub(crate) fn report(self) {
         io::print_decimal(STDOUT_FILENO, self.records);
         io::write_all(STDOUT_FILENO, b" records, ");
         io::print_decimal(STDOUT_FILENO, self.differences);

@@ -1,9 +1,9 @@
--- `records::words::same_numbers` is safe and ends: the index stays within the slice, and what is left of it is the measure.
+-- `replay_integer::numbers::same_numbers` is safe and ends: the index stays within the slice, and what is left of it is the measure.
 use Prim.Native.Nat.{_≤_, _-_}
 use lib.ListN.{length}
 use borrow.Author.Needs.{needs}
-use Rattle.records.proofs.words.same_numbers.Statement.{statement}
-use Rattle.records.proofs.words.same_numbers.Tie as tie
+use Rattle.replay_integer.proofs.numbers.same_numbers.Statement.{statement}
+use Rattle.replay_integer.proofs.numbers.same_numbers.Tie as tie
 
 abbrev Inv-loop : tie.InvT-loop
 Inv-loop w at numbers next₀ i₀ next i = i ≤ length numbers

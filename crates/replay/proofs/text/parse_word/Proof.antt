@@ -1,8 +1,8 @@
--- `records::text::parse_word` is safe and ends: eight digits, of which what is left is the measure, and a value whose top digit is dropped before the next is added.
+-- `replay::text::parse_word` is safe and ends: eight digits, of which what is left is the measure, and a value whose top digit is dropped before the next is added.
 use Prim.Native.Nat.{_≤_, _-_}
 use borrow.Author.Needs.{needs}
-use Rattle.records.proofs.text.parse_word.Statement.{statement}
-use Rattle.records.proofs.text.parse_word.Tie as tie
+use Rattle.replay.proofs.text.parse_word.Statement.{statement}
+use Rattle.replay.proofs.text.parse_word.Tie as tie
 
 abbrev Inv-loop : tie.InvT-loop
 Inv-loop text separator value₀ i₀ value i = i ≤ 8

@@ -10,7 +10,7 @@ const BLANK: u8 = 32;
 const LINE_END: u8 = 10;
 
 // What reading a record finds.
-pub enum Read {
+pub(crate) enum Read {
     End,
     // So many words.
     Record(usize),
@@ -78,7 +78,7 @@ fn parse(text: &[u8], words: &mut [u32]) -> bool {
 }
 
 // The next record's words, by way of `bytes`.
-pub fn read_record(bytes: &mut [u8], words: &mut [u32]) -> Read {
+pub(crate) fn read_record(bytes: &mut [u8], words: &mut [u32]) -> Read {
     let mut header = [0u8; WIDTH];
     let got = io::read_full(STDIN_FILENO, &mut header);
     if got == 0 {
