@@ -32,7 +32,7 @@ fn count_in(w: &[u32], bytes: &mut [u8]) -> bool {
     same_entries(behind(w), sheet_count(bytes))
 }
 
-pub fn count(w: &[u32]) -> bool {
+pub(crate) fn count(w: &[u32]) -> bool {
     let mut bytes = no_bytes();
     let n = length(w);
     count_in(w, front_bytes(&mut bytes, n))
@@ -64,7 +64,7 @@ fn entry_in(w: &[u32], bytes: &mut [u8]) -> bool {
     same_size(answers, next, answer) == answers.len()
 }
 
-pub fn entry(w: &[u32]) -> bool {
+pub(crate) fn entry(w: &[u32]) -> bool {
     let mut bytes = no_bytes();
     let n = length(w);
     entry_in(w, front_bytes(&mut bytes, n))
@@ -81,7 +81,7 @@ fn write_in(w: &[u32], joined: &mut [u8], lengths: &mut [usize], span: &mut [u8]
     same_bytes(answers, same_count(answers, 0, answer), lent_span, span) == answers.len()
 }
 
-pub fn write(w: &[u32]) -> bool {
+pub(crate) fn write(w: &[u32]) -> bool {
     let mut joined = no_bytes();
     let mut lengths = [0usize; 64];
     let mut span = no_bytes();
