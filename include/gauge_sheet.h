@@ -34,8 +34,7 @@ static inline uint64_t GaugeSheet_read(GaugeSheet *sheet, const uint8_t *bytes, 
 
 // Where entry k stands: sheet->bytes + *offset, *size bytes of it. Refusals: 16, 17, then 18 where k is not below the
 // count; *offset and *size are then 0. Any reader may be lent: the whole sheet is looked at again.
-static inline uint64_t
-GaugeSheet_entry(const GaugeSheet *sheet, uint64_t k, uint64_t *offset, uint64_t *size) {
+static inline uint64_t GaugeSheet_entry(const GaugeSheet *sheet, uint64_t k, uint64_t *offset, uint64_t *size) {
     return gauge_raw_sheet_entry(sheet->bytes, sheet->length, sheet->count, k, offset, size);
 }
 

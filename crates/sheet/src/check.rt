@@ -133,7 +133,7 @@ fn reader_check(bytes: &[u8], count: usize) -> Opening
 }
 
 // Whether an answer refuses nothing.
-pub fn is_opened(answer: Opening) -> bool
+pub(crate) fn is_opened(answer: Opening) -> bool
     ensures { λ r. ⌜ r ≡ eqb (openingNumber answer) 0 ⌝ }
 {
     match answer {

@@ -93,7 +93,7 @@ pub fn listed<T: Number>(entries: &Entries, name: &str, value: &[u8]) -> Result<
         Some(k) => in_sheet(&file, k)?,
         None => {
             let text = read_small(&file).map_err(|why| fault(why.to_string()))?;
-            in_text(&file, &text)?
+            in_text(&file, &text, &format!("a line without {name}"))?
         }
     };
     Ok(List {
@@ -114,11 +114,12 @@ fn entry_of(value: &[u8]) -> (&[u8], Option<usize>) {
     }
 }
 
-/// The numbers of a text, of which there must be some.
-pub fn in_text<T: Number>(file: &Path, text: &[u8]) -> Result<Vec<T>, Fault> {
+/// The numbers of a text. There must be some: what can do without them does not name the file.
+pub fn in_text<T: Number>(file: &Path, text: &[u8], without: &str) -> Result<Vec<T>, Fault> {
     let numbers = lines(file, text)?;
     if numbers.is_empty() {
-        return Err(Fault::file(file, "no numbers; what has none is not named"));
+        let what = format!("no numbers; {without} does not name it");
+        return Err(Fault::file(file, what));
     }
     Ok(numbers)
 }

@@ -117,11 +117,14 @@ fn given(arguments: &[OsString]) -> Result<(Given<'_>, Vec<OsString>), Fault> {
 fn packed(kind: &str, file: &Path) -> Result<Vec<u8>, Fault> {
     let text = || read_small(file).map_err(|why| Fault::file(file, why));
     match kind {
-        "--taps" => Ok(bytes_of::<i16>(&in_text(file, &text()?)?)),
-        "--prototype" => Ok(bytes_of::<f32>(&in_text(file, &text()?)?)),
+        "--taps" => Ok(bytes_of::<i16>(&in_text(file, &text()?, NO_ENTRY)?)),
+        "--prototype" => Ok(bytes_of::<f32>(&in_text(file, &text()?, NO_ENTRY)?)),
         _ => read_bytes(file).map_err(|why| Fault::file(file, why)),
     }
 }
+
+// What does without numbers.
+const NO_ENTRY: &str = "a sheet without the entry";
 
 fn bytes_of<T: Number>(numbers: &[T]) -> Vec<u8> {
     numbers.iter().flat_map(Number::bytes).collect()

@@ -62,7 +62,7 @@ fn what_is_wrong_is_told() {
     for (arguments, said) in [
         (
             "sheet list bad.sheet",
-            "bad.sheet: refusal 17: entry 2 at 33 stands behind entry 1 at 34",
+            "bad.sheet: refusal 17: entry 2 at 33 begins inside entry 0 (26 to 34)",
         ),
         (
             "sheet unpack works.sheet --entry 3",
