@@ -68,12 +68,12 @@ pub fn short(x: u32) -> i16
 }
 
 // The low 8 bits.
-pub fn byte(x: u32) -> u8 {
+pub(crate) fn byte(x: u32) -> u8 {
     (x % 256) as u8
 }
 
 // The usize whose two's complement x is, of 64 bits where x is of 32.
-pub fn widened(x: u32) -> usize {
+pub(crate) fn widened(x: u32) -> usize {
     if x < 2147483648 {
         return x as usize;
     }
