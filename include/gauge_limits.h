@@ -30,6 +30,8 @@
 #define GAUGE_LEAST_STEP 0.015625f
 // Step of a resampler in the line, at most.
 #define GAUGE_MOST_STEP 64.0f
+// Entries of a tap sheet.
+#define GAUGE_MOST_ENTRIES 32
 // Places of a halving stage's delay.
 #define GAUGE_HBF_DEC_DELAY 96
 // Places of a doubling stage's delay.

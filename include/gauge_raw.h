@@ -177,6 +177,11 @@ uint64_t gauge_raw_polyphase_resamp_push(
     float prototype[GAUGE_MOST_PROTOTYPE], float x, float *out, uint64_t out_len, uint64_t *written
 );
 
+uint64_t gauge_raw_sheet_count(const uint8_t *bytes, uint64_t bytes_len, uint64_t *count);
+uint64_t gauge_raw_sheet_entry(
+    const uint8_t *bytes, uint64_t bytes_len, uint64_t count, uint64_t k, uint64_t *offset, uint64_t *size
+);
+
 #ifdef __cplusplus
 }
 #endif

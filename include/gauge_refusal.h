@@ -44,7 +44,26 @@ enum GaugeRefusal {
     GAUGE_REFUSED_STEP = 14,
     // Settings in a state that its opening refuses, or a counter out of range: the state was not opened, was refused at
     // its opening, or was damaged.
-    GAUGE_REFUSED_STATE = 15
+    GAUGE_REFUSED_STATE = 15,
+    // Tap sheet: over GAUGE_MOST_ENTRIES entries, an end inside the directory, or a reader's count that is not its
+    // sheet's.
+    GAUGE_REFUSED_DIRECTORY = 16,
+    // Tap sheet: a pair unsorted, overlapping or outside the data; written: lengths that do not add up to the bytes, a
+    // sheet over 2^32 - 1 bytes, or a span too short for it.
+    GAUGE_REFUSED_ENTRIES = 17,
+    // Tap sheet: entry number not below the count.
+    GAUGE_REFUSED_ENTRY_NUMBER = 18,
+    // Linear-phase taps not 1 to 23.
+    GAUGE_REFUSED_PHASE_TAPS = 19,
+    // Linear-phase filter: source and span of a block not of one length.
+    GAUGE_REFUSED_LENGTHS = 20,
+    // Parked line: another count of entries than it has, or an entry not as long as its settings make it.
+    GAUGE_REFUSED_PARKED = 21,
+    // Feeding plan: the two lists and the two of results not of one length, over 4,096 calls, or a length over
+    // GAUGE_MOST_BLOCK.
+    GAUGE_REFUSED_PLAN = 22,
+    // Thinning without integrators: factor not a power of two.
+    GAUGE_REFUSED_POWER_OF_TWO = 23
 };
 
 // The name of a number that a call answered; "unknown" for a number that none answers.
@@ -82,6 +101,22 @@ static inline const char *gauge_refusal_name(uint64_t number) {
         return "Step";
     case GAUGE_REFUSED_STATE:
         return "State";
+    case GAUGE_REFUSED_DIRECTORY:
+        return "Directory";
+    case GAUGE_REFUSED_ENTRIES:
+        return "Entries";
+    case GAUGE_REFUSED_ENTRY_NUMBER:
+        return "EntryNumber";
+    case GAUGE_REFUSED_PHASE_TAPS:
+        return "PhaseTaps";
+    case GAUGE_REFUSED_LENGTHS:
+        return "Lengths";
+    case GAUGE_REFUSED_PARKED:
+        return "Parked";
+    case GAUGE_REFUSED_PLAN:
+        return "Plan";
+    case GAUGE_REFUSED_POWER_OF_TWO:
+        return "PowerOfTwo";
     default:
         return "unknown";
     }

@@ -5,5 +5,6 @@ void outputs(void) {
     q15_outputs();
     half_band_outputs();
     resampler_outputs();
+    sheet_outputs();
     line_outputs();
 }

@@ -29,3 +29,4 @@ echo "replay, seed 2: $said"
 for seed in "$@"; do
     "$oracle" compare --seed "$seed" "${compared[@]}"
 done
+"$oracle" compare --seed "$1" --cases 1000000 --only tap_sheet

@@ -10,6 +10,7 @@ ghost use Rattle.float.specs.F32.{zero32};
 ghost use Rattle.half_band.specs.HbfDec.{toldDecOut, decNone};
 ghost use Rattle.half_band.specs.HbfInt.{toldIntOut, intNone};
 ghost use Rattle.half_band.specs.ResponseLength.{toldLength};
+ghost use Rattle.sheet.specs.Sheet.{sheetCountAnswer, sizeAnswer};
 ghost use Rattle.line.specs.Line as L;
 ghost use Rattle.gauge_line.specs.Crossing.{optional, streamNumber, streamValue, moves};
 use half_band::HbfDecOut;
@@ -25,6 +26,8 @@ use refusal::Count;
 use refusal::Counts;
 use refusal::Opening;
 use refusal::Refusal;
+use sheet::EntrySize;
+use sheet::SheetCount;
 
 fn refusal_number(q: Refusal) -> usize
     ensures { λ n. ⌜ n ≡ numberOf q ⌝ }
@@ -326,5 +329,43 @@ pub(crate) fn step_value(s: LineStep) -> f32
         LineStep::TookAndWrote(y) => y,
         LineStep::Stopped => 0.0,
         LineStep::Refused(_) => 0.0,
+    }
+}
+
+// A sheet's count.
+pub(crate) fn entries_number(c: SheetCount) -> usize
+    ensures { λ n. ⌜ n ≡ sheetCountAnswer c .number ⌝ }
+{
+    match c {
+        SheetCount::Entries(_) => 0,
+        SheetCount::Refused(q) => refusal_number(q),
+    }
+}
+
+pub(crate) fn entries_value(c: SheetCount) -> usize
+    ensures { λ n. ⌜ n ≡ sheetCountAnswer c .value ⌝ }
+{
+    match c {
+        SheetCount::Entries(n) => n,
+        SheetCount::Refused(_) => 0,
+    }
+}
+
+// An entry's length.
+pub(crate) fn size_number(c: EntrySize) -> usize
+    ensures { λ n. ⌜ n ≡ sizeAnswer c .number ⌝ }
+{
+    match c {
+        EntrySize::Bytes(_) => 0,
+        EntrySize::Refused(q) => refusal_number(q),
+    }
+}
+
+pub(crate) fn size_value(c: EntrySize) -> usize
+    ensures { λ n. ⌜ n ≡ sizeAnswer c .value ⌝ }
+{
+    match c {
+        EntrySize::Bytes(n) => n,
+        EntrySize::Refused(_) => 0,
     }
 }

@@ -6,12 +6,14 @@ ghost use lib.ListN as ListN;
 ghost use Rattle.records.specs.Comparison.{wordAt};
 use crate::words::LOST;
 use crate::words::bits;
+use crate::words::byte;
 use crate::words::float;
 use crate::words::number;
 use crate::words::rest;
 use crate::words::same;
 use crate::words::short;
 use crate::words::signed;
+use crate::words::widened;
 use crate::words::word;
 
 // The most elements of a slice: 01's limit of 65,536, and some more to exceed it.
@@ -34,6 +36,12 @@ pub fn no_floats() -> [f32; LONGEST]
     ensures { λ a. ⌜ 65600 ≡ ListN.length a ⌝ }
 {
     [0.0; LONGEST]
+}
+
+pub fn no_bytes() -> [u8; LONGEST]
+    ensures { λ a. ⌜ 65600 ≡ ListN.length a ⌝ }
+{
+    [0; LONGEST]
 }
 
 pub fn length(lent: &[u32]) -> usize
@@ -69,6 +77,24 @@ pub fn front_shorts(places: &mut [i16], length: usize) -> &mut [i16]
 }
 
 pub fn front_floats(places: &mut [f32], length: usize) -> &mut [f32]
+    ensures { λ r. ⌜ ListN.length (now r) ≡ min length (ListN.length (now (places .entry))) ⌝ }
+{
+    if length <= places.len() {
+        return &mut places[0..length];
+    }
+    places
+}
+
+pub fn front_bytes(places: &mut [u8], length: usize) -> &mut [u8]
+    ensures { λ r. ⌜ ListN.length (now r) ≡ min length (ListN.length (now (places .entry))) ⌝ }
+{
+    if length <= places.len() {
+        return &mut places[0..length];
+    }
+    places
+}
+
+pub fn front_lengths(places: &mut [usize], length: usize) -> &mut [usize]
     ensures { λ r. ⌜ ListN.length (now r) ≡ min length (ListN.length (now (places .entry))) ⌝ }
 {
     if length <= places.len() {
@@ -121,6 +147,32 @@ pub fn lend_floats(lent: &[u32], places: &mut [f32])
     let mut i = 0;
     while i < places.len() {
         places[i] = float(element(lent, i, pattern));
+        pattern = std::num::wrapping_add_u32(pattern, stride);
+        i += 1;
+    }
+}
+
+pub fn lend_bytes(lent: &[u32], places: &mut [u8])
+    ensures { λ _. ⌜ ListN.length (now (places .exit)) ≡ ListN.length (now (places .entry)) ⌝ }
+{
+    let stride = word(lent, 2);
+    let mut pattern = word(lent, 1);
+    let mut i = 0;
+    while i < places.len() {
+        places[i] = byte(element(lent, i, pattern));
+        pattern = std::num::wrapping_add_u32(pattern, stride);
+        i += 1;
+    }
+}
+
+pub fn lend_lengths(lent: &[u32], places: &mut [usize])
+    ensures { λ _. ⌜ ListN.length (now (places .exit)) ≡ ListN.length (now (places .entry)) ⌝ }
+{
+    let stride = word(lent, 2);
+    let mut pattern = word(lent, 1);
+    let mut i = 0;
+    while i < places.len() {
+        places[i] = widened(element(lent, i, pattern));
         pattern = std::num::wrapping_add_u32(pattern, stride);
         i += 1;
     }
@@ -190,6 +242,25 @@ pub fn same_floats(w: &[u32], at: usize, lent: &[u32], places: &[f32]) -> usize 
         let x = bits(places[i]);
         let as_listed = x == word(w, next);
         let as_lent = x == bits(float(element(lent, i, pattern)));
+        next = same_place(w, next, i < listed, as_listed, as_lent);
+        pattern = std::num::wrapping_add_u32(pattern, stride);
+        i += 1;
+    }
+    next
+}
+
+pub fn same_bytes(w: &[u32], at: usize, lent: &[u32], places: &[u8]) -> usize {
+    let listed = word(w, at) as usize;
+    if places.len() < listed {
+        return LOST;
+    }
+    let stride = word(lent, 2);
+    let mut pattern = word(lent, 1);
+    let mut next = same(w, at, word(w, at));
+    let mut i = 0;
+    while i < places.len() {
+        let as_listed = places[i] == byte(word(w, next));
+        let as_lent = places[i] == byte(element(lent, i, pattern));
         next = same_place(w, next, i < listed, as_listed, as_lent);
         pattern = std::num::wrapping_add_u32(pattern, stride);
         i += 1;

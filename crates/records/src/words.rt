@@ -67,6 +67,19 @@ pub fn short(x: u32) -> i16
     !((65535 - low) as i16)
 }
 
+// The low 8 bits.
+pub(crate) fn byte(x: u32) -> u8 {
+    (x % 256) as u8
+}
+
+// The usize whose two's complement x is, of 64 bits where x is of 32.
+pub(crate) fn widened(x: u32) -> usize {
+    if x < 2147483648 {
+        return x as usize;
+    }
+    18446744069414584320 + (x as usize)
+}
+
 // The f32 whose bits x is; a NaN's bits all give one NaN.
 pub fn float(x: u32) -> f32
     ensures { λ r. ⌜ r ≡ floatOf x ⌝ }

@@ -3,14 +3,14 @@ use mathlib.Core.Path.{_≡_, refl, sym, ap, _∙_}
 use Prim.Native.Nat.{ℕ, _<_}
 use lib.Dec.{lit<}
 use Rattle.refusal.specs.declared.Refusal.{Refusal}
-use Rattle.refusal.specs.declared.Refusal.the-variants.{Stages, Factor, GainBits, Span, FirFactor, Taps, Samples, TapsMultiple, Ratio, HalfBandTaps, Depth, Phases, Prototype, Step, State}
+use Rattle.refusal.specs.declared.Refusal.the-variants.{Stages, Factor, GainBits, Span, FirFactor, Taps, Samples, TapsMultiple, Ratio, HalfBandTaps, Depth, Phases, Prototype, Step, State, Directory, Entries, EntryNumber, PhaseTaps, Lengths, Parked, Plan, PowerOfTwo}
 use Rattle.refusal.specs.Table.{numberOf}
 use mathlib.Core.List.{List, [], _∷_}
 use lib.ListN.{getD}
 
 rows : List Refusal
 rows =
-    State ∷ Stages ∷ Factor ∷ GainBits ∷ Span ∷ FirFactor ∷ Taps ∷ Samples ∷ TapsMultiple ∷ Ratio ∷ HalfBandTaps ∷ Depth ∷ Phases ∷ Prototype ∷ Step ∷ []
+    State ∷ Stages ∷ Factor ∷ GainBits ∷ Span ∷ FirFactor ∷ Taps ∷ Samples ∷ TapsMultiple ∷ Ratio ∷ HalfBandTaps ∷ Depth ∷ Phases ∷ Prototype ∷ Step ∷ State ∷ Directory ∷ Entries ∷ EntryNumber ∷ PhaseTaps ∷ Lengths ∷ Parked ∷ Plan ∷ PowerOfTwo ∷ []
 
 rowOf : ℕ → Refusal
 rowOf n = getD rows n State
@@ -32,6 +32,14 @@ row-of Phases = refl
 row-of Prototype = refl
 row-of Step = refl
 row-of State = refl
+row-of Directory = refl
+row-of Entries = refl
+row-of EntryNumber = refl
+row-of PhaseTaps = refl
+row-of Lengths = refl
+row-of Parked = refl
+row-of Plan = refl
+row-of PowerOfTwo = refl
 
 pub number-injective : (p q : Refusal) → numberOf p ≡ numberOf q → p ≡ q
 number-injective p q e = sym (row-of p) ∙ ap rowOf e ∙ row-of q
@@ -53,3 +61,11 @@ number-positive Phases = lit< tt
 number-positive Prototype = lit< tt
 number-positive Step = lit< tt
 number-positive State = lit< tt
+number-positive Directory = lit< tt
+number-positive Entries = lit< tt
+number-positive EntryNumber = lit< tt
+number-positive PhaseTaps = lit< tt
+number-positive Lengths = lit< tt
+number-positive Parked = lit< tt
+number-positive Plan = lit< tt
+number-positive PowerOfTwo = lit< tt

@@ -4,7 +4,7 @@ ghost use Rattle.refusal.specs.Table.{numberOf};
 
 pub mod rows;
 
-// Why a call is turned back: one case for each number of 01's table.
+// Why a call is turned back: one case for each number of 01's table, and of 02's requests that join it.
 pub enum Refusal {
     Stages,
     Factor,
@@ -21,6 +21,14 @@ pub enum Refusal {
     Prototype,
     Step,
     State,
+    Directory,
+    Entries,
+    EntryNumber,
+    PhaseTaps,
+    Lengths,
+    Parked,
+    Plan,
+    PowerOfTwo,
 }
 
 // What an opening or a reset answers.
@@ -62,6 +70,14 @@ impl Refusal {
             Refusal::Prototype => 13,
             Refusal::Step => 14,
             Refusal::State => 15,
+            Refusal::Directory => 16,
+            Refusal::Entries => 17,
+            Refusal::EntryNumber => 18,
+            Refusal::PhaseTaps => 19,
+            Refusal::Lengths => 20,
+            Refusal::Parked => 21,
+            Refusal::Plan => 22,
+            Refusal::PowerOfTwo => 23,
         }
     }
 }

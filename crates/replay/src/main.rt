@@ -26,6 +26,7 @@ fn agrees(operation: u32, w: &[u32]) -> bool {
         0x30..=0x4f => replay_q15::agrees(operation, w),
         0x50..=0xbf => replay_float::agrees(operation, w),
         0xc0..=0xcf => replay_line::agrees(operation, w),
+        0xd0..=0xdf => replay_sheet::agrees(operation, w),
         _ => false,
     }
 }

@@ -1,9 +1,11 @@
 // The operations of HbfDec. `w` is the words behind an operation's code: its inputs, then the answers. Slices that it lends are read before.
 use crate::answers::same_written;
+use half_band::DEC_DELAYS;
 use half_band::HbfDec;
 use half_band::HbfDecOpening;
 use half_band::HbfDecOut;
 use half_band::HbfDecStep;
+use half_band::MOST_HALF_BAND_TAPS;
 use records::answers::same_opening;
 use records::answers::same_refusal;
 use records::slices::behind;
@@ -22,8 +24,8 @@ use records::words::word;
 const TAPS: usize = 2;
 
 fn state_of(w: &[u32]) -> HbfDec {
-    let mut coeffs = [0.0f32; 23];
-    let mut delay = [0.0f32; 96];
+    let mut coeffs = [0.0f32; MOST_HALF_BAND_TAPS];
+    let mut delay = [0.0f32; DEC_DELAYS];
     let lent = rest(w, TAPS);
     lend_floats(lent, &mut coeffs);
     lend_floats(behind(lent), &mut delay);

@@ -1,5 +1,6 @@
 // The operations of HbfDecCascade. `w` is the words behind an operation's code: its inputs, then the answers. Slices that it lends are read before.
 use crate::answers::same_written;
+use half_band::DEC_CASCADE_DELAYS;
 use half_band::HbfDecCascade;
 use half_band::HbfDecCascadeOpening;
 use records::answers::same_opening;
@@ -15,7 +16,7 @@ use records::words::same_long;
 const DELAYS: usize = 2;
 
 fn state_of(w: &[u32]) -> HbfDecCascade {
-    let mut delays = [0.0f32; 480];
+    let mut delays = [0.0f32; DEC_CASCADE_DELAYS];
     lend_floats(rest(w, DELAYS), &mut delays);
     HbfDecCascade {
         depth: long(w, 0),

@@ -4,6 +4,8 @@ use half_band::HbfInt;
 use half_band::HbfIntOpening;
 use half_band::HbfIntOut;
 use half_band::HbfIntStep;
+use half_band::INT_DELAYS;
+use half_band::MOST_HALF_BAND_TAPS;
 use records::answers::same_opening;
 use records::answers::same_refusal;
 use records::slices::behind;
@@ -22,8 +24,8 @@ use records::words::word;
 const TAPS: usize = 2;
 
 fn state_of(w: &[u32]) -> HbfInt {
-    let mut coeffs = [0.0f32; 23];
-    let mut delay = [0.0f32; 48];
+    let mut coeffs = [0.0f32; MOST_HALF_BAND_TAPS];
+    let mut delay = [0.0f32; INT_DELAYS];
     let lent = rest(w, TAPS);
     lend_floats(lent, &mut coeffs);
     lend_floats(behind(lent), &mut delay);

@@ -2,6 +2,7 @@
 use crate::answers::same_written;
 use half_band::HbfIntCascade;
 use half_band::HbfIntCascadeOpening;
+use half_band::INT_CASCADE_DELAYS;
 use records::answers::same_opening;
 use records::slices::behind;
 use records::slices::lend_floats;
@@ -15,7 +16,7 @@ use records::words::same_long;
 const DELAYS: usize = 2;
 
 fn state_of(w: &[u32]) -> HbfIntCascade {
-    let mut delays = [0.0f32; 240];
+    let mut delays = [0.0f32; INT_CASCADE_DELAYS];
     lend_floats(rest(w, DELAYS), &mut delays);
     HbfIntCascade {
         depth: long(w, 0),

@@ -1,8 +1,10 @@
 // The operations of HbfStream. Each takes the words behind its code: its inputs, then the answers.
+use half_band::DEC_CASCADE_DELAYS;
 use half_band::HbfStream;
 use half_band::HbfStreamOpening;
 use half_band::HbfStreamOut;
 use half_band::HbfStreamStep;
+use half_band::MOST_STAGES;
 use records::answers::same_opening;
 use records::answers::same_refusal;
 use records::slices::behind;
@@ -21,8 +23,8 @@ use records::words::word;
 const DELAYS: usize = 12;
 
 fn state_of(w: &[u32]) -> HbfStream {
-    let mut delays = [0.0f32; 480];
-    let mut held = [0.0f32; 5];
+    let mut delays = [0.0f32; DEC_CASCADE_DELAYS];
+    let mut held = [0.0f32; MOST_STAGES];
     let counts = [long(w, 2), long(w, 4), long(w, 6), long(w, 8), long(w, 10)];
     let lent = rest(w, DELAYS);
     lend_floats(lent, &mut delays);
@@ -40,7 +42,7 @@ fn behind_state(w: &[u32]) -> &[u32] {
     behind(behind(rest(w, DELAYS)))
 }
 
-fn same_counts(w: &[u32], at: usize, counts: [usize; 5]) -> usize {
+fn same_counts(w: &[u32], at: usize, counts: [usize; MOST_STAGES]) -> usize {
     let mut next = same_long(w, at, counts[0]);
     next = same_long(w, next, counts[1]);
     next = same_long(w, next, counts[2]);

@@ -2,6 +2,8 @@
 use crate::answers::same_written;
 use float::PolyphaseOpening;
 use float::PolyphaseResampF32;
+use float::polyphase_resamp::MOST_CELLS;
+use float::polyphase_resamp::MOST_TAPS as MOST_PHASE_TAPS;
 use records::answers::same_opening;
 use records::answers::same_refusal;
 use records::slices::behind;
@@ -21,8 +23,8 @@ use refusal::Count;
 const DELAY: usize = 6;
 
 fn state_of(w: &[u32]) -> PolyphaseResampF32 {
-    let mut delay = [0.0f32; 16];
-    let mut prototype = [0.0f32; 1024];
+    let mut delay = [0.0f32; MOST_PHASE_TAPS];
+    let mut prototype = [0.0f32; MOST_CELLS];
     let lent = rest(w, DELAY);
     lend_floats(lent, &mut delay);
     lend_floats(behind(lent), &mut prototype);

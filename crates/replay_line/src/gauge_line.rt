@@ -1,4 +1,5 @@
 // The operations of the gauge line. Each takes the words behind its code: its inputs, then the answers.
+use half_band::MOST_STAGES;
 use line::Line;
 use line::LineFed;
 use line::LineOpened;
@@ -180,7 +181,7 @@ fn same_cic_and_fir(w: &[u32], line: Line) -> usize {
     same_long(w, factor, fir.wait)
 }
 
-fn same_held(w: &[u32], at: usize, counts: [usize; 5]) -> usize {
+fn same_held(w: &[u32], at: usize, counts: [usize; MOST_STAGES]) -> usize {
     let mut next = same_long(w, at, counts[0]);
     next = same_long(w, next, counts[1]);
     next = same_long(w, next, counts[2]);

@@ -3,6 +3,7 @@ use q15::FirDecimator;
 use q15::FirOpening;
 use q15::FirOutput;
 use q15::FirStep;
+use q15::MOST_TAPS;
 use q15::Q15;
 use records::answers::same_opening;
 use records::answers::same_refusal;
@@ -25,8 +26,8 @@ use records::words::word;
 const TAPS: usize = 6;
 
 fn state_of(w: &[u32]) -> FirDecimator {
-    let mut taps = [0i16; 64];
-    let mut delay = [0i16; 64];
+    let mut taps = [0i16; MOST_TAPS];
+    let mut delay = [0i16; MOST_TAPS];
     let lent = rest(w, TAPS);
     lend_shorts(lent, &mut taps);
     lend_shorts(behind(lent), &mut delay);

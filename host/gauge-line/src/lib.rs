@@ -27,6 +27,7 @@ mod q15_blocks;
 mod raw;
 mod refusal;
 mod resample_linear;
+mod sheet;
 mod values;
 
 pub use cic_decimator::CicDecimator;
@@ -44,6 +45,7 @@ pub use polyphase_resamp::PolyphaseResampF32;
 pub use q15_blocks::{polyphase_decimate_q15, polyphase_interpolate_q15};
 pub use refusal::Refusal;
 pub use resample_linear::{resample_linear_f32, resample_linear_q15};
+pub use sheet::Sheet;
 pub use values::{
     cut_q15, hbf_dec_response_length, hbf_int_response_length, hbf_tap_table, q15_to_f32,
 };

@@ -28,6 +28,8 @@ pub const MOST_PROTOTYPE: usize = 1024;
 pub const LEAST_STEP: f32 = 0.015625;
 /// Step of a resampler in the line, at most.
 pub const MOST_STEP: f32 = 64.0;
+/// Entries of a tap sheet.
+pub const MOST_ENTRIES: usize = 32;
 /// Places of a halving stage's delay.
 pub const HBF_DEC_DELAY: usize = 96;
 /// Places of a doubling stage's delay.

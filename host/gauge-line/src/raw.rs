@@ -438,6 +438,24 @@ unsafe extern "C" {
         ratio: f32,
         written: &mut u64,
     ) -> u64;
+    pub fn gauge_raw_sheet_count(bytes: *const u8, bytes_len: u64, count: &mut u64) -> u64;
+    pub fn gauge_raw_sheet_entry(
+        bytes: *const u8,
+        bytes_len: u64,
+        count: u64,
+        k: u64,
+        offset: &mut u64,
+        size: &mut u64,
+    ) -> u64;
+    pub fn gauge_raw_sheet_write(
+        joined: *const u8,
+        joined_len: u64,
+        lengths: *const u64,
+        lengths_len: u64,
+        span: *mut u8,
+        span_len: u64,
+        written: &mut u64,
+    ) -> u64;
     pub fn gauge_raw_cut_q15(sum: i64, value: &mut i16);
     pub fn gauge_raw_q15_to_f32(bits: i16, value: &mut f32);
     pub fn gauge_raw_hbf_dec_response_length(depth: u64, length: &mut u64) -> u64;

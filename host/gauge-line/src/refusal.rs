@@ -46,10 +46,26 @@ pub enum Refusal {
     Step = 14,
     /// Settings in a state that its opening refuses, or a counter out of range: the state was not opened, was refused at its opening, or was damaged.
     State = 15,
+    /// Tap sheet: over 32 entries, an end inside the directory, or a reader's count that is not its sheet's.
+    Directory = 16,
+    /// Tap sheet: a pair unsorted, overlapping or outside the data; written: lengths that do not add up to the bytes, a sheet over 2^32 - 1 bytes, or a span too short for it.
+    Entries = 17,
+    /// Tap sheet: entry number not below the count.
+    EntryNumber = 18,
+    /// Linear-phase taps not 1 to 23.
+    PhaseTaps = 19,
+    /// Linear-phase filter: source and span of a block not of one length.
+    Lengths = 20,
+    /// Parked line: another count of entries than it has, or an entry not as long as its settings make it.
+    Parked = 21,
+    /// Feeding plan: the two lists and the two of results not of one length, over 4,096 calls, or a length over 65,536.
+    Plan = 22,
+    /// Thinning without integrators: factor not a power of two.
+    PowerOfTwo = 23,
 }
 
 // In the order of the numbers: the refusal, its name, when it applies.
-const TABLE: [(Refusal, &str, &str); 15] = [
+const TABLE: [(Refusal, &str, &str); 23] = [
     (Refusal::Stages, "Stages", "CIC stages not 1 to 8"),
     (Refusal::Factor, "Factor", "CIC factor not 1 to 4,096"),
     (Refusal::GainBits, "GainBits", "gain bits over 31"),
@@ -92,6 +108,46 @@ const TABLE: [(Refusal, &str, &str); 15] = [
         Refusal::State,
         "State",
         "settings that the opening refuses, or a counter out of range",
+    ),
+    (
+        Refusal::Directory,
+        "Directory",
+        "sheet with too many entries, or cut off inside its directory",
+    ),
+    (
+        Refusal::Entries,
+        "Entries",
+        "entries unsorted, overlapping or outside the sheet's data",
+    ),
+    (
+        Refusal::EntryNumber,
+        "EntryNumber",
+        "entry number not below the count",
+    ),
+    (
+        Refusal::PhaseTaps,
+        "PhaseTaps",
+        "linear-phase taps not 1 to 23",
+    ),
+    (
+        Refusal::Lengths,
+        "Lengths",
+        "source and span not of one length",
+    ),
+    (
+        Refusal::Parked,
+        "Parked",
+        "another count of entries than a parked line has, or an entry of another length",
+    ),
+    (
+        Refusal::Plan,
+        "Plan",
+        "lists of a plan not of one length, or past a limit",
+    ),
+    (
+        Refusal::PowerOfTwo,
+        "PowerOfTwo",
+        "factor not a power of two",
     ),
 ];
 // printed until here

@@ -5,12 +5,13 @@ use crate::fault::{Fault, front};
 use crate::nearest::did_you_mean;
 use crate::plot::plot;
 use crate::run::run;
+use crate::sheet_command::sheet;
 use crate::target::Target;
 use std::ffi::OsString;
 
 const HELP: &str = include_str!("help.txt");
 const VERSION: &str = concat!("gauge ", env!("CARGO_PKG_VERSION"), "\n");
-const COMMANDS: [&str; 5] = ["run", "explain", "plot", "help", "version"];
+const COMMANDS: [&str; 6] = ["run", "explain", "plot", "sheet", "help", "version"];
 
 /// Does what the arguments ask for.
 pub fn perform(arguments: &[OsString]) -> Result<(), Fault> {
@@ -29,6 +30,7 @@ pub fn perform(arguments: &[OsString]) -> Result<(), Fault> {
         "run" => run(rest),
         "explain" => explain(rest),
         "plot" => plot(rest),
+        "sheet" => sheet(rest),
         "help" => print(HELP),
         "version" => print(VERSION),
         _ => {

@@ -2,7 +2,7 @@
 
 use crate::fault::{Fault, front};
 use crate::nearest::did_you_mean;
-use crate::text::{content, strange};
+use crate::text::{setting, strange};
 use std::borrow::Cow;
 use std::ffi::OsStr;
 use std::os::unix::ffi::OsStrExt;
@@ -53,7 +53,7 @@ impl Entries {
             lines: lines.len(),
         };
         for (at, line) in lines.into_iter().enumerate() {
-            let line = content(line);
+            let line = setting(line);
             if !line.is_empty() {
                 all.add(line, at + 1)?;
             }

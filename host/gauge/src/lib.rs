@@ -29,6 +29,8 @@ mod run;
 mod same_file;
 mod samples;
 mod section;
+mod sheet;
+mod sheet_command;
 pub mod svg;
 mod tally;
 pub mod target;

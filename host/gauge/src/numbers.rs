@@ -2,14 +2,25 @@
 
 use crate::entries::Entries;
 use crate::fault::{Fault, front};
+use crate::sheet::SheetFile;
 use crate::text::{content, read_small, strange};
+use std::fmt::Display;
 use std::path::{Path, PathBuf};
 use std::str::FromStr;
 
 /// A number that may stand in a list.
-pub trait Number: FromStr {
+pub trait Number: FromStr + Display {
     /// What such a number is, for a fault.
     const KIND: &'static str;
+
+    /// How many bytes it takes in a tap sheet.
+    const BYTES: usize;
+
+    /// The number that so many bytes are, little-endian.
+    fn of(bytes: &[u8]) -> Self;
+
+    /// Its bytes in a tap sheet.
+    fn bytes(&self) -> Vec<u8>;
 
     /// Whether the line can calculate with it.
     fn is_usable(&self) -> bool;
@@ -17,6 +28,15 @@ pub trait Number: FromStr {
 
 impl Number for i16 {
     const KIND: &'static str = "a whole number of -32768 to 32767";
+    const BYTES: usize = 2;
+
+    fn of(bytes: &[u8]) -> i16 {
+        i16::from_le_bytes([bytes[0], bytes[1]])
+    }
+
+    fn bytes(&self) -> Vec<u8> {
+        self.to_le_bytes().to_vec()
+    }
 
     fn is_usable(&self) -> bool {
         true
@@ -25,6 +45,15 @@ impl Number for i16 {
 
 impl Number for f32 {
     const KIND: &'static str = "a finite number";
+    const BYTES: usize = 4;
+
+    fn of(bytes: &[u8]) -> f32 {
+        f32::from_le_bytes([bytes[0], bytes[1], bytes[2], bytes[3]])
+    }
+
+    fn bytes(&self) -> Vec<u8> {
+        self.to_le_bytes().to_vec()
+    }
 
     fn is_usable(&self) -> bool {
         self.is_finite()
@@ -58,17 +87,66 @@ pub fn listed<T: Number>(entries: &Entries, name: &str, value: &[u8]) -> Result<
             format!("neither numbers nor the name of a file{has}; a file of that name is ./");
         return Err(fault(what + &front(&text)));
     }
-    let file = entries.beside(value);
-    let bytes = read_small(&file).map_err(|why| fault(why.to_string()))?;
-    let numbers = lines(&file, &bytes)?;
-    if numbers.is_empty() {
-        let what = format!("no numbers; a line without {name} does not name it");
-        return Err(Fault::file(&file, what));
-    }
+    let (file, entry) = entry_of(value);
+    let file = entries.beside(file);
+    let numbers = match entry {
+        Some(k) => in_sheet(&file, k)?,
+        None => {
+            let text = read_small(&file).map_err(|why| fault(why.to_string()))?;
+            in_text(&file, &text, &format!("a line without {name}"))?
+        }
+    };
     Ok(List {
         numbers,
         file: Some(file),
     })
+}
+
+// The file and the entry that `works.sheet#3` names; no entry where that is all of a file's name.
+fn entry_of(value: &[u8]) -> (&[u8], Option<usize>) {
+    let Some(at) = value.iter().rposition(|byte| *byte == b'#') else {
+        return (value, None);
+    };
+    let number = std::str::from_utf8(&value[at + 1..]);
+    match number.ok().and_then(|digits| digits.parse().ok()) {
+        Some(k) => (&value[..at], Some(k)),
+        None => (value, None),
+    }
+}
+
+/// The numbers of a text. There must be some: what can do without them does not name the file.
+pub fn in_text<T: Number>(file: &Path, text: &[u8], without: &str) -> Result<Vec<T>, Fault> {
+    let numbers = lines(file, text)?;
+    if numbers.is_empty() {
+        let what = format!("no numbers; {without} does not name it");
+        return Err(Fault::file(file, what));
+    }
+    Ok(numbers)
+}
+
+/// The numbers of an entry of a tap sheet.
+pub fn in_sheet<T: Number>(file: &Path, k: usize) -> Result<Vec<T>, Fault> {
+    let sheet = SheetFile::read(file)?;
+    let bytes = sheet.entry(k)?;
+    let fault = |what: String| Fault::file(file, format_args!("entry {k}: {what}"));
+    if bytes.is_empty() {
+        return Err(fault("it is empty".to_string()));
+    }
+    if bytes.len() % T::BYTES != 0 {
+        let (n, each) = (bytes.len(), T::BYTES);
+        return Err(fault(format!(
+            "{n} bytes are no numbers of {each} bytes each"
+        )));
+    }
+    let numbers: Vec<T> = bytes.chunks_exact(T::BYTES).map(T::of).collect();
+    match numbers.iter().position(|number| !number.is_usable()) {
+        Some(at) => Err(fault(format!(
+            "number {at}, {}, is not {}",
+            numbers[at],
+            T::KIND
+        ))),
+        None => Ok(numbers),
+    }
 }
 
 fn is_inline(value: &[u8]) -> bool {

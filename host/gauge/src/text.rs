@@ -4,8 +4,8 @@ use std::fs::File;
 use std::io::{self, Read};
 use std::path::Path;
 
-/// The bytes of a file that is small by nature: settings, taps, a prototype.
-pub fn read_small(path: &Path) -> io::Result<Vec<u8>> {
+/// The bytes of a file that is small by nature: a tap sheet, and what text is made of.
+pub fn read_bytes(path: &Path) -> io::Result<Vec<u8>> {
     const MOST: usize = 1 << 20;
     let mut bytes = Vec::new();
     File::open(path)?
@@ -14,6 +14,12 @@ pub fn read_small(path: &Path) -> io::Result<Vec<u8>> {
     if bytes.len() > MOST {
         return Err(io::Error::other(format!("over {MOST} bytes")));
     }
+    Ok(bytes)
+}
+
+/// The text of a file that is small by nature: settings, taps, a prototype.
+pub fn read_small(path: &Path) -> io::Result<Vec<u8>> {
+    let bytes = read_bytes(path)?;
     let text = without_mark(&bytes).map_err(io::Error::other)?;
     Ok(text.to_vec())
 }
@@ -29,6 +35,18 @@ pub fn without_mark(bytes: &[u8]) -> Result<&[u8], &'static str> {
 /// A line without its comment and the blanks around it.
 pub fn content(line: &[u8]) -> &[u8] {
     let end = line.iter().position(|byte| *byte == b'#');
+    line[..end.unwrap_or(line.len())].trim_ascii()
+}
+
+/// The same of a setting, where `works.sheet#3` names an entry: a `#` between what is no blank and a digit begins no comment.
+pub fn setting(line: &[u8]) -> &[u8] {
+    let names_entry = |at: usize| {
+        let before = at.checked_sub(1).and_then(|at| line.get(at));
+        let behind = line.get(at + 1);
+        before.is_some_and(|byte| !byte.is_ascii_whitespace())
+            && behind.is_some_and(u8::is_ascii_digit)
+    };
+    let end = (0..line.len()).find(|&at| line[at] == b'#' && !names_entry(at));
     line[..end.unwrap_or(line.len())].trim_ascii()
 }
 

@@ -174,6 +174,12 @@ fn head(lines: &[&str]) -> String {
     lines[..=end.unwrap_or(lines.len() - 1)].join("\n")
 }
 
+/// The type in what follows `impl`: ` Line {`, or `<'a> TapSheet<'a> {`.
+fn type_named(behind: &str) -> Option<&str> {
+    let (_, name) = behind.split_once(' ')?;
+    name.split(['<', ' ']).next()
+}
+
 fn functions_of(file: &Path) -> Result<Vec<Function>, String> {
     let text = read(file)?;
     let lines: Vec<&str> = text.lines().collect();
@@ -183,8 +189,8 @@ fn functions_of(file: &Path) -> Result<Vec<Function>, String> {
     let mut method_of = String::new();
     let mut found = Vec::new();
     for (at, line) in lines.iter().enumerate() {
-        if let Some(name) = line.strip_prefix("impl ") {
-            method_of = name.trim_end_matches(" {").to_string();
+        if let Some(name) = line.strip_prefix("impl").and_then(type_named) {
+            method_of = name.to_string();
         }
         if *line == "}" {
             method_of.clear();

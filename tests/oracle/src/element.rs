@@ -43,6 +43,7 @@ integer!(i64, Shape::Plain, |x| [x as u32, (x >> 32) as u32]);
 integer!(u32, Shape::Plain, |x| [x]);
 integer!(i32, Shape::Plain, |x| [x as u32]);
 integer!(i16, Shape::Array, |x| [x as u16 as u32]);
+integer!(u8, Shape::Array, |x| [u32::from(x)]);
 
 impl Element for f32 {
     const ARRAY: Shape = Shape::Array;

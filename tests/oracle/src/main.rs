@@ -49,6 +49,7 @@ mod shrink;
 mod simpler;
 mod sizes;
 mod stream;
+mod tap_sheet;
 mod values;
 
 use cascade::Cascade;
@@ -87,7 +88,7 @@ impl Converter {
     }
 }
 
-const CONVERTERS: [Converter; 14] = [
+const CONVERTERS: [Converter; 15] = [
     listed("cic_decimator", cic_decimator::cases)
         .fixed(cic_decimator::every_gain)
         .long(cic_decimator::long),
@@ -119,6 +120,7 @@ const CONVERTERS: [Converter; 14] = [
         .fixed(line_cases::fir_factors)
         .more(line_cases::more)
         .long(line_cases::long),
+    listed("tap_sheet", tap_sheet::cases),
 ];
 
 /// Writes what a comparison found, and answers whether that is no difference.

@@ -9,5 +9,6 @@ mod pieces;
 mod random;
 mod range;
 mod scratch;
+mod sheets;
 mod summary;
 mod targets;

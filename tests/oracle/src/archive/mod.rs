@@ -5,6 +5,7 @@ pub mod float;
 pub mod integer;
 pub mod line;
 pub mod q15;
+pub mod sheet;
 
 use crate::element::Element;
 use crate::linear;
