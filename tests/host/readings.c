@@ -4,6 +4,7 @@
 #include "gauge_line.h"
 #include "gauge_q15.h"
 #include "gauge_resampler.h"
+#include "gauge_sheet.h"
 #include <stdio.h>
 #include <string.h>
 
@@ -218,6 +219,28 @@ static void line_readings(void) {
     CHECK(taken == 0 && written == 0 && line.r == 0);
 }
 
+static void tap_sheets(void) {
+    const uint8_t joined[3] = {7, 8, 9};
+    const uint64_t lengths[3] = {2, 0, 1};
+    uint8_t span[32];
+    uint64_t written, offset, size;
+    GaugeSheet sheet;
+    memset(span, 0xa5, sizeof span);
+    CHECK(gauge_raw_sheet_write(joined, 3, lengths, 3, span, 28, &written) == GAUGE_REFUSED_ENTRIES);
+    CHECK(written == 0 && span[0] == 0xa5);
+    CHECK(gauge_raw_sheet_write(joined, 3, lengths, 3, span, 32, &written) == GAUGE_NOT_REFUSED);
+    CHECK(written == 29 && span[29] == 0xa5);
+    CHECK(GaugeSheet_read(&sheet, span, written) == GAUGE_NOT_REFUSED && sheet.count == 3);
+    CHECK(GaugeSheet_entry(&sheet, 2, &offset, &size) == GAUGE_NOT_REFUSED);
+    CHECK(offset == 28 && size == 1 && sheet.bytes[offset] == 9);
+    CHECK(GaugeSheet_entry(&sheet, 3, &offset, &size) == GAUGE_REFUSED_ENTRY_NUMBER && offset == 0 && size == 0);
+    sheet.count = 2;
+    CHECK(GaugeSheet_entry(&sheet, 0, &offset, &size) == GAUGE_REFUSED_DIRECTORY && size == 0);
+    span[2] = 25;
+    CHECK(GaugeSheet_read(&sheet, span, written) == GAUGE_REFUSED_ENTRIES && sheet.count == 0 && sheet.length == 0);
+    CHECK(GaugeSheet_entry(&sheet, 0, &offset, &size) == GAUGE_REFUSED_DIRECTORY && offset == 0);
+}
+
 static void pieces_and_names(void) {
     const int32_t samples[5] = {1, 2, 3, 4, 5};
     GaugePiece last = {samples, 3};
@@ -242,6 +265,7 @@ int main(void) {
     resamplers();
     line_members();
     line_readings();
+    tap_sheets();
     pieces_and_names();
     return failures != 0;
 }
