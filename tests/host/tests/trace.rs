@@ -1,6 +1,6 @@
 //! docs/TRACE.md names what exists: definitions, contracts and their clauses, edits, stored records,
 //! operations of the oracle. Every edit and every code of the stored records is in a row.
-use std::collections::BTreeSet;
+use std::collections::{BTreeMap, BTreeSet};
 use std::fs;
 use std::path::{Path, PathBuf};
 
@@ -483,6 +483,62 @@ fn every_edit_and_every_code_is_in_a_row() {
         missing.is_empty(),
         "codes in no row of docs/TRACE.md: {missing:?}"
     );
+}
+
+/// What keeps an edit from being tried: a file that is not there, an old text that does not stand there once.
+fn unfit(folder: &Path, edit: &str) -> Option<String> {
+    let (mut file, mut old) = ("", "");
+    let mut texts: BTreeMap<&str, String> = BTreeMap::new();
+    for line in edit.lines() {
+        if let Some(name) = line.strip_prefix("file: ") {
+            file = name;
+        } else if let Some(text) = line.strip_prefix("old: ") {
+            old = text;
+        } else if let Some(new) = line.strip_prefix("new:") {
+            let text = match texts.remove(file) {
+                Some(text) => text,
+                None => match read(&folder.join(file)) {
+                    Ok(text) => text,
+                    Err(why) => return Some(why),
+                },
+            };
+            let times = text.matches(old).count();
+            if times != 1 {
+                return Some(format!("{times} times in {file}: {old}"));
+            }
+            let new = new.strip_prefix(' ').unwrap_or(new);
+            texts.insert(file, text.replace(old, new));
+        }
+    }
+    texts.is_empty().then(|| "no old and new".to_string())
+}
+
+#[test]
+fn every_edit_can_be_applied() {
+    let top = top();
+    for name in edits(&top) {
+        let (layer, edit) = name.split_once('/').expect("CRATE/NAME");
+        let folder = top.join("crates").join(layer);
+        let places = ["must-fail", "edits"].map(|place| folder.join(place).join(edit));
+        let file = places.map(|place| place.with_extension("edit"));
+        let text = file.iter().find_map(|file| read(file).ok());
+        let text = text.unwrap_or_else(|| panic!("no file of {name}"));
+        assert_eq!(unfit(&folder, &text), None, "{name}");
+    }
+}
+
+#[test]
+fn an_edit_that_cannot_be_applied_is_found() {
+    let folder = top().join("crates/refusal");
+    let edit = |file: &str, old: &str| format!("file: {file}\nold: {old}\nnew: x\n");
+    for unfit_edit in [
+        edit("src/none.rt", "pub"),
+        edit("src/lib.rt", "nothing says this"),
+        edit("src/lib.rt", "pub"),
+        String::new(),
+    ] {
+        assert!(unfit(&folder, &unfit_edit).is_some(), "{unfit_edit}");
+    }
 }
 
 /// Each edit of must-fail/ proves its crate from nothing: CONTRIBUTING.md keeps them few.
