@@ -37,6 +37,25 @@ uint64_t gauge_raw_hbf_dec_response_length(uint64_t depth, uint64_t *length);
 uint64_t gauge_raw_hbf_int_response_length(uint64_t depth, uint64_t *length);
 // printed until here
 
+// The reach of a decimating cascade in input samples: 1, 11, 39, 111, 415, 1855 for depth 0 to 5. From a fresh cascade
+// output j follows from that many samples ending at sample j * 2^depth; the samples behind it that complete the output
+// don't matter.
+// Refusals: 11.
+// printed: function gauge_raw_hbf_dec_reach
+uint64_t gauge_raw_hbf_dec_reach(uint64_t depth, uint64_t *reach);
+// printed until here
+
+// The same of a 98 dB cascade: 1, 7, 27, 67, 243, 1171 for depth 0 to 5.
+// Refusals: 11.
+// printed: function gauge_raw_hbf_dec_reach_98
+uint64_t gauge_raw_hbf_dec_reach_98(uint64_t depth, uint64_t *reach);
+// printed until here
+
+// The taps of the 98 dB cascade's stages: 15 from 0 on, 6 from 15, 3 from 21, 3 from 24, 2 from 27.
+// printed: function gauge_raw_hbf_tap_table_98
+void gauge_raw_hbf_tap_table_98(float taps[GAUGE_HBF_TABLE_98]);
+// printed until here
+
 // One stage that halves the rate.
 // printed: state hbf_dec
 typedef struct {
@@ -143,6 +162,46 @@ static inline uint64_t GaugeHbfDecCascade_process(
 }
 
 #undef GAUGE_HBF_DEC_CASCADE_FIELDS
+
+// A cascade with the 98 dB taps: the first depth stages of M = 2, 3, 3, 6, 15 taps, in fewer operations. A line has the
+// cascade above. In parts of the output rate:
+//
+//   depth                              1       2       3       4       5
+//   worst alias into 0 to 0.4, dB  -11.2   -13.9   -13.8   -21.3   -98.8
+//   aliases below -98 dB up to     0.036   0.073   0.123   0.246   0.400
+//   level at 0.4, dB                -2.8    -2.4    -2.2    -0.9     0.0
+//
+// printed: state hbf_dec_cascade_98
+typedef struct {
+    uint64_t depth;
+    float delays[GAUGE_HBF_DEC_DELAYS];
+} GaugeHbfDecCascade98;
+
+#define GAUGE_HBF_DEC_CASCADE_98_FIELDS(s) &(s)->depth, (s)->delays
+// printed until here
+
+// Opens a cascade of depth 1 to GAUGE_MOST_DEPTH.
+// Refusals: 11; the state is then all zeros.
+static inline uint64_t GaugeHbfDecCascade98_new(GaugeHbfDecCascade98 *state, uint64_t depth) {
+    return gauge_raw_hbf_dec_cascade_98_new(depth, GAUGE_HBF_DEC_CASCADE_98_FIELDS(state));
+}
+
+// Refusals: 15.
+static inline uint64_t GaugeHbfDecCascade98_reset(GaugeHbfDecCascade98 *state) {
+    return gauge_raw_hbf_dec_cascade_98_reset(GAUGE_HBF_DEC_CASCADE_98_FIELDS(state));
+}
+
+// Takes 2^depth samples of src for each output, as many as dst has places; the rest of src is left unread.
+// Refusals: 15, 7.
+static inline uint64_t GaugeHbfDecCascade98_process(
+    GaugeHbfDecCascade98 *state, const float *src, uint64_t src_len, float *dst, uint64_t dst_len, uint64_t *written
+) {
+    return gauge_raw_hbf_dec_cascade_98_process(
+        GAUGE_HBF_DEC_CASCADE_98_FIELDS(state), src, src_len, dst, dst_len, written
+    );
+}
+
+#undef GAUGE_HBF_DEC_CASCADE_98_FIELDS
 
 // A cascade that multiplies the rate by 2^depth: the first depth stages of M = 23, 10, 5, 4, 3 taps.
 // printed: state hbf_int_cascade

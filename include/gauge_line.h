@@ -21,7 +21,7 @@
 #include "gauge_refusal.h"
 #include <stdint.h>
 
-#define GAUGE_VERSION "0.3.0"
+#define GAUGE_VERSION "0.15.0"
 
 #ifdef __cplusplus
 extern "C" {
@@ -52,17 +52,23 @@ typedef struct {
     uint64_t factor;
     // Half-band stages, 0 (off) to GAUGE_MOST_DEPTH; each halves the rate.
     uint64_t depth;
-    // Phases of the resampler, 0 (off) or GAUGE_LEAST_PHASES to GAUGE_MOST_PHASES. The next two are not looked at when
+    // Phases of the resampler, 0 (off) or GAUGE_LEAST_PHASES to GAUGE_MOST_PHASES. What follows is not looked at when
     // it is off.
     uint64_t phases;
     // Taps of each phase, 1 to GAUGE_MOST_PHASE_TAPS.
     uint64_t phase_taps;
     // Input samples for each output of the resampler, GAUGE_LEAST_STEP to GAUGE_MOST_STEP.
     float step;
+    // How the resampler reads its prototype: 0 in wrapped phase, as the Rust original, any other number in straight
+    // phase. gauge_resampler.h says what each is good for.
+    uint64_t straight;
 } GaugeSettings;
 
-// A line: its CIC decimator, its FIR, its half-band stages and its resampler. A program reads a member if it likes and
-// writes none.
+// A line: its CIC decimator, its FIR, its half-band stages, its resampler, and how many values were cut to 16 bits. A
+// program reads a member if it likes and writes none.
+//
+// This is its layout 2, with room for 128 FIR taps where layout 1 had 64. The functions that open a line end in that
+// number, so an object file that was compiled with another layout's header does not link.
 // printed: state line
 typedef struct {
     uint64_t stages;
@@ -81,16 +87,18 @@ typedef struct {
     uint64_t counts[GAUGE_MOST_DEPTH];
     uint64_t phases;
     uint64_t phase_taps;
+    uint64_t straight;
     float mu;
     float step;
     float delay[GAUGE_MOST_PHASE_TAPS];
     float prototype[GAUGE_MOST_PROTOTYPE];
+    uint32_t cuts;
 } GaugeLine;
 
 #define GAUGE_LINE_FIELDS(s)                                                                                           \
     &(s)->stages, &(s)->r, (s)->integrators, (s)->combs, &(s)->sample_counter, (s)->taps, &(s)->tap_count,             \
         &(s)->factor, (s)->fir_delay, &(s)->wait, &(s)->depth, (s)->delays, (s)->held, (s)->counts, &(s)->phases,      \
-        &(s)->phase_taps, &(s)->mu, &(s)->step, (s)->delay, (s)->prototype
+        &(s)->phase_taps, &(s)->straight, &(s)->mu, &(s)->step, (s)->delay, (s)->prototype, &(s)->cuts
 // printed until here
 
 // Opens a line. `taps` are the FIR's, in Q15 (32768ths), at most GAUGE_MOST_TAPS; none turn the FIR off. `prototype` is
@@ -101,9 +109,28 @@ static inline uint64_t GaugeLine_open(
     GaugeLine *line, const GaugeSettings *settings, const int16_t *taps, uint64_t taps_len, const float *prototype,
     uint64_t prototype_len
 ) {
-    return gauge_raw_line_open(
+    return gauge_raw_line_open_2(
         settings->stages, settings->r, settings->factor, settings->depth, settings->phases, settings->phase_taps,
-        settings->step, taps, taps_len, prototype, prototype_len, GAUGE_LINE_FIELDS(line)
+        settings->straight, settings->step, taps, taps_len, prototype, prototype_len, GAUGE_LINE_FIELDS(line)
+    );
+}
+
+// Tries a feeding plan before a line is opened: what each of `calls` feeds of a freshly opened line would take and
+// write, one after the other. Call i is lent pieces[i] samples and a span of spans[i] places; taken[i] and written[i]
+// get its counts. They are those of GaugeLine_feed for every choice of samples: counts depend on settings and lengths
+// alone. What a call leaves untaken is not carried over: the next is lent exactly its own piece. Nothing is opened, and
+// there may be no calls.
+// Refusals: those of GaugeLine_open, then 22 where `calls` is over GAUGE_MOST_CALLS or a length over
+// GAUGE_MOST_BLOCK. Both lists of counts then stay as they were.
+static inline uint64_t gauge_plan(
+    const GaugeSettings *settings, const int16_t *taps, uint64_t taps_len, const float *prototype,
+    uint64_t prototype_len, const uint64_t *pieces, const uint64_t *spans, uint64_t *taken, uint64_t *written,
+    uint64_t calls
+) {
+    return gauge_raw_plan(
+        settings->stages, settings->r, settings->factor, settings->depth, settings->phases, settings->phase_taps,
+        settings->straight, settings->step, taps, taps_len, prototype, prototype_len, pieces, calls, spans, calls,
+        taken, calls, written, calls
     );
 }
 
@@ -114,7 +141,8 @@ static inline uint64_t GaugeLine_open(
 // that all samples taken so far give when each part is run over them as one list, however they were cut into feeds;
 // where a place of out stayed unwritten, they are all of them and every sample lent was taken; and after a feed that
 // filled out and took a sample, the samples taken so far without the last one give fewer levels than were written: no
-// sample is taken before it is needed.
+// sample is taken before it is needed. GaugeLine_cuts then says how many values those samples make that are cut to 16
+// bits.
 // Refusals: 15.
 static inline uint64_t GaugeLine_feed(
     GaugeLine *line, const int32_t *samples, uint64_t samples_len, float *out, uint64_t out_len, uint64_t *taken,
@@ -140,6 +168,51 @@ static inline uint64_t GaugeLine_reset(GaugeLine *line) {
     return gauge_raw_line_reset(GAUGE_LINE_FIELDS(line));
 }
 
+// How many values were cut to 16 bits since the opening or the last reset: scaled sums and, where the FIR is on, its
+// sums, of all samples taken so far. A sum of -32768 or 32767 is not cut. It holds at 2^32 - 1. Refused calls leave it.
+// The count runs ahead of the levels: filters hold a cut value back, so the level that shows it may come later.
+static inline uint32_t GaugeLine_cuts(const GaugeLine *line) {
+    return line->cuts;
+}
+
+// No line needs more bytes when it is parked: a directory of seven entries, the settings, the CIC decimator, the FIR's
+// taps and its delay, five half-band stages, the prototype and the resampler.
+#define GAUGE_MOST_PARKED                                                                                              \
+    (58 + 24 + (2 + 8 * GAUGE_MOST_STAGES) + 2 * GAUGE_MOST_TAPS + (2 + 2 * GAUGE_MOST_TAPS) + 750 +                   \
+     4 * GAUGE_MOST_PROTOTYPE + (4 + 4 * GAUGE_MOST_PHASE_TAPS))
+
+// The members of a line that is only read.
+#define GAUGE_LINE_VALUES(s)                                                                                           \
+    (s)->stages, (s)->r, (s)->integrators, (s)->combs, (s)->sample_counter, (s)->taps, (s)->tap_count, (s)->factor,    \
+        (s)->fir_delay, (s)->wait, (s)->depth, (s)->delays, (s)->held, (s)->counts, (s)->phases, (s)->phase_taps,      \
+        (s)->straight, (s)->mu, (s)->step, (s)->delay, (s)->prototype, (s)->cuts
+
+// How many bytes GaugeLine_park writes. It depends on the settings alone.
+// Refusals: 15; `bytes` is then 0.
+static inline uint64_t GaugeLine_parked_len(const GaugeLine *line, uint64_t *bytes) {
+    return gauge_raw_line_parked_len(GAUGE_LINE_VALUES(line), bytes);
+}
+
+// Writes the line as a tap sheet to the front of the span: its settings, its taps, its prototype and all that a later
+// feed depends on. `written` is the number of bytes; the places behind them stay as they were. docs/parking.md says
+// what each byte is.
+//
+// The line that GaugeLine_take_up makes of the sheet gives, feed after feed, the answers, levels and cut counts of a
+// line that was never parked.
+// Refusals: 15; 17 where the span is too short. The span is then as it was, and `written` is 0.
+static inline uint64_t GaugeLine_park(const GaugeLine *line, uint8_t *span, uint64_t span_len, uint64_t *written) {
+    return gauge_raw_line_park(GAUGE_LINE_VALUES(line), span, span_len, written);
+}
+
+// Makes a line of a parked sheet.
+// Refusals: 16 and 17 where the bytes are no tap sheet; 21 where it has other than seven entries, or one of another
+// length than its settings make it; 15 where a line with such fields is refused, or parking writes no such fields. The
+// line is then all zeros.
+static inline uint64_t GaugeLine_take_up(GaugeLine *line, const uint8_t *sheet, uint64_t sheet_len) {
+    return gauge_raw_line_take_up_2(sheet, sheet_len, GAUGE_LINE_FIELDS(line));
+}
+
+#undef GAUGE_LINE_VALUES
 #undef GAUGE_LINE_FIELDS
 
 // Samples that lie one behind another in a buffer of the caller's.

@@ -53,14 +53,14 @@ enum GaugeRefusal {
     GAUGE_REFUSED_ENTRIES = 17,
     // Tap sheet: entry number not below the count.
     GAUGE_REFUSED_ENTRY_NUMBER = 18,
-    // Linear-phase taps not 1 to 23.
+    // Linear-phase taps not 1 to GAUGE_MOST_LINEAR_PHASE_TAPS.
     GAUGE_REFUSED_PHASE_TAPS = 19,
     // Linear-phase filter: source and span of a block not of one length.
     GAUGE_REFUSED_LENGTHS = 20,
     // Parked line: another count of entries than it has, or an entry not as long as its settings make it.
     GAUGE_REFUSED_PARKED = 21,
-    // Feeding plan: the two lists and the two of results not of one length, over 4,096 calls, or a length over
-    // GAUGE_MOST_BLOCK.
+    // Feeding plan: the two lists and the two of results not of one length, over GAUGE_MOST_CALLS calls, or a length
+    // over GAUGE_MOST_BLOCK.
     GAUGE_REFUSED_PLAN = 22,
     // Thinning without integrators: factor not a power of two.
     GAUGE_REFUSED_POWER_OF_TWO = 23

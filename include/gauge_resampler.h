@@ -33,29 +33,49 @@ uint64_t gauge_raw_resample_linear_f32(
 //   t = 1    h[2P]    h[2P-1]  h[2P-2]  ..   h[P+1]
 //
 // Laid in its own order, h makes levels that jump. Phases wrap, as in the Rust original: an output with mu below
-// 1 / phases is drawn between the last phase and phase 0 of the same samples, and one at mu = 0 is drawn on from phases
-// 0 and 1.
+// 1 / phases is drawn between the last phase and phase 0 of the same samples, and one at mu = 0, as every output at
+// step 1, is drawn on from phases 0 and 1 by `phases` times their difference.
+//
+// Straight phase, GaugePolyphaseResamp_from_taps_straight, takes the prototype as one row: with p the whole part of
+// (1 - mu) * phases, from 0 to `phases`, an output is drawn between the places t * phases + p and t * phases + p + 1, a
+// place past the end being 0. It is for steps of whole samples, which then read one place of each row, and for a filter
+// h in its natural order, prototype[i] = h[i]. At any other step its levels jump, and a prototype laid as above may
+// give nothing but 0.
+//
+// `straight` is 0 in wrapped phase and 1 in straight phase; any other number is read as 1.
 // printed: state polyphase_resamp
 typedef struct {
     uint64_t phases;
     uint64_t taps;
+    uint64_t straight;
     float mu;
     float step;
     float delay[GAUGE_MOST_PHASE_TAPS];
     float prototype[GAUGE_MOST_PROTOTYPE];
 } GaugePolyphaseResamp;
 
-#define GAUGE_POLYPHASE_RESAMP_FIELDS(s) &(s)->phases, &(s)->taps, &(s)->mu, &(s)->step, (s)->delay, (s)->prototype
+#define GAUGE_POLYPHASE_RESAMP_FIELDS(s)                                                                               \
+    &(s)->phases, &(s)->taps, &(s)->straight, &(s)->mu, &(s)->step, (s)->delay, (s)->prototype
 // printed until here
 
 // Opens a resampler of GAUGE_LEAST_PHASES to GAUGE_MOST_PHASES phases of 1 to GAUGE_MOST_PHASE_TAPS taps, `step` input
-// samples for each output, any finite number above zero. The prototype is laid as above and copied.
+// samples for each output, any finite number above zero, in wrapped phase. The prototype is laid as above and copied.
 // Refusals: 12, 13, 14; the state is then all zeros.
 static inline uint64_t GaugePolyphaseResamp_from_taps(
     GaugePolyphaseResamp *state, uint64_t phases, uint64_t taps, const float *prototype, uint64_t prototype_len,
     float step
 ) {
     return gauge_raw_polyphase_resamp_from_taps(
+        phases, taps, prototype, prototype_len, step, GAUGE_POLYPHASE_RESAMP_FIELDS(state)
+    );
+}
+
+// Opens a resampler in straight phase; else as above.
+static inline uint64_t GaugePolyphaseResamp_from_taps_straight(
+    GaugePolyphaseResamp *state, uint64_t phases, uint64_t taps, const float *prototype, uint64_t prototype_len,
+    float step
+) {
+    return gauge_raw_polyphase_resamp_from_taps_straight(
         phases, taps, prototype, prototype_len, step, GAUGE_POLYPHASE_RESAMP_FIELDS(state)
     );
 }
@@ -87,6 +107,25 @@ GaugePolyphaseResamp_push(GaugePolyphaseResamp *state, float x, float *out, uint
 }
 
 #undef GAUGE_POLYPHASE_RESAMP_FIELDS
+
+// A prototype phase by phase, as an editor shows it, one phase a row: what stands at t * phases + p of `prototype` goes
+// to p * taps + t of `rows`. Values are only moved; `written` is phases * taps. The two spans do not overlap.
+// Refusals: 12; 13, where either span is not phases * taps long. `rows` then stays as it was.
+// printed: function gauge_raw_prototype_by_phase
+uint64_t gauge_raw_prototype_by_phase(
+    uint64_t phases, uint64_t taps, const float *prototype, uint64_t prototype_len, float *rows, uint64_t rows_len,
+    uint64_t *written
+);
+// printed until here
+
+// And back: what stands at p * taps + t of `rows` goes to t * phases + p of `prototype`. Each call undoes the other.
+// Refusals: 12; 13, as there. `prototype` then stays as it was.
+// printed: function gauge_raw_prototype_by_tap
+uint64_t gauge_raw_prototype_by_tap(
+    uint64_t phases, uint64_t taps, const float *rows, uint64_t rows_len, float *prototype, uint64_t prototype_len,
+    uint64_t *written
+);
+// printed until here
 
 #ifdef __cplusplus
 }

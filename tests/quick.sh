@@ -52,7 +52,7 @@ rust_layout() {
     while read -r crate; do
         cargo fmt --check --manifest-path "$crate"
     done < <(tracked '*Cargo.toml')
-    rustfmt --check --edition 2024 bench/src/main.rs tests/oracle/src/main.rs tests/oracle/resamplers.rs
+    rustfmt --check --edition 2024 bench/src/main.rs tests/oracle/src/main.rs tests/oracle/resamplers.rs tests/oracle/filters.rs
     echo "quick: layout of Rust"
 }
 

@@ -4,6 +4,7 @@ mod cic;
 mod half_band;
 pub mod line;
 mod linear;
+mod linear_phase;
 mod polyphase_q15;
 mod resampler;
 
@@ -22,6 +23,7 @@ pub fn converters() -> Vec<Case> {
         polyphase_q15::cases(),
         linear::cases(),
         half_band::cases(),
+        linear_phase::cases(),
         resampler::cases(),
     ]
     .into_iter()

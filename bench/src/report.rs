@@ -19,8 +19,8 @@ own bounds checks.
     );
     let long = format!("blocks of {BLOCK}");
     let short = format!("blocks of {SHORT_BLOCK}");
-    println!("{:44}{long:>30}{short:>30}", "");
-    println!("{:36}{:8}{SIDES}{SIDES}", "converter", "sample");
+    println!("{:44}{long:>30}{short:>30}{:>30}", "", "blocks of 1");
+    println!("{:36}{:8}{SIDES}{SIDES}{SIDES}", "converter", "sample");
     for case in cases {
         print!("{:36}{:8}", case.name, case.unit.name());
         for block in case.blocks {

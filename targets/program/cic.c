@@ -27,6 +27,10 @@ static void put_decimator_gain(const GaugeCicDecimator *state) {
     answer[2] = GaugeCicDecimator_gain_bits(state, &bits);
     answer[3] = bits;
     put_values("gain", U64, answer, 4);
+    int32_t range[2];
+    answer[0] = GaugeCicDecimator_exact_range(state, &range[0], &range[1]);
+    put_values("exact range refused", U64, answer, 1);
+    put_values("exact range", I32, range, 2);
 }
 
 // Blocks of any length, until one is refused.
@@ -78,6 +82,36 @@ static void decimator(uint64_t stages, uint64_t r) {
     put_decimator(&state);
 }
 
+// As the CIC decimator, one by one; then a place out of range.
+static void neighbours(uint64_t stages, uint64_t r) {
+    GaugeNonrecursiveDecimator state;
+    uint64_t made = 0, gain, answer = GaugeNonrecursiveDecimator_new(&state, stages, r);
+    uint32_t bits;
+    int32_t sum = 0;
+    put_counts("NonrecursiveDecimator", answer, stages, r);
+    answer = GaugeNonrecursiveDecimator_gain(&state, &gain);
+    put_counts("gain", answer, gain, GaugeNonrecursiveDecimator_gain_bits(&state, &bits));
+    put_number("bits", bits);
+    for (int i = 0; i < 100; i++) {
+        answer = i < 60 ? GaugeNonrecursiveDecimator_process_sample(&state, sample_i32(), &made, &sum)
+                        : GaugeNonrecursiveDecimator_process_sample_scaled(&state, sample_i32(), &made, &sum);
+        if (made != 0) {
+            put_values("sum", I32, &sum, 1);
+        }
+    }
+    put_counts("sample", answer, made, state.place);
+    int32_t src[600], dst[SPAN];
+    uint64_t taken, written;
+    fill_i32(src, 600);
+    fill_i32(dst, SPAN);
+    answer = GaugeNonrecursiveDecimator_process_block(&state, src, 600, dst, SPAN, &taken, &written);
+    put_counts("block", answer, taken, written);
+    put_values("dst", I32, dst, SPAN);
+    put_values("neighbours", I32, state.neighbours, GAUGE_MOST_NEIGHBOURS);
+    state.place = r;
+    put_number("past its factor", GaugeNonrecursiveDecimator_process_sample(&state, 1, &made, &sum));
+}
+
 static void put_interpolator(const GaugeCicInterpolator *state) {
     const uint64_t numbers[2] = {state->stages, state->r};
     put_values("numbers", U64, numbers, 2);
@@ -109,6 +143,7 @@ void cic_outputs(void) {
     for (uint64_t i = 0; i < COUNT(stages_wanted); i++) {
         for (uint64_t k = 0; k < COUNT(factors_wanted); k++) {
             decimator(stages_wanted[i], factors_wanted[k]);
+            neighbours(stages_wanted[i], factors_wanted[k]);
             interpolator(stages_wanted[i], factors_wanted[k]);
         }
     }

@@ -82,6 +82,21 @@ static void dec_cascade(Stream stream, uint64_t depth) {
     put_values("delays", F32, state.delays, 480);
 }
 
+static void dec_cascade_98(Stream stream, uint64_t depth) {
+    GaugeHbfDecCascade98 state;
+    uint64_t written, refused = GaugeHbfDecCascade98_new(&state, depth);
+    put_counts("HbfDecCascade98", refused, stream, depth);
+    for (int feed = 0; feed < 2 * FEEDS; feed++) {
+        uint64_t len = length_of(feed);
+        fill_f32(stream, src, len);
+        refused = GaugeHbfDecCascade98_process(&state, src, len, dst, length_of(feed), &written);
+        put_block(refused, len, written);
+    }
+    put_values("delays", F32, state.delays, 480);
+    put_number("reset", GaugeHbfDecCascade98_reset(&state));
+    put_values("delays", F32, state.delays, 480);
+}
+
 static void int_cascade(Stream stream, uint64_t depth) {
     GaugeHbfIntCascade state;
     uint64_t written, refused = GaugeHbfIntCascade_new(&state, depth);
@@ -155,10 +170,15 @@ static void values(void) {
     uint64_t lengths[4];
     gauge_raw_hbf_tap_table(table);
     put_values("hbf_tap_table", F32, table, 45);
+    gauge_raw_hbf_tap_table_98(table);
+    put_values("hbf_tap_table_98", F32, table, GAUGE_HBF_TABLE_98);
     for (uint64_t depth = 0; depth <= 6; depth++) {
         lengths[0] = gauge_raw_hbf_dec_response_length(depth, &lengths[1]);
         lengths[2] = gauge_raw_hbf_int_response_length(depth, &lengths[3]);
         put_values("response_length", U64, lengths, 4);
+        lengths[0] = gauge_raw_hbf_dec_reach(depth, &lengths[1]);
+        lengths[2] = gauge_raw_hbf_dec_reach_98(depth, &lengths[3]);
+        put_values("reach", U64, lengths, 4);
     }
 }
 
@@ -177,6 +197,7 @@ void half_band_outputs(void) {
         }
         for (int i = 0; i < 8; i++) {
             dec_cascade((Stream)stream, depths[i]);
+            dec_cascade_98((Stream)stream, depths[i]);
             int_cascade((Stream)stream, depths[i]);
             stream_cascade((Stream)stream, depths[i]);
         }

@@ -1,4 +1,4 @@
-// The line: opened, fed in pieces, stepped, reset, and damaged.
+// The line: tried, opened, fed in pieces, stepped, parked and taken up, reset, and damaged.
 #include "gauge_line.h"
 #include "outputs.h"
 #include "print.h"
@@ -18,25 +18,28 @@ typedef struct {
 // Lines with each part on and off, then one refused for each reason.
 // clang-format off
 static const Opening openings[] = {
-    {{1, 1, 0, 0, 0, 0, 0.0f}, 0, 0},
-    {{3, 16, 2, 2, 0, 0, 0.0f}, 64, 0},
-    {{8, 2, 1, 0, 0, 0, 0.0f}, 5, 0},
-    {{2, 3, 0, 5, 0, 0, 0.0f}, 0, 0},
-    {{1, 2, 0, 0, 2, 1, 0.5f}, 0, 2},
-    {{4, 5, 3, 1, 64, 16, 0.734f}, 20, 1024},
-    {{5, 7, 1, 3, 8, 4, 1.37f}, 1, 32},
-    {{1, 4096, 4096, 0, 3, 2, 0.015625f}, 2, 6},
-    {{2, 1, 1, 0, 7, 3, 64.0f}, 3, 21},
-    {{7, 1, 2, 4, 5, 16, 3.3f}, 33, 80},
-    {{9, 1, 0, 0, 0, 0, 0.0f}, 0, 0},
-    {{1, 4097, 0, 0, 0, 0, 0.0f}, 0, 0},
-    {{8, 15, 0, 0, 0, 0, 0.0f}, 0, 0},
-    {{1, 1, 0x100000001, 0, 0, 0, 0.0f}, 1, 0},
-    {{1, 1, 1, 0, 0, 0, 0.0f}, 65, 0},
-    {{1, 1, 0, 6, 0, 0, 0.0f}, 0, 0},
-    {{1, 1, 0, 0, 1, 1, 1.0f}, 0, 1},
-    {{1, 1, 0, 0, 4, 4, 1.0f}, 0, 15},
-    {{1, 1, 0, 0, 4, 4, 64.5f}, 0, 16},
+    {{1, 1, 0, 0, 0, 0, 0.0f, 0}, 0, 0},
+    {{3, 16, 2, 2, 0, 0, 0.0f, 0}, GAUGE_MOST_TAPS, 0},
+    {{8, 2, 1, 0, 0, 0, 0.0f, 0}, 5, 0},
+    {{2, 3, 0, 5, 0, 0, 0.0f, 0}, 0, 0},
+    {{1, 2, 0, 0, 2, 1, 0.5f, 0}, 0, 2},
+    {{4, 5, 3, 1, 64, 16, 0.734f, 0}, 20, 1024},
+    {{5, 7, 1, 3, 8, 4, 1.37f, 0}, 1, 32},
+    {{1, 4096, 4096, 0, 3, 2, 0.015625f, 0}, 2, 6},
+    {{2, 1, 1, 0, 7, 3, 64.0f, 0}, 3, 21},
+    {{7, 1, 2, 4, 5, 16, 3.3f, 0}, 33, 80},
+    {{4, 5, 3, 1, 64, 16, 0.734f, 1}, 20, 1024},
+    {{1, 2, 0, 0, 4, 3, 1.0f, 7}, 0, 12},
+    {{3, 16, 2, 2, 0, 0, 0.0f, 1}, 64, 0},
+    {{9, 1, 0, 0, 0, 0, 0.0f, 0}, 0, 0},
+    {{1, 4097, 0, 0, 0, 0, 0.0f, 0}, 0, 0},
+    {{8, 15, 0, 0, 0, 0, 0.0f, 0}, 0, 0},
+    {{1, 1, 0x100000001, 0, 0, 0, 0.0f, 0}, 1, 0},
+    {{1, 1, 1, 0, 0, 0, 0.0f, 0}, GAUGE_MOST_TAPS + 1, 0},
+    {{1, 1, 0, 6, 0, 0, 0.0f, 0}, 0, 0},
+    {{1, 1, 0, 0, 1, 1, 1.0f, 0}, 0, 1},
+    {{1, 1, 0, 0, 4, 4, 1.0f, 0}, 0, 15},
+    {{1, 1, 0, 0, 4, 4, 64.5f, 0}, 0, 16},
 };
 // clang-format on
 
@@ -44,22 +47,24 @@ static int16_t taps[GAUGE_MOST_TAPS + 1];
 static float prototype[1024];
 static int32_t samples[PIECE];
 static GaugeLine line;
+static uint8_t sheet[GAUGE_MOST_PARKED];
 
 static void put_line(void) {
-    const uint64_t numbers[9] = {line.stages, line.r,     line.sample_counter, line.tap_count, line.factor,
-                                 line.wait,   line.depth, line.phases,         line.phase_taps};
+    const uint64_t numbers[10] = {line.stages, line.r,     line.sample_counter, line.tap_count,  line.factor,
+                                  line.wait,   line.depth, line.phases,         line.phase_taps, line.straight};
     const float floats[2] = {line.mu, line.step};
-    put_values("numbers", U64, numbers, 9);
+    put_values("numbers", U64, numbers, 10);
     put_values("integrators", I32, line.integrators, 8);
     put_values("combs", I32, line.combs, 8);
-    put_values("taps", I16, line.taps, 64);
-    put_values("fir_delay", I16, line.fir_delay, 64);
+    put_values("taps", I16, line.taps, GAUGE_MOST_TAPS);
+    put_values("fir_delay", I16, line.fir_delay, GAUGE_MOST_TAPS);
     put_values("delays", F32, line.delays, 480);
     put_values("held", F32, line.held, 5);
     put_values("counts", U64, line.counts, 5);
     put_values("floats", F32, floats, 2);
     put_values("delay", F32, line.delay, 16);
     put_values("prototype", F32, line.prototype, 1024);
+    put_number("cuts", GaugeLine_cuts(&line));
 }
 
 // Pieces of a stream, until a feed is refused; what one leaves over is fed again.
@@ -98,8 +103,50 @@ static void steps(void) {
     }
 }
 
+static void take_up(uint64_t bytes) {
+    put_number("take_up", GaugeLine_take_up(&line, sheet, bytes));
+    put_line();
+}
+
+// Parked where a place is missing and where there are enough, taken up with a byte changed and as it is.
+static void parked(void) {
+    uint64_t bytes, written;
+    put_number("parked_len", GaugeLine_parked_len(&line, &bytes));
+    put_number("bytes", bytes);
+    put_number("park", GaugeLine_park(&line, sheet, bytes > 0 ? bytes - 1 : 0, &written));
+    put_number("park", GaugeLine_park(&line, sheet, sizeof sheet, &written));
+    put_values("sheet", U8, sheet, written);
+    for (int i = 0; i < 8 && written > 0; i++) {
+        uint64_t at = below(i < 4 ? 82 : written);
+        uint8_t byte = sheet[at];
+        sheet[at] ^= (uint8_t)(1 << below(8));
+        take_up(written);
+        sheet[at] = byte;
+    }
+    take_up(written);
+}
+
+// A plan of feeds of any lengths, and one with a piece too long.
+static void planned(const Opening *opening) {
+    uint64_t pieces[FEEDS], spans[FEEDS], taken[FEEDS] = {0}, written[FEEDS] = {0};
+    for (int i = 0; i < FEEDS; i++) {
+        pieces[i] = below(i % 8 == 0 ? GAUGE_MOST_BLOCK + 1 : PIECE);
+        spans[i] = below(SPAN);
+    }
+    for (int i = 0; i < 2; i++) {
+        uint64_t refused = gauge_plan(
+            &opening->settings, taps, opening->taps, prototype, opening->prototype, pieces, spans, taken, written, FEEDS
+        );
+        put_number("plan", refused);
+        put_values("taken", U64, taken, FEEDS);
+        put_values("written", U64, written, FEEDS);
+        pieces[FEEDS - 1] = GAUGE_MOST_BLOCK + 1;
+    }
+}
+
 static void opened(const Opening *opening) {
     const GaugeSettings *settings = &opening->settings;
+    planned(opening);
     uint64_t refused = GaugeLine_open(&line, settings, taps, opening->taps, prototype, opening->prototype);
     put_counts("Line", refused, settings->stages, settings->r);
     put_line();
@@ -107,10 +154,13 @@ static void opened(const Opening *opening) {
     feed_pieces(1);
     put_line();
     steps();
+    parked();
+    feed_pieces(1);
     put_number("reset", GaugeLine_reset(&line));
     feed_pieces(1);
     put_line();
     line.sample_counter = line.r;
+    line.cuts = UINT32_MAX;
     feed_pieces(1);
     put_number("reset", GaugeLine_reset(&line));
     put_line();

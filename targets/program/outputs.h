@@ -6,6 +6,7 @@
 void cic_outputs(void);
 void q15_outputs(void);
 void half_band_outputs(void);
+void linear_phase_outputs(void);
 void resampler_outputs(void);
 void sheet_outputs(void);
 void line_outputs(void);

@@ -24,6 +24,9 @@ static int is_nan(uint32_t bits) {
 
 // The bits of a value; machines differ in those of a NaN, so each is the same here.
 static uint64_t bits_at(Kind kind, const void *values, uint64_t at) {
+    if (kind == U8) {
+        return ((const uint8_t *)values)[at];
+    }
     if (kind == I16) {
         return ((const uint16_t *)values)[at];
     }
@@ -39,7 +42,7 @@ static void put_value(Kind kind, uint64_t bits) {
     if (kind == F32 && is_nan((uint32_t)bits)) {
         put("nan");
     } else {
-        put_hex(bits, kind == U64 ? digits_of(bits) : kind == I16 ? 4 : 8);
+        put_hex(bits, kind == U64 ? digits_of(bits) : kind == U8 ? 2 : kind == I16 ? 4 : 8);
     }
 }
 

@@ -4,7 +4,7 @@
 
 #include <stdint.h>
 
-typedef enum { I16, I32, U64, F32 } Kind;
+typedef enum { U8, I16, I32, U64, F32 } Kind;
 
 // The machine's own: appends a text to the output.
 void put(const char *text);

@@ -18,13 +18,15 @@ static void put_block(const char *name, uint64_t refused, uint64_t len, uint64_t
 }
 
 static void fir_blocks(uint64_t len, uint64_t taps, uint64_t factor, uint64_t places) {
-    uint64_t refused, written;
+    uint64_t refused, written, cuts;
     fill_i16(dst, PLACES);
-    refused = gauge_raw_polyphase_decimate_q15(samples, len, coeffs, taps, factor, dst, places, &written);
+    refused = gauge_raw_polyphase_decimate_q15(samples, len, coeffs, taps, factor, dst, places, &written, &cuts);
     put_block("polyphase_decimate_q15", refused, len, written);
+    put_number("cuts", cuts);
     fill_i16(dst, PLACES);
-    refused = gauge_raw_polyphase_interpolate_q15(samples, len, coeffs, taps, factor, dst, places, &written);
+    refused = gauge_raw_polyphase_interpolate_q15(samples, len, coeffs, taps, factor, dst, places, &written, &cuts);
     put_block("polyphase_interpolate_q15", refused, len, written);
+    put_number("cuts", cuts);
 }
 
 static void all_fir_blocks(void) {
@@ -55,17 +57,18 @@ static void linear_blocks(void) {
 static void put_fir(const GaugeFirDecimator *state) {
     const uint64_t numbers[3] = {state->tap_count, state->factor, state->wait};
     put_values("numbers", U64, numbers, 3);
-    put_values("taps", I16, state->taps, 64);
-    put_values("delay", I16, state->delay, 64);
+    put_values("taps", I16, state->taps, GAUGE_MOST_TAPS);
+    put_values("delay", I16, state->delay, GAUGE_MOST_TAPS);
 }
 
 static void fir_samples(GaugeFirDecimator *state, int count) {
-    uint64_t made = 0, refused = 0;
+    uint64_t made = 0, refused = 0, cut = 0;
     int16_t value = 0;
     for (int i = 0; i < count; i++) {
-        refused = GaugeFirDecimator_process_sample(state, sample_i16(), &made, &value);
+        refused = GaugeFirDecimator_process_sample(state, sample_i16(), &made, &value, &cut);
         if (made != 0) {
             put_values("value", I16, &value, 1);
+            put_number("cut", cut);
         }
     }
     put_counts("sample", refused, made, (uint16_t)value);
@@ -87,10 +90,12 @@ static void fir_decimator(uint64_t taps, uint64_t factor) {
 
 static void values(void) {
     static const int64_t sums[] = {INT64_MIN, -0x100000000, -32769, -32768, 0, 32767, 32768, 0x100000000, INT64_MAX};
+    uint64_t cut;
     int16_t value;
     float level;
     for (uint64_t i = 0; i < COUNT(sums); i++) {
-        gauge_raw_cut_q15(sums[i], &value);
+        gauge_raw_cut_q15(sums[i], &value, &cut);
+        put_number("cut", cut);
         gauge_raw_q15_to_f32(value, &level);
         put_values("cut", I16, &value, 1);
         put_values("level", F32, &level, 1);
@@ -100,7 +105,7 @@ static void values(void) {
 }
 
 void q15_outputs(void) {
-    static const uint64_t taps[] = {0, 1, 5, 64, 65};
+    static const uint64_t taps[] = {0, 1, 5, 64, GAUGE_MOST_TAPS, GAUGE_MOST_TAPS + 1};
     static const uint64_t factors[] = {0, 1, 2, 7, 100, 4096, 4097, 0x100000001};
     seed(2);
     fill_i16(samples, COUNT(samples));

@@ -18,9 +18,9 @@ static const uint32_t steps[] = {0x3f000000, 0x3f800000, 0x3fb5c28f, 0x406ccccd,
                                  0x80000000, 0x00000001, 0x7f7fffff, 0xbf800000, 0x7f800000, 0x7fc00000};
 
 static void put_resamp(const GaugePolyphaseResamp *state) {
-    const uint64_t numbers[2] = {state->phases, state->taps};
+    const uint64_t numbers[3] = {state->phases, state->taps, state->straight};
     const float floats[2] = {state->mu, state->step};
-    put_values("numbers", U64, numbers, 2);
+    put_values("numbers", U64, numbers, 3);
     put_values("floats", F32, floats, 2);
     put_values("delay", F32, state->delay, 16);
     put_values("prototype", F32, state->prototype, 1024);
@@ -47,10 +47,13 @@ static void resample(GaugePolyphaseResamp *state, Stream stream) {
     }
 }
 
-static void resampler(uint64_t phases, uint64_t taps, float step) {
+typedef uint64_t
+Opening(GaugePolyphaseResamp *state, uint64_t phases, uint64_t taps, const float *h, uint64_t h_len, float step);
+
+static void resampler_by(Opening *open, uint64_t phases, uint64_t taps, float step) {
     static GaugePolyphaseResamp state;
     uint64_t len = phases <= 64 && taps <= 16 ? phases * taps : 1024;
-    uint64_t refused = GaugePolyphaseResamp_from_taps(&state, phases, taps, prototype, len, step);
+    uint64_t refused = open(&state, phases, taps, prototype, len, step);
     put_counts("PolyphaseResamp", refused, phases, taps);
     put_values("step", F32, &step, 1);
     for (int stream = ORDINARY; stream < STREAMS; stream++) {
@@ -59,6 +62,26 @@ static void resampler(uint64_t phases, uint64_t taps, float step) {
     put_number("reset", GaugePolyphaseResamp_reset(&state));
     resample(&state, ORDINARY);
     put_resamp(&state);
+}
+
+// In wrapped and in straight phase.
+static void resampler(uint64_t phases, uint64_t taps, float step) {
+    resampler_by(GaugePolyphaseResamp_from_taps, phases, taps, step);
+    resampler_by(GaugePolyphaseResamp_from_taps_straight, phases, taps, step);
+}
+
+// A prototype phase by phase and back, into a span that may be one place longer than it is.
+static void phase_rows(uint64_t phases, uint64_t taps, uint64_t longer) {
+    static float rows[1025], back[1024];
+    uint64_t len = phases <= 64 && taps <= 16 ? phases * taps : 1024, written;
+    fill_f32(ORDINARY, rows, 1025);
+    fill_f32(ORDINARY, back, 1024);
+    uint64_t refused = gauge_raw_prototype_by_phase(phases, taps, prototype, len, rows, len + longer, &written);
+    put_counts("prototype_by_phase", refused, len, written);
+    put_values("rows", F32, rows, 1025);
+    refused = gauge_raw_prototype_by_tap(phases, taps, rows, len, back, len, &written);
+    put_counts("prototype_by_tap", refused, len, written);
+    put_values("back", F32, back, 1024);
 }
 
 // A state that no opening makes.
@@ -98,6 +121,7 @@ void resampler_outputs(void) {
     fill_f32(ORDINARY, prototype, COUNT(prototype));
     for (uint64_t i = 0; i < COUNT(phases) * COUNT(taps); i++) {
         resampler(phases[i % COUNT(phases)], taps[i / COUNT(phases)], 0.734f);
+        phase_rows(phases[i % COUNT(phases)], taps[i / COUNT(phases)], i % 3 / 2);
     }
     for (uint64_t i = 0; i < COUNT(steps); i++) {
         resampler(3, 2, float_of(steps[i]));

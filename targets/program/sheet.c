@@ -10,14 +10,6 @@ static uint8_t joined[64];
 static uint8_t span[PLACES];
 static uint64_t lengths[GAUGE_MOST_ENTRIES + 1];
 
-static void put_bytes(const char *name, const uint8_t *bytes, uint64_t count) {
-    static uint64_t numbers[PLACES];
-    for (uint64_t i = 0; i < count; i++) {
-        numbers[i] = bytes[i];
-    }
-    put_values(name, U64, numbers, count);
-}
-
 static void read_back(uint64_t length) {
     GaugeSheet sheet;
     uint64_t offset, size;
@@ -39,7 +31,7 @@ static void written(uint64_t entries, uint64_t places) {
     bytes = bytes > sizeof joined ? sizeof joined : bytes;
     put_number("write", gauge_raw_sheet_write(joined, bytes, lengths, entries, span, places, &length));
     put_number("length", length);
-    put_bytes("span", span, PLACES);
+    put_values("span", U8, span, PLACES);
     read_back(length);
 }
 

@@ -11,22 +11,26 @@ need_cargo
 (cd "$from/rust" && sha256sum --check --quiet SHA256SUMS)
 
 mkdir -p "$to/embedded_dsp"
-cp "$from/rust/types.rs" "$to/embedded_dsp/types.rs"
+cp "$from/rust/types.rs" "$from/rust/pipeline.rs" "$to/embedded_dsp/"
 cat "$from/rust/resampling.rs" "$from/accessors.rs" >"$to/embedded_dsp/resampling.rs"
-printf 'pub mod resampling;\npub mod types;\n' >"$to/embedded_dsp/lib.rs"
+printf 'pub mod pipeline;\npub mod resampling;\npub mod types;\n' >"$to/embedded_dsp/lib.rs"
 
 # With overflow checks a call that the Rust does not define stops the oracle.
 flags=(--edition 2024 -C overflow-checks=on)
 
 # The crates with the Rust in them are built again only where they, this script or the compiler have changed.
-now=$(rustc --version && sha256sum "$to"/embedded_dsp/*.rs "$from/resamplers.rs" "$from/build.sh")
+now=$(rustc --version && sha256sum "$to"/embedded_dsp/*.rs "$from/resamplers.rs" "$from/filters.rs" "$from/build.sh")
 if [ "$now" != "$(cat "$to/built" 2>/dev/null)" ]; then
     rustc "${flags[@]}" -C opt-level=3 --crate-name embedded_dsp --crate-type rlib --cap-lints allow \
-        -o "$to/libembedded_dsp.rlib" "$to/embedded_dsp/lib.rs"
+        --cfg 'feature="pipeline"' -o "$to/libembedded_dsp.rlib" "$to/embedded_dsp/lib.rs"
     # Smaller code: there are a thousand pairs of P and T.
     rustc "${flags[@]}" -C opt-level=s --crate-name resamplers --crate-type rlib \
         --extern "embedded_dsp=$to/libembedded_dsp.rlib" \
         -o "$to/libresamplers.rlib" "$from/resamplers.rs"
+    # As small for the same reason: four kinds, 23 lengths and five chunks.
+    rustc "${flags[@]}" -C opt-level=s --crate-name filters --crate-type rlib \
+        --extern "embedded_dsp=$to/libembedded_dsp.rlib" \
+        -o "$to/libfilters.rlib" "$from/filters.rs"
     echo "$now" >"$to/built"
 fi
 
@@ -40,5 +44,6 @@ rustc --edition 2024 -O --crate-name gauge_raw --crate-type rlib \
 rustc "${flags[@]}" -C opt-level=3 --crate-name oracle -L "dependency=$to" \
     --extern "embedded_dsp=$to/libembedded_dsp.rlib" \
     --extern "resamplers=$to/libresamplers.rlib" \
+    --extern "filters=$to/libfilters.rlib" \
     --extern "gauge_raw=$to/libgauge_raw.rlib" \
     -C link-arg="$archive" -o "$to/oracle" "$from/src/main.rs"

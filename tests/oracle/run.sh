@@ -30,3 +30,5 @@ for seed in "$@"; do
     "$oracle" compare --seed "$seed" "${compared[@]}"
 done
 "$oracle" compare --seed "$1" --cases 1000000 --only tap_sheet
+"$oracle" compare --seed "$1" --cases 300000 --only parked_line
+"$oracle" compare --seed "$1" --cases 30000 --only parked_history

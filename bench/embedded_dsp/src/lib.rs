@@ -2,6 +2,9 @@
 #![allow(warnings, clippy::all)]
 
 #[rustfmt::skip]
+#[path = "../../../tests/oracle/rust/pipeline.rs"]
+pub mod pipeline;
+#[rustfmt::skip]
 #[path = "../../../tests/oracle/rust/resampling.rs"]
 pub mod resampling;
 #[rustfmt::skip]

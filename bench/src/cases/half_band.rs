@@ -3,6 +3,7 @@
 use super::{BLOCKS, STREAM};
 use crate::blocks::{Cut, side};
 use crate::case::{Case, Unit};
+use crate::original::Chain98;
 use crate::ours::{accepted, ours};
 use crate::samples::levels;
 use embedded_dsp::resampling::{HBF_TAPS, HbfDec, HbfDecCascade, HbfInt, HbfIntCascade};
@@ -18,6 +19,9 @@ pub fn cases() -> Vec<Case> {
         decimator_cascade::<1>(),
         decimator_cascade::<3>(),
         decimator_cascade::<5>(),
+        decimator_cascade_98(1),
+        decimator_cascade_98(3),
+        decimator_cascade_98(5),
         interpolator_cascade::<1>(),
         interpolator_cascade::<3>(),
         interpolator_cascade::<5>(),
@@ -72,6 +76,22 @@ fn decimator_cascade<const DEPTH: usize>() -> Case {
             side(converter, cut(block), levels)
         }),
         rust: Box::new(move |block| side(HbfDecCascade::<DEPTH>::new(), cut(block), levels)),
+    }
+}
+
+// The Rust has no such cascade: a chain of its stages.
+fn decimator_cascade_98(depth: usize) -> Case {
+    let cut = move |block| down(block, depth);
+    Case {
+        name: format!("HbfDecCascade98 depth {depth}"),
+        unit: Unit::Input,
+        blocks: BLOCKS,
+        ours: Box::new(move |block| {
+            let opened = gauge_line::HbfDecCascade98::new(depth);
+            let converter = ours(opened, |hbf, src, dst| accepted(hbf.process(src, dst)));
+            side(converter, cut(block), levels)
+        }),
+        rust: Box::new(move |block| side(Chain98::new(depth), cut(block), levels)),
     }
 }
 

@@ -38,6 +38,7 @@ fn case<const N: usize, const P: usize, const T: usize>(
         phases: P,
         phase_taps: T,
         step,
+        ..Settings::default()
     };
     let fir = match tap_count {
         0 => "no FIR".to_string(),

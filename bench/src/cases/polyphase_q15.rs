@@ -34,7 +34,7 @@ fn decimation(count: usize, factor: usize) -> Case {
         blocks: BLOCKS,
         ours: Box::new(move |block| {
             let converter = ours(Ok(taps(count)), move |taps, src, dst| {
-                accepted(polyphase_decimate_q15(src, taps, factor, dst))
+                accepted(polyphase_decimate_q15(src, taps, factor, dst).map(|made| made.written))
             });
             side(converter, cut(block), fixed)
         }),
@@ -58,7 +58,7 @@ fn interpolation(count: usize, factor: usize) -> Case {
         blocks: BLOCKS,
         ours: Box::new(move |block| {
             let converter = ours(Ok(taps(count)), move |taps, src, dst| {
-                accepted(polyphase_interpolate_q15(src, taps, factor, dst))
+                accepted(polyphase_interpolate_q15(src, taps, factor, dst).map(|made| made.written))
             });
             side(converter, cut(block), fixed)
         }),

@@ -10,20 +10,20 @@ use Rattle.float.specs.F32.{one32}
 use Rattle.float.specs.PolyphaseOutput.{output}
 use Rattle.float.specs.PolyphaseResamp.{emitted}
 
-module _ (P T : ℕ) (step : Float) (d h : List Float) where
+module _ (straight : Bool) (P T : ℕ) (step : Float) (d h : List Float) where
   abbrev made : Float → Float
-  made mu = output P T mu d h
+  made mu = output straight P T mu d h
 
-  pub one-due : (n : ℕ) (mu : Float) (w : ℕ) (o : List Float) → lt mu one32 ≡ true → emitted P T step d h (suc n) mu w o ≡ emitted P T step d h n (add binary32 mu step) (w + 1) (set o w (made mu))
+  pub one-due : (n : ℕ) (mu : Float) (w : ℕ) (o : List Float) → lt mu one32 ≡ true → emitted straight P T step d h (suc n) mu w o ≡ emitted straight P T step d h n (add binary32 mu step) (w + 1) (set o w (made mu))
   unfolding emitted
   one-due n mu w o e = rw e
 
-  pub none-due : (n : ℕ) (mu : Float) (w : ℕ) (o : List Float) → lt mu one32 ≡ false → emitted P T step d h n mu w o ≡ record { mu = mu; written = w; span = o }
+  pub none-due : (n : ℕ) (mu : Float) (w : ℕ) (o : List Float) → lt mu one32 ≡ false → emitted straight P T step d h n mu w o ≡ record { mu = mu; written = w; span = o }
   unfolding emitted
   none-due zero mu w o e = refl
   none-due (suc n) mu w o e = rw e
 
-  pub no-place : (mu : Float) (w : ℕ) (o : List Float) → emitted P T step d h 0 mu w o ≡ record { mu = mu; written = w; span = o }
+  pub no-place : (mu : Float) (w : ℕ) (o : List Float) → emitted straight P T step d h 0 mu w o ≡ record { mu = mu; written = w; span = o }
   unfolding emitted
   no-place mu w o = refl
 
@@ -32,27 +32,27 @@ module _ (P T : ℕ) (step : Float) (d h : List Float) where
       (K : Float → ℕ → List Float → Type 0)
       → ((mu : Float) (w : ℕ) (o : List Float) → K mu w o → lt mu one32 ≡ true → w < length o → K (add binary32 mu step) (w + 1) (set o w (made mu)))
       → (n : ℕ) (mu : Float) (w : ℕ) (o : List Float) → n ≡ length o - w → K mu w o
-      → let e = emitted P T step d h n mu w o in K (e .mu) (e .written) (e .span)
+      → let e = emitted straight P T step d h n mu w o in K (e .mu) (e .written) (e .span)
   unfolding emitted
   emitted-keeps K keep zero mu w o q k = k
   emitted-keeps K keep (suc n) mu w o q k = go (lt mu one32) refl (λ mu′ w′ o′ q′ k′. emitted-keeps K keep n mu′ w′ o′ q′ k′)
     where
       go :
           (b : Bool) → lt mu one32 ≡ b
-          → ((mu′ : Float) (w′ : ℕ) (o′ : List Float) → n ≡ length o′ - w′ → K mu′ w′ o′ → let e = emitted P T step d h n mu′ w′ o′ in K (e .mu) (e .written) (e .span))
-          → let e = emitted P T step d h (suc n) mu w o in K (e .mu) (e .written) (e .span)
+          → ((mu′ : Float) (w′ : ℕ) (o′ : List Float) → n ≡ length o′ - w′ → K mu′ w′ o′ → let e = emitted straight P T step d h n mu′ w′ o′ in K (e .mu) (e .written) (e .span))
+          → let e = emitted straight P T step d h (suc n) mu w o in K (e .mu) (e .written) (e .span)
       go true e ih = rw e (ih (add binary32 mu step) (w + 1) (set o w (made mu)) (omega (arith, length-set o w (made mu))) (keep mu w o k e (omega arith)))
       go false e ih = rw e k
 
   -- where a place is left, nothing is due
-  pub emitted-all : (n : ℕ) (mu : Float) (w : ℕ) (o : List Float) → n ≡ length o - w → let e = emitted P T step d h n mu w o in e .written < length (e .span) → lt (e .mu) one32 ≡ false
+  pub emitted-all : (n : ℕ) (mu : Float) (w : ℕ) (o : List Float) → n ≡ length o - w → let e = emitted straight P T step d h n mu w o in e .written < length (e .span) → lt (e .mu) one32 ≡ false
   unfolding emitted
   emitted-all zero mu w o q l = absurd (omega arith)
   emitted-all (suc n) mu w o q l = go (lt mu one32) refl (λ mu′ w′ o′ q′ l′. emitted-all n mu′ w′ o′ q′ l′) l
     where
       go :
           (b : Bool) → lt mu one32 ≡ b
-          → ((mu′ : Float) (w′ : ℕ) (o′ : List Float) → n ≡ length o′ - w′ → let e = emitted P T step d h n mu′ w′ o′ in e .written < length (e .span) → lt (e .mu) one32 ≡ false)
-          → let e = emitted P T step d h (suc n) mu w o in e .written < length (e .span) → lt (e .mu) one32 ≡ false
+          → ((mu′ : Float) (w′ : ℕ) (o′ : List Float) → n ≡ length o′ - w′ → let e = emitted straight P T step d h n mu′ w′ o′ in e .written < length (e .span) → lt (e .mu) one32 ≡ false)
+          → let e = emitted straight P T step d h (suc n) mu w o in e .written < length (e .span) → lt (e .mu) one32 ≡ false
       go true e ih = rw e (ih (add binary32 mu step) (w + 1) (set o w (made mu)) (omega (arith, length-set o w (made mu))))
       go false e ih = rw e (λ l′. e)

@@ -11,3 +11,4 @@ pub mod DueOutputs
 pub mod PolyphaseCalls
 pub mod ResampleLinear
 pub mod Levels
+pub mod Same

@@ -102,10 +102,10 @@ valid-passed s h d =
     (record { limits = v .limits; above = v .above; range = wide-output (s .step) (s .mu) (above-says (s .step) (v .above)) (v .range) (is (lt (s .mu) one32) d) })
 
 -- an opened state
-pub valid-fresh : (P T : ℕ) (h : List Float) (step : Float) → inLimits P T ≡ true → aboveZero step ≡ true → valid (fresh P T h step) ≡ true
+pub valid-fresh : (straight : Bool) (P T : ℕ) (h : List Float) (step : Float) → inLimits P T ≡ true → aboveZero step ≡ true → valid (fresh straight P T h step) ≡ true
 unfolding fresh ofBits le
-valid-fresh P T h step l a =
-    valid-so (fresh P T h step) (record { limits = l; above = a; range = (tt, limit-in step (above-says step a) .0) })
+valid-fresh straight P T h step l a =
+    valid-so (fresh straight P T h step) (record { limits = l; above = a; range = (tt, limit-in step (above-says step a) .0) })
 
 -- ---- in the line
 step-says : (step : Float) → stepInLine step ≡ true → StepOk step
@@ -222,10 +222,10 @@ unfolding le
 step-pos step s = let p : T (positive step) = step-positive step s in (p, le-trans-nonneg step mostStep maxF (positive-nonneg step p) tt tt (s .1) tt)
 
 -- an opened state, and one that is off
-pub line-fresh : (P T : ℕ) (h : List Float) (step : Float) → inLimits P T ≡ true → stepInLine step ≡ true → validInLine (fresh P T h step) ≡ true
+pub line-fresh : (straight : Bool) (P T : ℕ) (h : List Float) (step : Float) → inLimits P T ≡ true → stepInLine step ≡ true → validInLine (fresh straight P T h step) ≡ true
 unfolding fresh ofBits le
-line-fresh P T h step l a =
-    on-so (fresh P T h step) (record { limits = l; steps = a; range = (tt, limit-in step (step-pos step (step-says step a)) .0) })
+line-fresh straight P T h step l a =
+    on-so (fresh straight P T h step) (record { limits = l; steps = a; range = (tt, limit-in step (step-pos step (step-says step a)) .0) })
 
 pub line-off : (s : PolyphaseResampF32) → s .phases ≡ 0 → validInLine s ≡ true
 unfolding validInLine validInLineAt

@@ -4,4 +4,5 @@ pub mod PolyphaseResamp
 pub mod PolyphaseWhole
 pub mod ResampleLinear
 pub mod Level
+pub mod Same
 pub mod Ending

@@ -1,9 +1,9 @@
 -- 01, section 5: the resampler's state, its opening and its calls, and as a machine what section 6 says of its whole list.
 use mathlib.Core.Path.{_≡_}
-use mathlib.Core.Bool.{Bool, not, _&&_, _||_, cond}
+use mathlib.Core.Bool.{Bool, false, not, _&&_, _||_, cond}
 use mathlib.Core.List.{List, [], _∷_, _++_}
 use mathlib.Core.Option.{none, some}
-use Prim.Native.Nat.{ℕ, zero, suc, _+_, _-_, _*_}
+use Prim.Native.Nat.{ℕ, zero, suc, _+_, _-_, _*_, _<_}
 use lib.Dec.{leb, eqb}
 use lib.ListN.{length, take, drop, set, replicate}
 use lib.Ieee.{Float, binary32, ofBits, add, sub, lt, le}
@@ -75,6 +75,7 @@ consumed s x =
     record {
       phases = s .phases;
       taps = s .taps;
+      straight = s .straight;
       mu = sub binary32 (s .mu) one32;
       step = s .step;
       delay = shiftedIn (s .taps) x (s .delay);
@@ -83,13 +84,14 @@ consumed s x =
 
 -- an output: "output and add step to mu"
 unfoldable pub outputOf : PolyphaseResampF32 → Float
-outputOf s = output (s .phases) (s .taps) (s .mu) (s .delay) (s .prototype)
+outputOf s = output (s .straight) (s .phases) (s .taps) (s .mu) (s .delay) (s .prototype)
 
 unfoldable pub passed : PolyphaseResampF32 → PolyphaseResampF32
 passed s =
     record {
       phases = s .phases;
       taps = s .taps;
+      straight = s .straight;
       mu = add binary32 (s .mu) (s .step);
       step = s .step;
       delay = s .delay;
@@ -126,13 +128,17 @@ validInLine s = validInLineAt (s .phases) (s .taps) (s .step) (s .mu)
 abbrev pub mostCells : ℕ
 mostCells = mostPhases * mostTaps
 
+-- the places from p on, P apart, of the first n taps lie in the prototype's array
+unfoldable pub Inside : ℕ → ℕ → ℕ → Type 0
+Inside P n p = (t : ℕ) → t < n → t * P + p < mostCells
+
 unfoldable pub packed : List Float → List Float
 packed h = take mostCells h ++ replicate (mostCells - length h) zero32
 
 -- "mu starts at 1.0", "every delay at zero"
-unfoldable pub fresh : ℕ → ℕ → List Float → Float → PolyphaseResampF32
-fresh P T h step =
-    record { phases = P; taps = T; mu = one32; step = step; delay = replicate mostTaps zero32; prototype = packed h }
+unfoldable pub fresh : Bool → ℕ → ℕ → List Float → Float → PolyphaseResampF32
+fresh straight P T h step =
+    record { phases = P; taps = T; straight = straight; mu = one32; step = step; delay = replicate mostTaps zero32; prototype = packed h }
 
 -- "a refused opening's state is all zeros"
 unfoldable pub zeros : PolyphaseResampF32
@@ -140,6 +146,7 @@ zeros =
     record {
       phases = 0;
       taps = 0;
+      straight = false;
       mu = zero32;
       step = zero32;
       delay = replicate mostTaps zero32;
@@ -150,11 +157,11 @@ abbrev pub refusedOpening : ℕ → Opened PolyphaseResampF32
 refusedOpening number = record { number = number; state = zeros }
 
 -- `from_taps`: 12, 13 ("prototype not P × T long") and 14, downward
-unfoldable pub opening : ℕ → ℕ → List Float → Float → Opened PolyphaseResampF32
-opening P T h step =
+unfoldable pub opening : Bool → ℕ → ℕ → List Float → Float → Opened PolyphaseResampF32
+opening straight P T h step =
     cond (inLimits P T)
     (cond (eqb (length h) (P * T))
-    (cond (aboveZero step) (record { number = 0; state = fresh P T h step }) (refusedOpening 14))
+    (cond (aboveZero step) (record { number = 0; state = fresh straight P T h step }) (refusedOpening 14))
     (refusedOpening 13))
     (refusedOpening 12)
 
@@ -168,7 +175,7 @@ ownTaps s = take (s .phases * s .taps) (s .prototype)
 
 -- "Reset equals a fresh opening", with the state's own settings and taps
 unfoldable pub reset : PolyphaseResampF32 → Opened PolyphaseResampF32
-reset s = cond (valid s) (opening (s .phases) (s .taps) (ownTaps s) (s .step)) (record { number = 15; state = s })
+reset s = cond (valid s) (opening (s .straight) (s .phases) (s .taps) (ownTaps s) (s .step)) (record { number = 15; state = s })
 
 -- the counts of a block
 pub record Counts : Type 0 where
@@ -217,18 +224,18 @@ abbrev pub toldPush : PolyphasePush → Outcome ℕ PolyphaseResampF32
 toldPush r = record { number = countAnswer (r .answer) .number; value = countAnswer (r .answer) .value; state = r .state }
 
 -- the state of which a loop holds the numbers and the arrays apart
-abbrev pub together : ℕ → ℕ → Float → Float → List Float → List Float → PolyphaseResampF32
-together P T mu step d h = record { phases = P; taps = T; mu = mu; step = step; delay = d; prototype = h }
+abbrev pub together : Bool → ℕ → ℕ → Float → Float → List Float → List Float → PolyphaseResampF32
+together straight P T mu step d h = record { phases = P; taps = T; straight = straight; mu = mu; step = step; delay = d; prototype = h }
 
 -- what a run from mu left: r and the delay d are those of the feed, and the span o is o₀ with the outputs in front
-abbrev pub ran : ℕ → ℕ → Float → Float → List Float → List Float → List Float → List Float → Fed PolyphaseResampF32 Float
-ran P T step mu h d₀ xs o₀ = feed resampler (together P T mu step d₀ h) xs (length o₀)
+abbrev pub ran : Bool → ℕ → ℕ → Float → Float → List Float → List Float → List Float → List Float → Fed PolyphaseResampF32 Float
+ran straight P T step mu h d₀ xs o₀ = feed resampler (together straight P T mu step d₀ h) xs (length o₀)
 
-pub record RanTo (P T : ℕ) (step mu : Float) (h d₀ xs o₀ : List Float) (r : Ran) (d o : List Float) : Type 0 where
-  pub state : together P T (r .mu) step d h ≡ ran P T step mu h d₀ xs o₀ .line
-  pub taken : r .taken ≡ ran P T step mu h d₀ xs o₀ .taken
-  pub written : r .written ≡ length (ran P T step mu h d₀ xs o₀ .written)
-  pub span : o ≡ laid (ran P T step mu h d₀ xs o₀ .written) o₀
+pub record RanTo (straight : Bool) (P T : ℕ) (step mu : Float) (h d₀ xs o₀ : List Float) (r : Ran) (d o : List Float) : Type 0 where
+  pub state : together straight P T (r .mu) step d h ≡ ran straight P T step mu h d₀ xs o₀ .line
+  pub taken : r .taken ≡ ran straight P T step mu h d₀ xs o₀ .taken
+  pub written : r .written ≡ length (ran straight P T step mu h d₀ xs o₀ .written)
+  pub span : o ≡ laid (ran straight P T step mu h d₀ xs o₀ .written) o₀
 
 -- 01, section 5, "while mu < 1 an output is made": mu after the outputs that were due, the places written, and the span
 pub record Emitted : Type 0 where
@@ -237,16 +244,16 @@ pub record Emitted : Type 0 where
   pub span : List Float
 
 -- for the delay d and the prototype h, with w places of the span o written and n left
-unfoldable pub emitted : ℕ → ℕ → Float → List Float → List Float → ℕ → Float → ℕ → List Float → Emitted
-emitted P T step d h zero mu w o = record { mu = mu; written = w; span = o }
-emitted P T step d h (suc n) mu w o =
+unfoldable pub emitted : Bool → ℕ → ℕ → Float → List Float → List Float → ℕ → Float → ℕ → List Float → Emitted
+emitted straight P T step d h zero mu w o = record { mu = mu; written = w; span = o }
+emitted straight P T step d h (suc n) mu w o =
     cond (lt mu one32)
-    (emitted P T step d h n (add binary32 mu step) (w + 1) (set o w (output P T mu d h)))
+    (emitted straight P T step d h n (add binary32 mu step) (w + 1) (set o w (output straight P T mu d h)))
     (record { mu = mu; written = w; span = o })
 
 -- outside the limits of P and T, nothing
-unfoldable pub emittedFrom : ℕ → ℕ → Float → List Float → List Float → Float → ℕ → List Float → Emitted
-emittedFrom P T step d h mu w o = cond (inLimits P T) (emitted P T step d h (length o - w) mu w o) (record { mu = mu; written = w; span = o })
+unfoldable pub emittedFrom : Bool → ℕ → ℕ → Float → List Float → List Float → Float → ℕ → List Float → Emitted
+emittedFrom straight P T step d h mu w o = cond (inLimits P T) (emitted straight P T step d h (length o - w) mu w o) (record { mu = mu; written = w; span = o })
 
 -- what `write_due` answered, and the span it left
 abbrev pub toldDue : Due → List Float → Emitted

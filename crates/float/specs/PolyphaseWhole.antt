@@ -1,7 +1,7 @@
 -- 01, section 6, "In 5": the list that a whole list becomes in the resampler, from the settings, the prototype h and the list alone; and what the
 -- contracts of the opening and the calls claim of it.
 use mathlib.Core.Path.{_≡_}
-use mathlib.Core.Bool.{true, false}
+use mathlib.Core.Bool.{Bool, true, false}
 use mathlib.Core.List.{List, [], _∷_, _++_}
 use mathlib.Core.Option.{none}
 use Prim.Native.Nat.{ℕ, _<_}
@@ -26,11 +26,11 @@ unfoldable pub delays : ℕ → List Float → List Float
 delays T v = listed T (λ t. getD v t zero32)
 
 -- "while mu < 1 an output is made, else the next value is consumed"
-unfoldable pub wholeList : ℕ → ℕ → List Float → Float → Machine Progress Float Float
-wholeList P T h step =
+unfoldable pub wholeList : Bool → ℕ → ℕ → List Float → Float → Machine Progress Float Float
+wholeList straight P T h step =
     record {
       due = λ c. lt (c .mu) one32;
-      val = λ c. output P T (c .mu) (delays T (c .values)) h;
+      val = λ c. output straight P T (c .mu) (delays T (c .values)) h;
       after = λ c. record { mu = add binary32 (c .mu) step; values = c .values };
       next = λ c x. record { mu = sub binary32 (c .mu) one32; values = x ∷ c .values };
       now = λ c x. none;
@@ -41,21 +41,21 @@ unfoldable pub begin : Progress
 begin = record { mu = one32; values = [] }
 
 -- "the list ends when a value is wanted and none is left": o is what the list xs becomes
-unfoldable pub Becomes : ℕ → ℕ → List Float → Float → List Float → List Float → Type 0
-Becomes P T h step xs o = Runs (wholeList P T h step) begin xs o
+unfoldable pub Becomes : Bool → ℕ → ℕ → List Float → Float → List Float → List Float → Type 0
+Becomes straight P T h step xs o = Runs (wholeList straight P T h step) begin xs o
 
--- What an opening that is not refused claims of its state: no call on it is refused, and a list that runs through it becomes what 01 says, and the other way
+-- What an opening that is not refused claims of its state: no call on it is refused, and a list that runs through it becomes what 01 says, by the setting, and the other way
 -- (`whole`, `every`). Both speak of lists that become one. With a step of the line, 1/64 to 64, every list does (`some`). With another step one need not: where
 -- mu + step rounds to mu below 1.0, as at 0.25 with a step of 2^−26, an output is due for ever, and the list has no end.
-pub record Opens (P T : ℕ) (h : List Float) (step : Float) (r : Opened PolyphaseResampF32) : Type 0 where
+pub record Opens (straight : Bool) (P T : ℕ) (h : List Float) (step : Float) (r : Opened PolyphaseResampF32) : Type 0 where
   pub accepted : r .number ≡ 0 → valid (r .state) ≡ true
-  pub whole : r .number ≡ 0 → (xs o : List Float) → Runs resampler (r .state) xs o → Becomes P T h step xs o
-  pub every : r .number ≡ 0 → (xs o : List Float) → Becomes P T h step xs o → Runs resampler (r .state) xs o
-  pub some : r .number ≡ 0 → stepInLine step ≡ true → (xs : List Float) → (o : List Float) × Becomes P T h step xs o
+  pub whole : r .number ≡ 0 → (xs o : List Float) → Runs resampler (r .state) xs o → Becomes straight P T h step xs o
+  pub every : r .number ≡ 0 → (xs o : List Float) → Becomes straight P T h step xs o → Runs resampler (r .state) xs o
+  pub some : r .number ≡ 0 → stepInLine step ≡ true → (xs : List Float) → (o : List Float) × Becomes straight P T h step xs o
 
 -- What a reset of a valid state claims: what an opening with the state's own settings and taps does
 unfoldable pub Resets : PolyphaseResampF32 → Opened PolyphaseResampF32 → Type 0
-Resets s r = valid s ≡ true → (r .number ≡ 0) × Opens (s .phases) (s .taps) (ownTaps s) (s .step) r
+Resets s r = valid s ≡ true → (r .number ≡ 0) × Opens (s .straight) (s .phases) (s .taps) (ownTaps s) (s .step) r
 
 -- What was written, then what the next state t makes of the samples left, is what the state s makes of all of them, and nothing else is
 pub record Conserves (s : PolyphaseResampF32) (xs written : List Float) (taken : ℕ) (t : PolyphaseResampF32) : Type 0 where

@@ -2,11 +2,12 @@
 ghost use mathlib.Core.Path.{_≡_};
 ghost use mathlib.Core.Bool.{true, false, cond};
 ghost use mathlib.Core.List.{_∷_};
-ghost use Prim.Native.Nat.{_+_, _≤_, _<_};
-ghost use lib.ListN.{length, take, drop};
-ghost use lib.Ieee.{binary32, ofBits, le, toUnsigned};
+ghost use Prim.Native.Nat.{_+_, _-_, _*_, _≤_, _<_};
+ghost use lib.Dec.{ltb};
+ghost use lib.ListN.{length, getD, take, drop};
+ghost use lib.Ieee.{nan, binary32, ofBits, le, toUnsigned};
 ghost use Rattle.float.specs.F32.{zero32, aboveZero, blend};
-ghost use Rattle.float.specs.PolyphaseOutput.{cutUnit, phase0, phaseSum, output};
+ghost use Rattle.float.specs.PolyphaseOutput.{tap, straightTap, cutUnit, firstPlace, phaseSum, output};
 ghost use Rattle.float.specs.PolyphaseResamp as R;
 ghost use Rattle.float.specs.PolyphaseWhole as W;
 ghost use Rattle.refusal.specs.Table.{numberOf};
@@ -39,11 +40,12 @@ const LEAST_LINE_STEP: f32 = 0.015625;
 
 const MOST_LINE_STEP: f32 = 64.0;
 
-// P and T, where the next output lies between two samples, how far it goes on with each output, the last T samples with the
+// P and T, how the prototype is read, where the next output lies between two samples, how far it goes on with each output, the last T samples with the
 // newest first, and the prototype with tap t of phase p at t × P + p.
 pub struct PolyphaseResampF32 {
     pub phases: usize,
     pub taps: usize,
+    pub straight: bool,
     pub mu: f32,
     pub step: f32,
     pub delay: [f32; MOST_TAPS],
@@ -80,6 +82,12 @@ pub struct PolyphaseMoved {
 pub struct PolyphasePushed {
     pub answer: Count,
     pub mu: f32,
+}
+
+// The sums of two phases.
+struct PhaseSums {
+    y0: f32,
+    y1: f32,
 }
 
 // How far a run came.
@@ -166,16 +174,53 @@ fn cut_unit(x: f32) -> f32
     x
 }
 
-// The first phase at the place q. Its whole part is at most P, so that no division is needed.
-fn phase_at(q: f32, phases: usize) -> usize
+// The first place at q. Its whole part is at most P, so that no division is needed to reduce it; straight phase does not.
+fn first_place(straight: bool, q: f32, phases: usize) -> usize
     requires { ⌜ (1 ≤ phases) × (le (ofBits binary32 0x4b80_0000) q ≡ false) × (toUnsigned 64 q ≤ phases) ⌝ }
-    ensures { λ r. ⌜ r ≡ phase0 phases q ⌝ }
+    ensures { λ r. ⌜ r ≡ firstPlace straight phases q ⌝ }
 {
     let whole = whole_part(q);
+    if straight {
+        return whole;
+    }
     if whole < phases {
         return whole;
     }
     0
+}
+
+// The sums over the first `count` taps of the cells from p0 and from p1 on, P apart.
+fn summed(
+    prototype: &[f32; MOST_CELLS],
+    delay: &[f32],
+    phases: usize,
+    count: usize,
+    p0: usize,
+    p1: usize,
+) -> PhaseSums
+    requires { ⌜ (count ≤ R.mostTaps) × (count ≤ length (now delay)) × R.Inside phases count p0 × R.Inside phases count p1 ⌝ }
+    ensures { λ r. ⌜ (
+        let h = now (prototype .entry) in
+        let d = now (delay .entry) in
+        (r .y0 ≡ phaseSum (tap h phases p0) d count) × (r .y1 ≡ phaseSum (tap h phases p1) d count)) ⌝ }
+{
+    let mut y0 = 0.0f32;
+    let mut y1 = 0.0f32;
+    let mut t = 0;
+    while t < count {
+        let x = delay[t];
+        y0 = y0 + prototype[t * phases + p0] * x;
+        y1 = y1 + prototype[t * phases + p1] * x;
+        t += 1;
+    }
+    PhaseSums { y0, y1 }
+}
+
+// f of the way from y0 to y1.
+fn blend_of(y0: f32, y1: f32, f: f32) -> f32
+    ensures { λ r. ⌜ r ≡ blend y0 y1 f ⌝ }
+{
+    y0 * (1.0 - f) + y1 * f
 }
 
 // The sums of phases p0 and p1 over the taps, f of the way from the one to the other.
@@ -189,38 +234,87 @@ fn blended(
     f: f32,
 ) -> f32
     requires { ⌜ (R.inLimits phases taps ≡ true) × (taps ≤ length (now delay)) × (p0 < phases) × (p1 < phases) ⌝ }
-    ensures { λ r. ⌜ r ≡ blend (phaseSum (now (prototype .entry)) (now (delay .entry)) phases p0 taps) (phaseSum (now (prototype .entry)) (now (delay .entry)) phases p1 taps) f ⌝ }
+    ensures { λ r. ⌜ (
+        let h = now (prototype .entry) in
+        let d = now (delay .entry) in
+        r ≡ blend (phaseSum (tap h phases p0) d taps) (phaseSum (tap h phases p1) d taps) f) ⌝ }
 {
-    let mut y0 = 0.0f32;
-    let mut y1 = 0.0f32;
-    let mut t = 0;
-    while t < taps {
-        let x = delay[t];
-        y0 = y0 + prototype[t * phases + p0] * x;
-        y1 = y1 + prototype[t * phases + p1] * x;
-        t += 1;
-    }
-    y0 * (1.0 - f) + y1 * f
+    let sums = summed(prototype, delay, phases, taps, p0, p1);
+    blend_of(sums.y0, sums.y1, f)
 }
 
-// One output at mu. Two neighbouring phases, which all are but the last and the first, are read as pairs: so each has a call of its own.
+// The cell at i of the prototype's first so many, and 0.0 past them.
+fn cell_at(prototype: &[f32; MOST_CELLS], cells: usize, i: usize) -> f32
+    requires { ⌜ cells ≤ R.mostCells ⌝ }
+    ensures { λ r. ⌜ r ≡ cond (ltb i cells) (getD (now (prototype .entry)) i nan) zero32 ⌝ }
+{
+    if i < cells {
+        return prototype[i];
+    }
+    0.0
+}
+
+// The place after p, from P − 1 on: p + 1 in straight phase, the first in wrapped.
+fn place_after(straight: bool, p: usize) -> usize
+    requires { ⌜ p ≤ R.mostPhases ⌝ }
+    ensures { λ r. ⌜ r ≡ cond straight (p + 1) 0 ⌝ }
+{
+    if straight {
+        return p + 1;
+    }
+    0
+}
+
+// The sums from places p0 and p1 on, f of the way from the one to the other. But for the last tap both places lie before the prototype's end; past it a tap
+// is 0.0.
+fn blended_at_the_end(
+    prototype: &[f32; MOST_CELLS],
+    delay: &[f32],
+    phases: usize,
+    taps: usize,
+    p0: usize,
+    p1: usize,
+    f: f32,
+) -> f32
+    requires { ⌜ (R.inLimits phases taps ≡ true) × (taps ≤ length (now delay)) × (p0 ≤ phases) × (p1 ≤ phases + 1) ⌝ }
+    ensures { λ r. ⌜ (
+        let h = now (prototype .entry) in
+        let d = now (delay .entry) in
+        r ≡ blend (phaseSum (straightTap h phases taps p0) d taps) (phaseSum (straightTap h phases taps p1) d taps) f) ⌝ }
+{
+    let last = taps - 1;
+    let sums = summed(prototype, delay, phases, last, p0, p1);
+    let cells = phases * taps;
+    let from = last * phases;
+    let x = delay[last];
+    let c0 = cell_at(prototype, cells, from + p0);
+    let c1 = cell_at(prototype, cells, from + p1);
+    let y0 = sums.y0 + c0 * x;
+    let y1 = sums.y1 + c1 * x;
+    blend_of(y0, y1, f)
+}
+
+// One output at mu, by the setting. Below the last phase both settings read the same cells, two neighbouring phases as pairs: so these have a call of their own,
+// and the settings differ at the prototype's end alone.
 fn interpolate_within(
     prototype: &[f32; MOST_CELLS],
     delay: &[f32],
+    straight: bool,
     phases: usize,
     taps: usize,
     mu: f32,
 ) -> f32
     requires { ⌜ (R.inLimits phases taps ≡ true) × (taps ≤ length (now delay)) ⌝ }
-    ensures { λ r. ⌜ r ≡ output phases taps mu (now (delay .entry)) (now (prototype .entry)) ⌝ }
+    ensures { λ r. ⌜ r ≡ output straight phases taps mu (now (delay .entry)) (now (prototype .entry)) ⌝ }
 {
     let q = (1.0 - cut_unit(mu)) * (phases as f32);
-    let p0 = phase_at(q, phases);
-    let f = q - (p0 as f32);
-    if p0 + 1 < phases {
-        return blended(prototype, delay, phases, taps, p0, p0 + 1, f);
+    let p = first_place(straight, q, phases);
+    let f = q - (p as f32);
+    if p + 1 < phases {
+        return blended(prototype, delay, phases, taps, p, p + 1, f);
     }
-    blended(prototype, delay, phases, taps, p0, 0, f)
+    let next = place_after(straight, p);
+    blended_at_the_end(prototype, delay, phases, taps, p, next, f)
 }
 
 // One output at mu, of the prototype and the delay that are lent. Where P or T is outside its limits, 0.0. A leaf for the line, which has looked at the numbers:
@@ -228,17 +322,18 @@ fn interpolate_within(
 pub fn interpolate(
     prototype: &[f32; MOST_CELLS],
     delay: &[f32; MOST_TAPS],
+    straight: bool,
     phases: usize,
     taps: usize,
     mu: f32,
 ) -> f32
-    ensures { λ r. ⌜ r ≡ cond (R.inLimits phases taps) (output phases taps mu (now (delay .entry)) (now (prototype .entry))) zero32 ⌝ }
+    ensures { λ r. ⌜ r ≡ cond (R.inLimits phases taps) (output straight phases taps mu (now (delay .entry)) (now (prototype .entry))) zero32 ⌝ }
 {
     if !in_limits(phases, taps) {
         return 0.0;
     }
     lent_whole(*delay);
-    interpolate_within(prototype, delay, phases, taps, mu)
+    interpolate_within(prototype, delay, straight, phases, taps, mu)
 }
 
 // An array by value is known to be as long as its type says, and one that is lent is not: this call, which compiles to nothing, tells it.
@@ -281,10 +376,43 @@ fn take_in(tape: &mut [f32; TAPE], newest: usize, taps: usize, x: f32) -> usize
     before
 }
 
-// While dst has a place: an output that is due is written, else a sample is consumed, else the run stops.
+// What is due from mu on is written from the place `from` of dst on, as long as it has a place.
+fn due_within(
+    prototype: &[f32; MOST_CELLS],
+    delay: &[f32],
+    straight: bool,
+    phases: usize,
+    taps: usize,
+    step: f32,
+    mu: f32,
+    dst: &mut [f32],
+    from: usize,
+) -> Due
+    requires { ⌜ (R.inLimits phases taps ≡ true) × (taps ≤ length (now delay)) ⌝ }
+    ensures { λ r. ⌜ (
+        let before = now (dst .entry) in
+        R.toldDue r (now (dst .exit)) ≡ R.emitted straight phases taps step (now (delay .entry)) (now (prototype .entry)) (length before - from) mu from before) ⌝ }
+{
+    let mut next = mu;
+    let mut written = from;
+    while written < dst.len() {
+        if next < 1.0 {
+            dst[written] = interpolate_within(prototype, delay, straight, phases, taps, next);
+            written += 1;
+            next = next + step;
+        } else {
+            break;
+        }
+    }
+    Due { mu: next, written }
+}
+
+// Outputs that are due are written, then a sample is consumed, until dst is full or a sample is wanted and none is left. The outputs stand in a loop of their own
+// so that the compiler inlines each into it.
 fn run(
     prototype: &[f32; MOST_CELLS],
     delay: &mut [f32; MOST_TAPS],
+    straight: bool,
     phases: usize,
     taps: usize,
     step: f32,
@@ -293,7 +421,7 @@ fn run(
     dst: &mut [f32],
 ) -> Ran
     requires { ⌜ (R.inLimits phases taps ≡ true) × (length (now delay) ≡ R.mostTaps) ⌝ }
-    ensures { λ r. ⌜ R.RanTo phases taps step mu (now (prototype .entry)) (now (delay .entry)) (now (src .entry)) (now (dst .entry)) r (now (delay .exit)) (now (dst .exit)) ⌝ }
+    ensures { λ r. ⌜ R.RanTo straight phases taps step mu (now (prototype .entry)) (now (delay .entry)) (now (src .entry)) (now (dst .entry)) r (now (delay .exit)) (now (dst .exit)) ⌝ }
 {
     let mut held = *delay;
     let mut tape = [0.0f32; TAPE];
@@ -302,19 +430,30 @@ fn run(
     let mut at = mu;
     let mut taken = 0usize;
     let mut written = 0usize;
-    while written < dst.len() {
-        if at < 1.0 {
-            dst[written] = interpolate_within(prototype, &tape[newest..], phases, taps, at);
-            written += 1;
-            at = at + step;
-        } else {
-            if src.len() <= taken {
-                break;
-            }
-            newest = take_in(&mut tape, newest, taps, src[taken]);
-            taken += 1;
-            at = at - 1.0;
+    loop {
+        let window = &tape[newest..];
+        let due = due_within(
+            prototype,
+            window,
+            straight,
+            phases,
+            taps,
+            step,
+            at,
+            dst,
+            written,
+        );
+        at = due.mu;
+        written = due.written;
+        if dst.len() <= written {
+            break;
         }
+        if src.len() <= taken {
+            break;
+        }
+        newest = take_in(&mut tape, newest, taps, src[taken]);
+        taken += 1;
+        at = at - 1.0;
     }
     let past = newest + taps;
     put_at_end(&mut held[..taps], &tape[newest..past]);
@@ -331,6 +470,7 @@ fn run(
 pub fn write_due(
     prototype: &[f32; MOST_CELLS],
     delay: &[f32; MOST_TAPS],
+    straight: bool,
     phases: usize,
     taps: usize,
     step: f32,
@@ -338,28 +478,28 @@ pub fn write_due(
     dst: &mut [f32],
     from: usize,
 ) -> Due
-    ensures { λ r. ⌜ R.toldDue r (now (dst .exit)) ≡ R.emittedFrom phases taps step (now (delay .entry)) (now (prototype .entry)) mu from (now (dst .entry)) ⌝ }
+    ensures { λ r. ⌜ R.toldDue r (now (dst .exit)) ≡ R.emittedFrom straight phases taps step (now (delay .entry)) (now (prototype .entry)) mu from (now (dst .entry)) ⌝ }
 {
     if !in_limits(phases, taps) {
         return Due { mu, written: from };
     }
     lent_whole(*delay);
-    let mut next = mu;
-    let mut written = from;
-    while written < dst.len() {
-        if next < 1.0 {
-            dst[written] = interpolate_within(prototype, delay, phases, taps, next);
-            written += 1;
-            next = next + step;
-        } else {
-            break;
-        }
-    }
-    Due { mu: next, written }
+    due_within(
+        prototype,
+        delay,
+        straight,
+        phases,
+        taps,
+        step,
+        mu,
+        dst,
+        from,
+    )
 }
 
 // A block, the numbers by value and the arrays lent. Refused by 15.
 pub fn block_at(
+    straight: bool,
     phases: usize,
     taps: usize,
     step: f32,
@@ -369,8 +509,8 @@ pub fn block_at(
     src: &[f32],
     dst: &mut [f32],
 ) -> PolyphaseMoved
-    ensures answer { λ r. ⌜ R.toldBlock (record { answer = r .answer; taken = r .taken; state = R.together phases taps (r .mu) step (now (delay .exit)) (now (prototype .entry)) }) ≡ R.blockOutcome (R.together phases taps mu step (now (delay .entry)) (now (prototype .entry))) (now (src .entry)) (now (dst .entry)) ⌝ }
-    ensures span { λ _. ⌜ now (dst .exit) ≡ R.blockSpan (R.together phases taps mu step (now (delay .entry)) (now (prototype .entry))) (now (src .entry)) (now (dst .entry)) ⌝ }
+    ensures answer { λ r. ⌜ R.toldBlock (record { answer = r .answer; taken = r .taken; state = R.together straight phases taps (r .mu) step (now (delay .exit)) (now (prototype .entry)) }) ≡ R.blockOutcome (R.together straight phases taps mu step (now (delay .entry)) (now (prototype .entry))) (now (src .entry)) (now (dst .entry)) ⌝ }
+    ensures span { λ _. ⌜ now (dst .exit) ≡ R.blockSpan (R.together straight phases taps mu step (now (delay .entry)) (now (prototype .entry))) (now (src .entry)) (now (dst .entry)) ⌝ }
 {
     if !is_valid(phases, taps, step, mu) {
         return PolyphaseMoved {
@@ -380,7 +520,7 @@ pub fn block_at(
         };
     }
     lent_whole(*delay);
-    let ran = run(prototype, delay, phases, taps, step, mu, src, dst);
+    let ran = run(prototype, delay, straight, phases, taps, step, mu, src, dst);
     PolyphaseMoved {
         answer: Count::Written(ran.written),
         taken: ran.taken,
@@ -390,6 +530,7 @@ pub fn block_at(
 
 // A pushed sample, the numbers by value and the arrays lent. Refused by 15.
 pub fn push_at(
+    straight: bool,
     phases: usize,
     taps: usize,
     step: f32,
@@ -399,8 +540,8 @@ pub fn push_at(
     x: f32,
     out: &mut [f32],
 ) -> PolyphasePushed
-    ensures answer { λ r. ⌜ R.toldPush (record { answer = r .answer; state = R.together phases taps (r .mu) step (now (delay .exit)) (now (prototype .entry)) }) ≡ R.pushOutcome (R.together phases taps mu step (now (delay .entry)) (now (prototype .entry))) x (now (out .entry)) ⌝ }
-    ensures span { λ _. ⌜ now (out .exit) ≡ R.pushSpan (R.together phases taps mu step (now (delay .entry)) (now (prototype .entry))) x (now (out .entry)) ⌝ }
+    ensures answer { λ r. ⌜ R.toldPush (record { answer = r .answer; state = R.together straight phases taps (r .mu) step (now (delay .exit)) (now (prototype .entry)) }) ≡ R.pushOutcome (R.together straight phases taps mu step (now (delay .entry)) (now (prototype .entry))) x (now (out .entry)) ⌝ }
+    ensures span { λ _. ⌜ now (out .exit) ≡ R.pushSpan (R.together straight phases taps mu step (now (delay .entry)) (now (prototype .entry))) x (now (out .entry)) ⌝ }
 {
     if !is_valid(phases, taps, step, mu) {
         return PolyphasePushed {
@@ -409,7 +550,17 @@ pub fn push_at(
         };
     }
     shift_in(delay, taps, x);
-    let due = write_due(prototype, delay, phases, taps, step, mu - 1.0, out, 0);
+    let due = write_due(
+        prototype,
+        delay,
+        straight,
+        phases,
+        taps,
+        step,
+        mu - 1.0,
+        out,
+        0,
+    );
     PolyphasePushed {
         answer: Count::Written(due.written),
         mu: due.mu,
@@ -429,6 +580,32 @@ fn packed(prototype: &[f32]) -> [f32; MOST_CELLS]
     cells
 }
 
+// An opening by the setting. Refused by 12, 13, 14.
+fn opened(
+    straight: bool,
+    phases: usize,
+    taps: usize,
+    prototype: &[f32],
+    step: f32,
+) -> PolyphaseOpening
+    ensures answer { λ r. ⌜ R.toldOpening r ≡ R.opening straight phases taps (now (prototype .entry)) step ⌝ }
+    ensures whole { λ r. ⌜ W.Opens straight phases taps (now (prototype .entry)) step (R.toldOpening r) ⌝ }
+{
+    if !in_limits(phases, taps) {
+        return refused_opening(Refusal::Phases);
+    }
+    if prototype.len() != phases * taps {
+        return refused_opening(Refusal::Prototype);
+    }
+    if !above_zero(step) {
+        return refused_opening(Refusal::Step);
+    }
+    PolyphaseOpening {
+        answer: Opening::Opened,
+        state: PolyphaseResampF32::fresh(straight, phases, taps, prototype, step),
+    }
+}
+
 impl PolyphaseResampF32 {
     // The state of a refused opening, and in the line of a resampler that is off.
     pub fn zeros() -> Self
@@ -437,6 +614,7 @@ impl PolyphaseResampF32 {
         PolyphaseResampF32 {
             phases: 0,
             taps: 0,
+            straight: false,
             mu: 0.0,
             step: 0.0,
             delay: [0.0f32; MOST_TAPS],
@@ -444,13 +622,14 @@ impl PolyphaseResampF32 {
         }
     }
 
-    // The state of an opening: mu is 1.0 and every delay zero. A leaf for `from_taps` and the line's opening, which have looked at the settings: it refuses nothing.
-    pub fn fresh(phases: usize, taps: usize, prototype: &[f32], step: f32) -> Self
-        ensures { λ r. ⌜ r ≡ R.fresh phases taps (now (prototype .entry)) step ⌝ }
+    // The state of an opening: mu is 1.0 and every delay zero. A leaf for the openings here and the line's, which have looked at the settings: it refuses nothing.
+    pub fn fresh(straight: bool, phases: usize, taps: usize, prototype: &[f32], step: f32) -> Self
+        ensures { λ r. ⌜ r ≡ R.fresh straight phases taps (now (prototype .entry)) step ⌝ }
     {
         PolyphaseResampF32 {
             phases,
             taps,
+            straight,
             mu: 1.0,
             step,
             delay: [0.0f32; MOST_TAPS],
@@ -458,25 +637,26 @@ impl PolyphaseResampF32 {
         }
     }
 
-    // A resampler of P phases and T taps, whose prototype has tap t of phase p at t × P + p. Refused by 12, 13, 14. The clause `whole` has outputs for every list
-    // where the step is 1/64 to 64; with a smaller one they need not end.
+    // A resampler of P phases and T taps, whose prototype has tap t of phase p at t × P + p, in wrapped phase. Refused by 12, 13, 14. The clause `whole` has outputs
+    // for every list where the step is 1/64 to 64; with a smaller one they need not end.
     pub fn from_taps(phases: usize, taps: usize, prototype: &[f32], step: f32) -> PolyphaseOpening
-        ensures answer { λ r. ⌜ R.toldOpening r ≡ R.opening phases taps (now (prototype .entry)) step ⌝ }
-        ensures whole { λ r. ⌜ W.Opens phases taps (now (prototype .entry)) step (R.toldOpening r) ⌝ }
+        ensures answer { λ r. ⌜ R.toldOpening r ≡ R.opening false phases taps (now (prototype .entry)) step ⌝ }
+        ensures whole { λ r. ⌜ W.Opens false phases taps (now (prototype .entry)) step (R.toldOpening r) ⌝ }
     {
-        if !in_limits(phases, taps) {
-            return refused_opening(Refusal::Phases);
-        }
-        if prototype.len() != phases * taps {
-            return refused_opening(Refusal::Prototype);
-        }
-        if !above_zero(step) {
-            return refused_opening(Refusal::Step);
-        }
-        PolyphaseOpening {
-            answer: Opening::Opened,
-            state: PolyphaseResampF32::fresh(phases, taps, prototype, step),
-        }
+        opened(false, phases, taps, prototype, step)
+    }
+
+    // `from_taps` in straight phase: the prototype is one row of P × T places, read at t × P + p and the next, and zero past its end.
+    pub fn from_taps_straight(
+        phases: usize,
+        taps: usize,
+        prototype: &[f32],
+        step: f32,
+    ) -> PolyphaseOpening
+        ensures answer { λ r. ⌜ R.toldOpening r ≡ R.opening true phases taps (now (prototype .entry)) step ⌝ }
+        ensures whole { λ r. ⌜ W.Opens true phases taps (now (prototype .entry)) step (R.toldOpening r) ⌝ }
+    {
+        opened(true, phases, taps, prototype, step)
     }
 
     // Samples of src become outputs in dst, as long as dst has a place. Refused by 15.
@@ -487,6 +667,7 @@ impl PolyphaseResampF32 {
     {
         let mut delay = self.delay;
         let moved = block_at(
+            self.straight,
             self.phases,
             self.taps,
             self.step,
@@ -514,6 +695,7 @@ impl PolyphaseResampF32 {
     {
         let mut delay = self.delay;
         let pushed = push_at(
+            self.straight,
             self.phases,
             self.taps,
             self.step,
@@ -548,6 +730,7 @@ impl PolyphaseResampF32 {
         PolyphaseOpening {
             answer: Opening::Opened,
             state: PolyphaseResampF32::fresh(
+                self.straight,
                 self.phases,
                 self.taps,
                 &prototype[..cells],

@@ -1,1 +1,4 @@
 mod Told
+mod PhaseKinds
+mod Lines
+mod Setting

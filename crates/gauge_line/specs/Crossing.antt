@@ -1,10 +1,14 @@
 -- How an answer crosses to a caller in C or Rust: 01's number comes back, 0 for none, and the values stand in places that the caller lends.
+use mathlib.Core.Bool.{Bool, not, cond}
 use mathlib.Core.Option.{Option, none, some}
 use Prim.Native.Nat.{ℕ}
+use lib.Dec.{eqb}
+use lib.IntN.{ℤ, pos}
 use lib.Ieee.{Float}
 use Rattle.theory.specs.Feeds.{Event, took, wrote, both, stopped}
 use Rattle.refusal.specs.Table.{numberOf}
 use Rattle.refusal.specs.Outcome.{Outcome}
+use Rattle.q15.specs.FirDecimator.{Filtered}
 use Rattle.float.specs.F32.{zero32}
 use Rattle.half_band.specs.declared.hbf_stream.HbfStreamOut.{HbfStreamOut}
 use Rattle.half_band.specs.declared.hbf_stream.HbfStreamOut.the-variants as stream
@@ -16,6 +20,20 @@ optional z (some y) = (1, y)
 
 abbrev pub crossed : {A S : Type 0} → A → Outcome (Option A) S → Outcome (ℕ × A) S
 crossed z o = record { number = o .number; value = optional z (o .value); state = o .state }
+
+-- a yes or a no crosses as a number: 0 is no, any other is yes
+abbrev pub isSet : ℕ → Bool
+isSet n = not (eqb n 0)
+
+-- and the number that is written for it
+abbrev pub flagOf : Bool → ℕ
+flagOf b = cond b 1 0
+
+-- 02, §4: a FIR output that may be missing, and whether it was cut
+abbrev pub crossedFir : {S : Type 0} → Outcome Filtered S → Outcome (ℕ × (ℤ × ℕ)) S
+crossedFir o =
+    let made = optional (pos 0) (o .value .made) in
+    record { number = o .number; value = (made .0, (made .1, flagOf (o .value .cut))); state = o .state }
 
 -- each case of HbfStreamOut: its number, and the output
 abbrev pub streamNumber : HbfStreamOut → ℕ

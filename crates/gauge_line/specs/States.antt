@@ -1,4 +1,5 @@
 -- The states of the converters and of the line, put together from the places that a call lends, in the order in which it lends them.
+use mathlib.Core.Path.{_≡_}
 use mathlib.Core.List.{List}
 use Prim.Native.Nat.{ℕ}
 use lib.IntN.{ℤ}
@@ -7,11 +8,14 @@ use denote.Ref.{RefT, now}
 use denote.Triple.Both.{Both}
 use Rattle.integer.specs.CicDecimator.{decimatorOf}
 use Rattle.integer.specs.CicInterpolator.{interpolatorOf}
+use Rattle.nonrecursive.specs.NonrecursiveDecimator.{nonrecursiveOf}
 use Rattle.q15.specs.FirDecimator.{firState}
 use Rattle.half_band.specs.HbfStream.{streamOf}
 use Rattle.float.specs.PolyphaseResamp.{together}
+use Rattle.linear_phase.specs.LinearPhaseFir.{phaseOf}
 use Rattle.integer.specs.declared.cic_decimator.CicDecimator.{CicDecimator}
 use Rattle.integer.specs.declared.cic_interpolator.CicInterpolator.{CicInterpolator}
+use Rattle.nonrecursive.specs.declared.nonrecursive_decimator.NonrecursiveDecimator.{NonrecursiveDecimator}
 use Rattle.q15.specs.declared.fir_decimator.FirDecimator.{FirDecimator}
 use Rattle.half_band.specs.declared.hbf_dec.HbfDec.{HbfDec}
 use Rattle.half_band.specs.declared.hbf_dec_cascade.HbfDecCascade.{HbfDecCascade}
@@ -19,7 +23,9 @@ use Rattle.half_band.specs.declared.hbf_int.HbfInt.{HbfInt}
 use Rattle.half_band.specs.declared.hbf_int_cascade.HbfIntCascade.{HbfIntCascade}
 use Rattle.half_band.specs.declared.hbf_stream.HbfStream.{HbfStream}
 use Rattle.float.specs.declared.polyphase_resamp.PolyphaseResampF32.{PolyphaseResampF32}
+use Rattle.linear_phase.specs.declared.linear_phase_fir.LinearPhaseFir.{LinearPhaseFir}
 use Rattle.line.specs.declared.gauge_line.Line.{Line}
+use Rattle.gauge_line.specs.Crossing.{isSet, flagOf}
 
 -- the two moments of a call
 pub data Moment : Type 0 where
@@ -37,6 +43,9 @@ at exit p = now (p .exit)
 abbrev pub decimatorAt : Moment → Place ℕ → Place ℕ → Place (List ℤ) → Place (List ℤ) → Place ℕ → CicDecimator
 decimatorAt m stages r integrators combs counter =
     decimatorOf (at m stages) (at m r) (at m integrators) (at m combs) (at m counter)
+
+abbrev pub nonrecursiveAt : Moment → Place ℕ → Place ℕ → Place (List ℤ) → Place ℕ → NonrecursiveDecimator
+nonrecursiveAt m stages r neighbours place = nonrecursiveOf (at m stages) (at m r) (at m neighbours) (at m place)
 
 abbrev pub interpolatorAt : Moment → Place ℕ → Place ℕ → Place (List ℤ) → Place (List ℤ) → CicInterpolator
 interpolatorAt m stages r combs integrators = interpolatorOf (at m stages) (at m r) (at m combs) (at m integrators)
@@ -59,22 +68,43 @@ intCascadeAt m depth delays = record { depth = at m depth; delays = at m delays 
 abbrev pub streamAt : Moment → Place ℕ → Place (List Float) → Place (List Float) → Place (List ℕ) → HbfStream
 streamAt m depth delays held counts = streamOf (at m depth) (at m delays) (at m held) (at m counts)
 
-abbrev pub resamplerAt : Moment → Place ℕ → Place ℕ → Place Float → Place Float → Place (List Float) → Place (List Float) → PolyphaseResampF32
-resamplerAt m phases taps mu step delay prototype =
-    together (at m phases) (at m taps) (at m mu) (at m step) (at m delay) (at m prototype)
+-- a number that a call has written for a yes or a no: 0 or 1
+abbrev pub IsFlag : ℕ → Type 0
+IsFlag n = n ≡ flagOf (isSet n)
 
--- its decimator, its FIR, its half-band stages and its resampler
+abbrev pub resamplerAt : Moment → Place ℕ → Place ℕ → Place ℕ → Place Float → Place Float → Place (List Float) → Place (List Float) → PolyphaseResampF32
+resamplerAt m phases taps straight mu step delay prototype =
+    together (isSet (at m straight)) (at m phases) (at m taps) (at m mu) (at m step) (at m delay) (at m prototype)
+
+abbrev pub phaseAt : Moment → Place ℕ → Place ℕ → Place ℕ → Place (List Float) → Place (List Float) → LinearPhaseFir
+phaseAt m M odd antisymmetric taps delay =
+    phaseOf (at m M) (isSet (at m odd)) (isSet (at m antisymmetric)) (at m taps) (at m delay)
+
+-- the line of its fields: its decimator, its FIR, its half-band stages, its resampler and its count of cut values
+abbrev pub lineBy :
+    ℕ → ℕ → List ℤ → List ℤ → ℕ
+    → List ℤ → ℕ → ℕ → List ℤ → ℕ
+    → ℕ → List Float → List Float → List ℕ
+    → ℕ → ℕ → ℕ → Float → Float → List Float → List Float
+    → ℕ
+    → Line
+lineBy stages r integrators combs counter taps tapCount factor firDelay wait depth delays held counts phases phaseTaps straight mu step delay prototype cuts =
+    record {
+      cic = decimatorOf stages r integrators combs counter;
+      fir = firState taps tapCount factor firDelay wait;
+      «half_band» = streamOf depth delays held counts;
+      resampler = together (isSet straight) phases phaseTaps mu step delay prototype;
+      cuts = cuts;
+    }
+
 abbrev pub lineAt :
     Moment
     → Place ℕ → Place ℕ → Place (List ℤ) → Place (List ℤ) → Place ℕ
     → Place (List ℤ) → Place ℕ → Place ℕ → Place (List ℤ) → Place ℕ
     → Place ℕ → Place (List Float) → Place (List Float) → Place (List ℕ)
-    → Place ℕ → Place ℕ → Place Float → Place Float → Place (List Float) → Place (List Float)
+    → Place ℕ → Place ℕ → Place ℕ → Place Float → Place Float → Place (List Float) → Place (List Float)
+    → Place ℕ
     → Line
-lineAt m stages r integrators combs counter taps tapCount factor firDelay wait depth delays held counts phases phaseTaps mu step delay prototype =
-    record {
-      cic = decimatorAt m stages r integrators combs counter;
-      fir = firAt m taps tapCount factor firDelay wait;
-      «half_band» = streamAt m depth delays held counts;
-      resampler = resamplerAt m phases phaseTaps mu step delay prototype;
-    }
+lineAt m stages r integrators combs counter taps tapCount factor firDelay wait depth delays held counts phases phaseTaps straight mu step delay prototype cuts =
+    lineBy (at m stages) (at m r) (at m integrators) (at m combs) (at m counter) (at m taps) (at m tapCount) (at m factor) (at m firDelay) (at m wait)
+    (at m depth) (at m delays) (at m held) (at m counts) (at m phases) (at m phaseTaps) (at m straight) (at m mu) (at m step) (at m delay) (at m prototype) (at m cuts)

@@ -4,23 +4,29 @@ ghost use lib.IntN.{pos};
 ghost use Rattle.refusal.specs.Table.{numberOf};
 ghost use Rattle.refusal.specs.Outcome.{openingNumber, countAnswer, countsAnswer};
 ghost use Rattle.integer.specs.Gain.{toldGain, toldBits};
+ghost use Rattle.integer.specs.ExactSums.{toldRange};
 ghost use Rattle.integer.specs.CicDecimator as D;
 ghost use Rattle.q15.specs.FirDecimator as Q;
 ghost use Rattle.float.specs.F32.{zero32};
 ghost use Rattle.half_band.specs.HbfDec.{toldDecOut, decNone};
 ghost use Rattle.half_band.specs.HbfInt.{toldIntOut, intNone};
 ghost use Rattle.half_band.specs.ResponseLength.{toldLength};
+ghost use Rattle.linear_phase.specs.LinearPhaseFir.{toldPhaseOut, phaseNone};
 ghost use Rattle.sheet.specs.Sheet.{sheetCountAnswer, sizeAnswer};
 ghost use Rattle.line.specs.Line as L;
+ghost use Rattle.plan.specs.Plan.{answerNumber};
 ghost use Rattle.gauge_line.specs.Crossing.{optional, streamNumber, streamValue, moves};
 use half_band::HbfDecOut;
 use half_band::HbfIntOut;
 use half_band::HbfStreamOut;
 use half_band::ResponseLength;
 use integer::cic_decimator::CicOutput;
+use integer::exact_range::ExactRange;
 use integer::gain::Gain;
 use integer::gain::GainBits;
 use line::LineStep;
+use linear_phase::LinearPhaseOut;
+use plan::PlanAnswer;
 use q15::FirOutput;
 use refusal::Count;
 use refusal::Counts;
@@ -41,6 +47,15 @@ pub(crate) fn opening_number(o: Opening) -> usize
     match o {
         Opening::Opened => 0,
         Opening::Refused(q) => refusal_number(q),
+    }
+}
+
+pub(crate) fn plan_number(p: PlanAnswer) -> usize
+    ensures { λ n. ⌜ n ≡ answerNumber p ⌝ }
+{
+    match p {
+        PlanAnswer::Planned => 0,
+        PlanAnswer::Refused(q) => refusal_number(q),
     }
 }
 
@@ -125,6 +140,34 @@ pub(crate) fn bits_value(b: GainBits) -> u32
     match b {
         GainBits::Value(v) => v,
         GainBits::Refused(_) => 0,
+    }
+}
+
+// A range of samples.
+pub(crate) fn range_number(a: ExactRange) -> usize
+    ensures { λ n. ⌜ n ≡ toldRange a .number ⌝ }
+{
+    match a {
+        ExactRange::Within { .. } => 0,
+        ExactRange::Refused(q) => refusal_number(q),
+    }
+}
+
+pub(crate) fn range_least(a: ExactRange) -> i32
+    ensures { λ n. ⌜ n ≡ toldRange a .value .least ⌝ }
+{
+    match a {
+        ExactRange::Within { least, .. } => least,
+        ExactRange::Refused(_) => 0,
+    }
+}
+
+pub(crate) fn range_greatest(a: ExactRange) -> i32
+    ensures { λ n. ⌜ n ≡ toldRange a .value .greatest ⌝ }
+{
+    match a {
+        ExactRange::Within { greatest, .. } => greatest,
+        ExactRange::Refused(_) => 0,
     }
 }
 
@@ -367,5 +410,24 @@ pub(crate) fn size_value(c: EntrySize) -> usize
     match c {
         EntrySize::Bytes(n) => n,
         EntrySize::Refused(_) => 0,
+    }
+}
+
+// The output of a linear-phase filter.
+pub(crate) fn phase_number(o: LinearPhaseOut) -> usize
+    ensures { λ n. ⌜ n ≡ toldPhaseOut o phaseNone .number ⌝ }
+{
+    match o {
+        LinearPhaseOut::Value(_) => 0,
+        LinearPhaseOut::Refused(q) => refusal_number(q),
+    }
+}
+
+pub(crate) fn phase_value(o: LinearPhaseOut) -> f32
+    ensures { λ n. ⌜ n ≡ toldPhaseOut o phaseNone .value ⌝ }
+{
+    match o {
+        LinearPhaseOut::Value(y) => y,
+        LinearPhaseOut::Refused(_) => 0.0,
     }
 }

@@ -2,9 +2,11 @@
 ghost use mathlib.Core.Path.{_≡_};
 ghost use lib.IntN.{pos};
 ghost use lib.ListN.{length};
+ghost use Rattle.theory.specs.Sections.{outs};
 ghost use Rattle.refusal.specs.Outcome.{Moved};
 ghost use Rattle.integer.specs.Opening.{opening, onState};
 ghost use Rattle.integer.specs.Gain.{gainOf, gainBits, Least};
+ghost use Rattle.integer.specs.ExactSums.{ExactSums, ExactWithin, Ends, exactRange};
 ghost use Rattle.integer.specs.CicDecimator as D;
 ghost use Rattle.gauge_line.specs.Crossing.{crossed};
 ghost use Rattle.gauge_line.specs.States.{entry, exit, decimatorAt};
@@ -16,6 +18,9 @@ use crate::answers::counts_written;
 use crate::answers::gain_number;
 use crate::answers::gain_value;
 use crate::answers::opening_number;
+use crate::answers::range_greatest;
+use crate::answers::range_least;
+use crate::answers::range_number;
 use crate::answers::sum_made;
 use crate::answers::sum_number;
 use crate::answers::sum_value;
@@ -37,6 +42,9 @@ pub extern "C" fn gauge_raw_cic_decimator_new(
 ) -> usize
     ensures answer { λ n. ⌜ record { number = n; state = decimatorAt exit stages r integrators combs «sample_counter» } ≡ opening D.fresh «wanted_stages» «wanted_r» ⌝ }
     ensures stream { λ n. ⌜ (n ≡ 0 → D.Streams «wanted_stages» «wanted_r» (decimatorAt exit stages r integrators combs «sample_counter»)) ⌝ }
+    ensures exact { λ n. ⌜ (n ≡ 0 → (
+        let opened = decimatorAt exit stages r integrators combs «sample_counter» in
+        ExactSums «wanted_stages» «wanted_r» (outs D.decimator opened) (outs D.scaledDecimator opened))) ⌝ }
 {
     let opened = CicDecimator::new(wanted_stages, wanted_r);
     let next = opened.state;
@@ -78,6 +86,31 @@ pub extern "C" fn gauge_raw_cic_decimator_gain_bits(
     let answer = state.gain_bits();
     *bits = bits_value(answer);
     bits_number(answer)
+}
+
+// The samples of which every sum is exact.
+#[no_mangle]
+pub extern "C" fn gauge_raw_cic_decimator_exact_range(
+    stages: usize,
+    r: usize,
+    integrators: &[i32; MAX_STAGES],
+    combs: &[i32; MAX_STAGES],
+    sample_counter: usize,
+    least: &mut i32,
+    greatest: &mut i32,
+) -> usize
+    ensures answer { λ n. ⌜ (
+        let ends : Ends = record { least = now (least .exit); greatest = now (greatest .exit) } in
+        record { number = n; value = ends } ≡ exactRange (D.validAt stages r «sample_counter») stages r) ⌝ }
+    ensures exact { λ n. ⌜ (n ≡ 0 → (
+        let opened = D.fresh stages r in
+        ExactWithin (now (least .exit)) (now (greatest .exit)) stages r (outs D.decimator opened) (outs D.scaledDecimator opened))) ⌝ }
+{
+    let state = decimator(stages, r, *integrators, *combs, sample_counter);
+    let range = state.exact_range();
+    *least = range_least(range);
+    *greatest = range_greatest(range);
+    range_number(range)
 }
 
 #[no_mangle]

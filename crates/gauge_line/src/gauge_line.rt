@@ -1,4 +1,4 @@
-// The gauge line: the fields of its decimator, its FIR, its half-band stages and its resampler, in this order.
+// The gauge line: the fields of its decimator, its FIR, its half-band stages and its resampler, in this order, and its count of cut values.
 ghost use mathlib.Core.Path.{_≡_};
 ghost use mathlib.Core.Bool.{true};
 ghost use lib.Dec.{ltb};
@@ -9,8 +9,8 @@ ghost use Rattle.line.specs.Outputs.{Opening};
 ghost use Rattle.line.specs.Line as L;
 ghost use Rattle.line.specs.Demand3.{Demand3};
 ghost use Rattle.line.specs.declared.settings.Settings.{Settings};
-ghost use Rattle.gauge_line.specs.Crossing.{crossedStep};
-ghost use Rattle.gauge_line.specs.States.{entry, exit, lineAt};
+ghost use Rattle.gauge_line.specs.Crossing.{crossedStep, isSet};
+ghost use Rattle.gauge_line.specs.States.{entry, exit, IsFlag, lineAt};
 use crate::answers::counts_number;
 use crate::answers::counts_taken;
 use crate::answers::counts_written;
@@ -21,6 +21,8 @@ use crate::answers::step_value;
 use crate::answers::step_written;
 use crate::states::decimator;
 use crate::states::fir;
+use crate::states::flag;
+use crate::states::is_set;
 use crate::states::put_decimator;
 use crate::states::put_fir;
 use crate::states::put_resampler;
@@ -39,14 +41,16 @@ use line::feed_lent;
 use line::step_lent;
 use q15::MOST_TAPS;
 
+// The number in the name is that of the line's layout: a program that was compiled with a header in which the arrays are shorter does not link.
 #[no_mangle]
-pub extern "C" fn gauge_raw_line_open(
+pub extern "C" fn gauge_raw_line_open_2(
     wanted_stages: usize,
     wanted_r: usize,
     wanted_factor: usize,
     wanted_depth: usize,
     wanted_phases: usize,
     wanted_phase_taps: usize,
+    wanted_straight: usize,
     wanted_step: f32,
     wanted_taps: &[i16],
     wanted_prototype: &[f32],
@@ -66,11 +70,14 @@ pub extern "C" fn gauge_raw_line_open(
     counts: &mut [usize; MOST_STAGES],
     phases: &mut usize,
     phase_taps: &mut usize,
+    straight: &mut usize,
     mu: &mut f32,
     step: &mut f32,
     delay: &mut [f32; MOST_PHASE_TAPS],
     prototype: &mut [f32; MOST_CELLS],
+    cuts: &mut u32,
 ) -> usize
+    ensures setting { λ n. ⌜ IsFlag (now (straight .exit)) ⌝ }
     ensures answer { λ n. ⌜ (
         let settings : Settings = record {
           stages = «wanted_stages»;
@@ -79,10 +86,12 @@ pub extern "C" fn gauge_raw_line_open(
           depth = «wanted_depth»;
           phases = «wanted_phases»;
           taps = «wanted_phase_taps»;
+          straight = isSet «wanted_straight»;
           step = «wanted_step»;
         } in
         let wanted : Opening = record { settings = settings; taps = now («wanted_taps» .entry); prototype = now («wanted_prototype» .entry) } in
-        let after = lineAt exit stages r integrators combs «sample_counter» taps «tap_count» factor «fir_delay» wait depth delays held counts phases «phase_taps» mu step delay prototype in
+        let after = lineAt exit stages r integrators combs «sample_counter» taps «tap_count» factor «fir_delay» wait
+        depth delays held counts phases «phase_taps» straight mu step delay prototype cuts in
         record { number = n; state = after } ≡ L.opened wanted) ⌝ }
 {
     let settings = Settings {
@@ -92,6 +101,7 @@ pub extern "C" fn gauge_raw_line_open(
         depth: wanted_depth,
         phases: wanted_phases,
         taps: wanted_phase_taps,
+        straight: is_set(wanted_straight),
         step: wanted_step,
     };
     let opened = Line::open(settings, wanted_taps, wanted_prototype);
@@ -103,11 +113,13 @@ pub extern "C" fn gauge_raw_line_open(
         next.resampler,
         phases,
         phase_taps,
+        straight,
         mu,
         step,
         delay,
         prototype,
     );
+    *cuts = next.cuts;
     let answer = opened.answer;
     opening_number(answer)
 }
@@ -130,24 +142,39 @@ pub extern "C" fn gauge_raw_line_reset(
     counts: &mut [usize; MOST_STAGES],
     phases: &mut usize,
     phase_taps: &mut usize,
+    straight: &mut usize,
     mu: &mut f32,
     step: &mut f32,
     delay: &mut [f32; MOST_PHASE_TAPS],
     prototype: &mut [f32; MOST_CELLS],
+    cuts: &mut u32,
 ) -> usize
+    ensures setting { λ n. ⌜ IsFlag (now (straight .exit)) ⌝ }
     ensures answer { λ n. ⌜ (
-        let before = lineAt entry stages r integrators combs «sample_counter» taps «tap_count» factor «fir_delay» wait depth delays held counts phases «phase_taps» mu step delay prototype in
-        let after = lineAt exit stages r integrators combs «sample_counter» taps «tap_count» factor «fir_delay» wait depth delays held counts phases «phase_taps» mu step delay prototype in
+        let before = lineAt entry stages r integrators combs «sample_counter» taps «tap_count» factor «fir_delay» wait
+        depth delays held counts phases «phase_taps» straight mu step delay prototype cuts in
+        let after = lineAt exit stages r integrators combs «sample_counter» taps «tap_count» factor «fir_delay» wait
+        depth delays held counts phases «phase_taps» straight mu step delay prototype cuts in
         record { number = n; state = after } ≡ L.reset before) ⌝ }
     ensures accepted { λ n. ⌜ (
-        let before = lineAt entry stages r integrators combs «sample_counter» taps «tap_count» factor «fir_delay» wait depth delays held counts phases «phase_taps» mu step delay prototype in
+        let before = lineAt entry stages r integrators combs «sample_counter» taps «tap_count» factor «fir_delay» wait
+        depth delays held counts phases «phase_taps» straight mu step delay prototype cuts in
         L.valid before ≡ true → n ≡ 0) ⌝ }
 {
     let line = Line {
         cic: decimator(*stages, *r, *integrators, *combs, *sample_counter),
         fir: fir(*taps, *tap_count, *factor, *fir_delay, *wait),
         half_band: stream(*depth, *delays, *held, *counts),
-        resampler: resampler(*phases, *phase_taps, *mu, *step, *delay, *prototype),
+        resampler: resampler(
+            *phases,
+            *phase_taps,
+            is_set(*straight),
+            *mu,
+            *step,
+            *delay,
+            *prototype,
+        ),
+        cuts: *cuts,
     };
     let opened = line.reset();
     let next = opened.line;
@@ -158,11 +185,13 @@ pub extern "C" fn gauge_raw_line_reset(
         next.resampler,
         phases,
         phase_taps,
+        straight,
         mu,
         step,
         delay,
         prototype,
     );
+    *cuts = next.cuts;
     let answer = opened.answer;
     opening_number(answer)
 }
@@ -186,10 +215,12 @@ pub extern "C" fn gauge_raw_line_step(
     counts: &mut [usize; MOST_STAGES],
     phases: &mut usize,
     phase_taps: &mut usize,
+    straight: &mut usize,
     mu: &mut f32,
     step: &mut f32,
     delay: &mut [f32; MOST_PHASE_TAPS],
     prototype: &mut [f32; MOST_CELLS],
+    cuts: &mut u32,
     samples: &[i32],
     at: usize,
     places: usize,
@@ -197,9 +228,12 @@ pub extern "C" fn gauge_raw_line_step(
     written: &mut usize,
     value: &mut f32,
 ) -> usize
+    ensures setting { λ n. ⌜ IsFlag (now (straight .exit)) ⌝ }
     ensures answer { λ n. ⌜ (
-        let before = lineAt entry stages r integrators combs «sample_counter» taps «tap_count» factor «fir_delay» wait depth delays held counts phases «phase_taps» mu step delay prototype in
-        let after = lineAt exit stages r integrators combs «sample_counter» taps «tap_count» factor «fir_delay» wait depth delays held counts phases «phase_taps» mu step delay prototype in
+        let before = lineAt entry stages r integrators combs «sample_counter» taps «tap_count» factor «fir_delay» wait
+        depth delays held counts phases «phase_taps» straight mu step delay prototype cuts in
+        let after = lineAt exit stages r integrators combs «sample_counter» taps «tap_count» factor «fir_delay» wait
+        depth delays held counts phases «phase_taps» straight mu step delay prototype cuts in
         record { number = n; value = (now (taken .exit), (now (written .exit), now (value .exit))); state = after }
         ≡ crossedStep (L.stepOutcome before (ltb 0 places) (headOf (drop at (now (samples .entry)))))) ⌝ }
 {
@@ -213,8 +247,10 @@ pub extern "C" fn gauge_raw_line_step(
         depth: *depth,
         phases: *phases,
         taps: *phase_taps,
+        straight: is_set(*straight),
         mu: *mu,
         step: *step,
+        cuts: *cuts,
     };
     let done = step_lent(
         n,
@@ -241,8 +277,10 @@ pub extern "C" fn gauge_raw_line_step(
     *depth = m.depth;
     *phases = m.phases;
     *phase_taps = m.taps;
+    *straight = flag(m.straight);
     *mu = m.mu;
     *step = m.step;
+    *cuts = m.cuts;
     let did = done.step;
     *taken = step_taken(did);
     *written = step_written(did);
@@ -269,26 +307,34 @@ pub extern "C" fn gauge_raw_line_feed(
     counts: &mut [usize; MOST_STAGES],
     phases: &mut usize,
     phase_taps: &mut usize,
+    straight: &mut usize,
     mu: &mut f32,
     step: &mut f32,
     delay: &mut [f32; MOST_PHASE_TAPS],
     prototype: &mut [f32; MOST_CELLS],
+    cuts: &mut u32,
     samples: &[i32],
     out: &mut [f32],
     taken: &mut usize,
     written: &mut usize,
 ) -> usize
+    ensures setting { λ n. ⌜ IsFlag (now (straight .exit)) ⌝ }
     ensures answer { λ n. ⌜ (
-        let before = lineAt entry stages r integrators combs «sample_counter» taps «tap_count» factor «fir_delay» wait depth delays held counts phases «phase_taps» mu step delay prototype in
-        let after = lineAt exit stages r integrators combs «sample_counter» taps «tap_count» factor «fir_delay» wait depth delays held counts phases «phase_taps» mu step delay prototype in
+        let before = lineAt entry stages r integrators combs «sample_counter» taps «tap_count» factor «fir_delay» wait
+        depth delays held counts phases «phase_taps» straight mu step delay prototype cuts in
+        let after = lineAt exit stages r integrators combs «sample_counter» taps «tap_count» factor «fir_delay» wait
+        depth delays held counts phases «phase_taps» straight mu step delay prototype cuts in
         let moved : Moved = record { taken = now (taken .exit); written = now (written .exit) } in
         record { number = n; value = moved; state = after } ≡ L.feedOutcome before (now (samples .entry)) (length (now (out .entry)))) ⌝ }
     ensures span { λ n. ⌜ (
-        let before = lineAt entry stages r integrators combs «sample_counter» taps «tap_count» factor «fir_delay» wait depth delays held counts phases «phase_taps» mu step delay prototype in
+        let before = lineAt entry stages r integrators combs «sample_counter» taps «tap_count» factor «fir_delay» wait
+        depth delays held counts phases «phase_taps» straight mu step delay prototype cuts in
         now (out .exit) ≡ L.feedSpan before (now (samples .entry)) (now (out .entry))) ⌝ }
     ensures demand3 { λ n. ⌜ (
-        let before = lineAt entry stages r integrators combs «sample_counter» taps «tap_count» factor «fir_delay» wait depth delays held counts phases «phase_taps» mu step delay prototype in
-        let after = lineAt exit stages r integrators combs «sample_counter» taps «tap_count» factor «fir_delay» wait depth delays held counts phases «phase_taps» mu step delay prototype in
+        let before = lineAt entry stages r integrators combs «sample_counter» taps «tap_count» factor «fir_delay» wait
+        depth delays held counts phases «phase_taps» straight mu step delay prototype cuts in
+        let after = lineAt exit stages r integrators combs «sample_counter» taps «tap_count» factor «fir_delay» wait
+        depth delays held counts phases «phase_taps» straight mu step delay prototype cuts in
         let moved : Moved = record { taken = now (taken .exit); written = now (written .exit) } in
         Demand3 before (now (samples .entry)) (now (out .entry)) (now (out .exit)) (record { number = n; value = moved; state = after })) ⌝ }
 {
@@ -302,8 +348,10 @@ pub extern "C" fn gauge_raw_line_feed(
         depth: *depth,
         phases: *phases,
         taps: *phase_taps,
+        straight: is_set(*straight),
         mu: *mu,
         step: *step,
+        cuts: *cuts,
     };
     let done = feed_lent(
         n,
@@ -329,8 +377,10 @@ pub extern "C" fn gauge_raw_line_feed(
     *depth = m.depth;
     *phases = m.phases;
     *phase_taps = m.taps;
+    *straight = flag(m.straight);
     *mu = m.mu;
     *step = m.step;
+    *cuts = m.cuts;
     let moved = done.moved;
     *taken = counts_taken(moved);
     *written = counts_written(moved);

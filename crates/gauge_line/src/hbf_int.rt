@@ -14,6 +14,7 @@ use crate::states::put_int;
 use half_band::HbfInt;
 use half_band::INT_DELAYS;
 use half_band::MOST_HALF_BAND_TAPS;
+use half_band::hbf_int::interpolate_lent;
 
 #[no_mangle]
 pub extern "C" fn gauge_raw_hbf_int_new(
@@ -87,11 +88,7 @@ pub extern "C" fn gauge_raw_hbf_int_process(
         record { number = n; value = now (written .exit); state = after } ≡ intBlock before (now (src .entry)) (length (now (dst .entry)))) ⌝ }
     ensures span { λ n. ⌜ now (dst .exit) ≡ intSpan (intAt entry m coeffs delay) (now (src .entry)) (now (dst .entry)) ⌝ }
 {
-    let state = int(*m, *coeffs, *delay);
-    let done = state.process(src, dst);
-    let next = done.state;
-    put_int(next, m, coeffs, delay);
-    let answer = done.answer;
+    let answer = interpolate_lent(*m, coeffs, delay, src, dst);
     *written = count_written(answer);
     count_number(answer)
 }

@@ -1,11 +1,13 @@
-// `PolyphaseResampF32`: phases, taps, mu, step, delay, prototype.
+// `PolyphaseResampF32`: phases, taps, straight, mu, step, delay, prototype.
 ghost use mathlib.Core.Path.{_≡_};
+ghost use mathlib.Core.Bool.{true, false};
 ghost use Rattle.float.specs.PolyphaseResamp as R;
 ghost use Rattle.float.specs.PolyphaseWhole as W;
-ghost use Rattle.gauge_line.specs.States.{entry, exit, resamplerAt};
+ghost use Rattle.gauge_line.specs.States.{entry, exit, IsFlag, resamplerAt};
 use crate::answers::count_number;
 use crate::answers::count_written;
 use crate::answers::opening_number;
+use crate::states::is_set;
 use crate::states::put_resampler;
 use crate::states::resampler;
 use float::PolyphaseResampF32;
@@ -22,17 +24,19 @@ pub extern "C" fn gauge_raw_polyphase_resamp_from_taps(
     wanted_step: f32,
     phases: &mut usize,
     taps: &mut usize,
+    straight: &mut usize,
     mu: &mut f32,
     step: &mut f32,
     delay: &mut [f32; MOST_PHASE_TAPS],
     prototype: &mut [f32; MOST_CELLS],
 ) -> usize
+    ensures setting { λ n. ⌜ IsFlag (now (straight .exit)) ⌝ }
     ensures answer { λ n. ⌜ (
-        let after = resamplerAt exit phases taps mu step delay prototype in
-        record { number = n; state = after } ≡ R.opening «wanted_phases» «wanted_taps» (now («wanted_prototype» .entry)) «wanted_step») ⌝ }
+        let after = resamplerAt exit phases taps straight mu step delay prototype in
+        record { number = n; state = after } ≡ R.opening false «wanted_phases» «wanted_taps» (now («wanted_prototype» .entry)) «wanted_step») ⌝ }
     ensures whole { λ n. ⌜ (
-        let after = resamplerAt exit phases taps mu step delay prototype in
-        W.Opens «wanted_phases» «wanted_taps» (now («wanted_prototype» .entry)) «wanted_step» (record { number = n; state = after })) ⌝ }
+        let after = resamplerAt exit phases taps straight mu step delay prototype in
+        W.Opens false «wanted_phases» «wanted_taps» (now («wanted_prototype» .entry)) «wanted_step» (record { number = n; state = after })) ⌝ }
 {
     let opened = PolyphaseResampF32::from_taps(
         wanted_phases,
@@ -41,7 +45,41 @@ pub extern "C" fn gauge_raw_polyphase_resamp_from_taps(
         wanted_step,
     );
     let next = opened.state;
-    put_resampler(next, phases, taps, mu, step, delay, prototype);
+    put_resampler(next, phases, taps, straight, mu, step, delay, prototype);
+    let answer = opened.answer;
+    opening_number(answer)
+}
+
+#[no_mangle]
+pub extern "C" fn gauge_raw_polyphase_resamp_from_taps_straight(
+    wanted_phases: usize,
+    wanted_taps: usize,
+    wanted_prototype: &[f32],
+    wanted_step: f32,
+    phases: &mut usize,
+    taps: &mut usize,
+    straight: &mut usize,
+    mu: &mut f32,
+    step: &mut f32,
+    delay: &mut [f32; MOST_PHASE_TAPS],
+    prototype: &mut [f32; MOST_CELLS],
+) -> usize
+    ensures setting { λ n. ⌜ IsFlag (now (straight .exit)) ⌝ }
+    ensures answer { λ n. ⌜ (
+        let after = resamplerAt exit phases taps straight mu step delay prototype in
+        record { number = n; state = after } ≡ R.opening true «wanted_phases» «wanted_taps» (now («wanted_prototype» .entry)) «wanted_step») ⌝ }
+    ensures whole { λ n. ⌜ (
+        let after = resamplerAt exit phases taps straight mu step delay prototype in
+        W.Opens true «wanted_phases» «wanted_taps» (now («wanted_prototype» .entry)) «wanted_step» (record { number = n; state = after })) ⌝ }
+{
+    let opened = PolyphaseResampF32::from_taps_straight(
+        wanted_phases,
+        wanted_taps,
+        wanted_prototype,
+        wanted_step,
+    );
+    let next = opened.state;
+    put_resampler(next, phases, taps, straight, mu, step, delay, prototype);
     let answer = opened.answer;
     opening_number(answer)
 }
@@ -50,24 +88,34 @@ pub extern "C" fn gauge_raw_polyphase_resamp_from_taps(
 pub extern "C" fn gauge_raw_polyphase_resamp_reset(
     phases: &mut usize,
     taps: &mut usize,
+    straight: &mut usize,
     mu: &mut f32,
     step: &mut f32,
     delay: &mut [f32; MOST_PHASE_TAPS],
     prototype: &mut [f32; MOST_CELLS],
 ) -> usize
+    ensures setting { λ n. ⌜ IsFlag (now (straight .exit)) ⌝ }
     ensures answer { λ n. ⌜ (
-        let before = resamplerAt entry phases taps mu step delay prototype in
-        let after = resamplerAt exit phases taps mu step delay prototype in
+        let before = resamplerAt entry phases taps straight mu step delay prototype in
+        let after = resamplerAt exit phases taps straight mu step delay prototype in
         record { number = n; state = after } ≡ R.reset before) ⌝ }
     ensures whole { λ n. ⌜ (
-        let before = resamplerAt entry phases taps mu step delay prototype in
-        let after = resamplerAt exit phases taps mu step delay prototype in
+        let before = resamplerAt entry phases taps straight mu step delay prototype in
+        let after = resamplerAt exit phases taps straight mu step delay prototype in
         W.Resets before (record { number = n; state = after })) ⌝ }
 {
-    let state = resampler(*phases, *taps, *mu, *step, *delay, *prototype);
+    let state = resampler(
+        *phases,
+        *taps,
+        is_set(*straight),
+        *mu,
+        *step,
+        *delay,
+        *prototype,
+    );
     let opened = state.reset();
     let next = opened.state;
-    put_resampler(next, phases, taps, mu, step, delay, prototype);
+    put_resampler(next, phases, taps, straight, mu, step, delay, prototype);
     let answer = opened.answer;
     opening_number(answer)
 }
@@ -76,6 +124,7 @@ pub extern "C" fn gauge_raw_polyphase_resamp_reset(
 pub extern "C" fn gauge_raw_polyphase_resamp_process_block(
     phases: &mut usize,
     taps: &mut usize,
+    straight: &mut usize,
     mu: &mut f32,
     step: &mut f32,
     delay: &mut [f32; MOST_PHASE_TAPS],
@@ -85,19 +134,30 @@ pub extern "C" fn gauge_raw_polyphase_resamp_process_block(
     taken: &mut usize,
     written: &mut usize,
 ) -> usize
+    ensures setting { λ n. ⌜ now (straight .exit) ≡ now (straight .entry) ⌝ }
     ensures answer { λ n. ⌜ (
-        let before = resamplerAt entry phases taps mu step delay prototype in
-        let after = resamplerAt exit phases taps mu step delay prototype in
+        let before = resamplerAt entry phases taps straight mu step delay prototype in
+        let after = resamplerAt exit phases taps straight mu step delay prototype in
         let moved : R.Counts = record { written = now (written .exit); taken = now (taken .exit) } in
         record { number = n; value = moved; state = after } ≡ R.blockOutcome before (now (src .entry)) (now (dst .entry))) ⌝ }
-    ensures span { λ n. ⌜ now (dst .exit) ≡ R.blockSpan (resamplerAt entry phases taps mu step delay prototype) (now (src .entry)) (now (dst .entry)) ⌝ }
+    ensures span { λ n. ⌜ now (dst .exit) ≡ R.blockSpan (resamplerAt entry phases taps straight mu step delay prototype) (now (src .entry)) (now (dst .entry)) ⌝ }
     ensures kept { λ n. ⌜ (
-        let before = resamplerAt entry phases taps mu step delay prototype in
-        let after = resamplerAt exit phases taps mu step delay prototype in
+        let before = resamplerAt entry phases taps straight mu step delay prototype in
+        let after = resamplerAt exit phases taps straight mu step delay prototype in
         let moved : R.Counts = record { written = now (written .exit); taken = now (taken .exit) } in
         W.BlockKept before (now (src .entry)) (now (dst .entry)) (now (dst .exit)) (record { number = n; value = moved; state = after })) ⌝ }
 {
-    let moved = block_at(*phases, *taps, *step, *mu, delay, prototype, src, dst);
+    let moved = block_at(
+        is_set(*straight),
+        *phases,
+        *taps,
+        *step,
+        *mu,
+        delay,
+        prototype,
+        src,
+        dst,
+    );
     *mu = moved.mu;
     *taken = moved.taken;
     let answer = moved.answer;
@@ -109,6 +169,7 @@ pub extern "C" fn gauge_raw_polyphase_resamp_process_block(
 pub extern "C" fn gauge_raw_polyphase_resamp_push(
     phases: &mut usize,
     taps: &mut usize,
+    straight: &mut usize,
     mu: &mut f32,
     step: &mut f32,
     delay: &mut [f32; MOST_PHASE_TAPS],
@@ -117,17 +178,28 @@ pub extern "C" fn gauge_raw_polyphase_resamp_push(
     out: &mut [f32],
     written: &mut usize,
 ) -> usize
+    ensures setting { λ n. ⌜ now (straight .exit) ≡ now (straight .entry) ⌝ }
     ensures answer { λ n. ⌜ (
-        let before = resamplerAt entry phases taps mu step delay prototype in
-        let after = resamplerAt exit phases taps mu step delay prototype in
+        let before = resamplerAt entry phases taps straight mu step delay prototype in
+        let after = resamplerAt exit phases taps straight mu step delay prototype in
         record { number = n; value = now (written .exit); state = after } ≡ R.pushOutcome before x (now (out .entry))) ⌝ }
-    ensures span { λ n. ⌜ now (out .exit) ≡ R.pushSpan (resamplerAt entry phases taps mu step delay prototype) x (now (out .entry)) ⌝ }
+    ensures span { λ n. ⌜ now (out .exit) ≡ R.pushSpan (resamplerAt entry phases taps straight mu step delay prototype) x (now (out .entry)) ⌝ }
     ensures kept { λ n. ⌜ (
-        let before = resamplerAt entry phases taps mu step delay prototype in
-        let after = resamplerAt exit phases taps mu step delay prototype in
+        let before = resamplerAt entry phases taps straight mu step delay prototype in
+        let after = resamplerAt exit phases taps straight mu step delay prototype in
         W.PushKept before x (now (out .entry)) (now (out .exit)) (record { number = n; value = now (written .exit); state = after })) ⌝ }
 {
-    let pushed = push_at(*phases, *taps, *step, *mu, delay, prototype, x, out);
+    let pushed = push_at(
+        is_set(*straight),
+        *phases,
+        *taps,
+        *step,
+        *mu,
+        delay,
+        prototype,
+        x,
+        out,
+    );
     *mu = pushed.mu;
     let answer = pushed.answer;
     *written = count_written(answer);

@@ -2,10 +2,13 @@
 ghost use mathlib.Core.Path.{_≡_};
 ghost use Rattle.integer.specs.CicDecimator.{decimatorOf};
 ghost use Rattle.integer.specs.CicInterpolator.{interpolatorOf};
+ghost use Rattle.nonrecursive.specs.NonrecursiveDecimator.{nonrecursiveOf};
 ghost use Rattle.q15.specs.FirDecimator.{firState};
 ghost use Rattle.half_band.specs.HbfStream.{streamOf};
 ghost use Rattle.float.specs.PolyphaseResamp.{together};
-ghost use Rattle.gauge_line.specs.States.{exit, decimatorAt, interpolatorAt, firAt, decAt, intAt, decCascadeAt, intCascadeAt, streamAt, resamplerAt};
+ghost use Rattle.linear_phase.specs.LinearPhaseFir.{phaseOf};
+ghost use Rattle.gauge_line.specs.Crossing.{isSet, flagOf};
+ghost use Rattle.gauge_line.specs.States.{exit, decimatorAt, nonrecursiveAt, interpolatorAt, firAt, decAt, intAt, decCascadeAt, intCascadeAt, streamAt, IsFlag, resamplerAt};
 use float::PolyphaseResampF32;
 use float::polyphase_resamp::MOST_CELLS;
 use float::polyphase_resamp::MOST_TAPS as MOST_PHASE_TAPS;
@@ -23,6 +26,11 @@ use half_band::MOST_STAGES;
 use integer::CicDecimator;
 use integer::CicInterpolator;
 use integer::limits::MAX_STAGES;
+use linear_phase::LINEAR_PHASE_DELAYS;
+use linear_phase::LinearPhaseFir;
+use linear_phase::MOST_LINEAR_PHASE_TAPS;
+use nonrecursive::NonrecursiveDecimator;
+use nonrecursive::nonrecursive_decimator::MAX_NEIGHBOURS;
 use q15::FirDecimator;
 use q15::MOST_TAPS;
 
@@ -61,6 +69,38 @@ pub(crate) fn put_decimator(
     *integrators = next_integrators;
     *combs = next_combs;
     *sample_counter = next.sample_counter;
+}
+
+pub(crate) fn nonrecursive(
+    stages: usize,
+    r: usize,
+    neighbours: [i32; MAX_NEIGHBOURS],
+    place: usize,
+) -> NonrecursiveDecimator
+    ensures { λ s. ⌜ s ≡ nonrecursiveOf stages r neighbours place ⌝ }
+{
+    NonrecursiveDecimator {
+        stages,
+        r,
+        neighbours,
+        place,
+    }
+}
+
+pub(crate) fn put_nonrecursive(
+    next: NonrecursiveDecimator,
+    stages: &mut usize,
+    r: &mut usize,
+    neighbours: &mut [i32; MAX_NEIGHBOURS],
+    place: &mut usize,
+)
+    ensures { λ _. ⌜ nonrecursiveAt exit stages r neighbours place ≡ next ⌝ }
+{
+    let next_neighbours = next.neighbours;
+    *stages = next.stages;
+    *r = next.r;
+    *neighbours = next_neighbours;
+    *place = next.place;
 }
 
 pub(crate) fn interpolator(
@@ -245,19 +285,38 @@ pub(crate) fn put_stream(
     *counts = next_counts;
 }
 
+// A yes or a no crosses as a number: 0 is no, any other is yes.
+pub(crate) fn is_set(n: usize) -> bool
+    ensures { λ r. ⌜ r ≡ isSet n ⌝ }
+{
+    n != 0
+}
+
+// The number that is written for it.
+pub(crate) fn flag(yes: bool) -> usize
+    ensures { λ n. ⌜ n ≡ flagOf yes ⌝ }
+{
+    if yes {
+        return 1;
+    }
+    0
+}
+
 pub(crate) fn resampler(
     phases: usize,
     taps: usize,
+    straight: bool,
     mu: f32,
     step: f32,
     delay: [f32; MOST_PHASE_TAPS],
     prototype: [f32; MOST_CELLS],
 ) -> PolyphaseResampF32
-    ensures { λ s. ⌜ s ≡ together phases taps mu step delay prototype ⌝ }
+    ensures { λ s. ⌜ s ≡ together straight phases taps mu step delay prototype ⌝ }
 {
     PolyphaseResampF32 {
         phases,
         taps,
+        straight,
         mu,
         step,
         delay,
@@ -269,19 +328,56 @@ pub(crate) fn put_resampler(
     next: PolyphaseResampF32,
     phases: &mut usize,
     taps: &mut usize,
+    straight: &mut usize,
     mu: &mut f32,
     step: &mut f32,
     delay: &mut [f32; MOST_PHASE_TAPS],
     prototype: &mut [f32; MOST_CELLS],
 )
-    ensures { λ _. ⌜ resamplerAt exit phases taps mu step delay prototype ≡ next ⌝ }
+    ensures state { λ _. ⌜ resamplerAt exit phases taps straight mu step delay prototype ≡ next ⌝ }
+    ensures setting { λ _. ⌜ IsFlag (now (straight .exit)) ⌝ }
 {
     let next_delay = next.delay;
     let next_prototype = next.prototype;
     *phases = next.phases;
     *taps = next.taps;
+    *straight = flag(next.straight);
     *mu = next.mu;
     *step = next.step;
     *delay = next_delay;
     *prototype = next_prototype;
+}
+
+pub(crate) fn phase(
+    m: usize,
+    odd: bool,
+    antisymmetric: bool,
+    taps: [f32; MOST_LINEAR_PHASE_TAPS],
+    delay: [f32; LINEAR_PHASE_DELAYS],
+) -> LinearPhaseFir
+    ensures { λ s. ⌜ s ≡ phaseOf m odd antisymmetric taps delay ⌝ }
+{
+    LinearPhaseFir {
+        m,
+        odd,
+        antisymmetric,
+        taps,
+        delay,
+    }
+}
+
+// All but the kind.
+pub(crate) fn put_phase(
+    next: LinearPhaseFir,
+    m: &mut usize,
+    taps: &mut [f32; MOST_LINEAR_PHASE_TAPS],
+    delay: &mut [f32; LINEAR_PHASE_DELAYS],
+)
+    ensures { λ _. ⌜ phaseOf (now (m .exit)) (next .odd) (next .antisymmetric) (now (taps .exit)) (now (delay .exit)) ≡ next ⌝ }
+{
+    let next_taps = next.taps;
+    let next_delay = next.delay;
+    *m = next.m;
+    *taps = next_taps;
+    *delay = next_delay;
 }

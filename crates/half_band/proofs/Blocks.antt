@@ -61,6 +61,10 @@ emitted-rest {B = B} f s v d₀ t d i k q j z h =
     ∙ getD-drop k d₀ (j - k) z
     ∙ ap (λ (n : ℕ). getD d₀ n z) b
 
+pub emitted-behind :
+    {S A B : Type 0} (f : Section S A B) (s : S) (v : List A) (d₀ : List B) (t : S) (d : List B) (i k : ℕ) → Emitted f s v d₀ t d i k → drop k d ≡ drop k d₀
+emitted-behind f s v d₀ t d i k q = ap (drop k) (q .span-is) ∙ drop-at (outs f s (take i v)) (drop k d₀) k (q .count-is)
+
 -- m values more, and their c outputs put behind those that are there
 pub emitted-many :
     {S A B : Type 0} (f : Section S A B) (s : S) (v : List A) (d₀ : List B) (t : S) (d : List B) (i k : ℕ) → Emitted f s v d₀ t d i k

@@ -4,7 +4,6 @@ use mathlib.Core.Bool.{false}
 use mathlib.Core.List.{List, [], _∷_, _++_}
 use Prim.Native.Nat.{ℕ, _-_, _*_, _/_, _≤_, min}
 use native.Mathlib.Omega.{arith}
-use lib.Dec.{lit≤}
 use lib.ListN.{length, take, drop, replicate}
 use lib.Seq.{take-at}
 use lib.Ieee.{Float}
@@ -27,11 +26,14 @@ use Rattle.half_band.proofs.WholeLists.{decimator-whole}
 abbrev pub Usable : HbfDec → Type 0
 Usable d = stored.Usable 96 (d .m) (d .coeffs) (d .delay)
 
+room : (d : HbfDec) → Usable d → 4 * d .m ≤ 96
+room d u = omega (arith, u .most)
+
 pub taps-long : (d : HbfDec) → Usable d → length (decTaps d) ≡ d .m
-taps-long d u = stored.taps-long 4 96 (d .m) (d .coeffs) (d .delay) u (lit≤ tt)
+taps-long d u = stored.taps-long (4 * d .m) 96 (d .m) (d .coeffs) (d .delay) u (room d u)
 
 pub window-long : (d : HbfDec) → Usable d → length (decWindow d) ≡ 4 * d .m
-window-long d u = stored.window-long 4 96 (d .m) (d .coeffs) (d .delay) u (lit≤ tt)
+window-long d u = stored.window-long (4 * d .m) 96 (d .m) (d .coeffs) (d .delay) u (room d u)
 
 abbrev build : ℕ → List Float → List Float → HbfDec
 build m c d = record { m = m; coeffs = c; delay = d }
@@ -43,11 +45,11 @@ module _ (d : HbfDec) (u : Usable d) where
 
   pub outs-window : (p : List (Float × Float)) → outs hbfDec d p ≡ outs (decimator (decTaps d)) (decWindow d) p
   unfolding hbfDec decNext decOut decimator
-  outs-window p = stored.outs-stored 4 96 (d .m) (d .coeffs) (d .delay) u (lit≤ tt) build hbfDec decimator (λ t a. refl) (λ t a. refl) kept p
+  outs-window p = stored.outs-stored (4 * d .m) 96 (d .m) (d .coeffs) (d .delay) u (room d u) build hbfDec decimator (λ t a. refl) (λ t a. refl) kept p
 
   pub state-window : (p : List (Float × Float)) → state hbfDec d p ≡ withDecWindow d (state (decimator (decTaps d)) (decWindow d) p)
   unfolding hbfDec decNext decOut decimator
-  state-window p = stored.state-stored 4 96 (d .m) (d .coeffs) (d .delay) u (lit≤ tt) build hbfDec decimator (λ t a. refl) (λ t a. refl) kept p
+  state-window p = stored.state-stored (4 * d .m) 96 (d .m) (d .coeffs) (d .delay) u (room d u) build hbfDec decimator (λ t a. refl) (λ t a. refl) kept p
 
   -- a block of n pairs that is not refused
   module _ (v span : List Float) (n : ℕ) (fine : decRefused d ≡ false) (in-limits : samplesRefused (length v) (length span) ≡ false) (count : n ≡ min (length span) (length v / 2)) where

@@ -13,11 +13,11 @@ use Rattle.half_band.specs.HalfBand.{earlier}
 use Rattle.float.specs.F32.{zero32}
 use Rattle.half_band.specs.Windows.{slid}
 
-before-start : (v : List Float) (n k : ℕ) → n < k → earlier v n k ≡ zero32
+pub before-start : (v : List Float) (n k : ℕ) → n < k → earlier v n k ≡ zero32
 unfolding earlier
 before-start v n k h = ap (λ (b : Bool). cond b zero32 (getD v (n - k) nan)) (lt-ltb n k h)
 
-since-start : (v : List Float) (n k : ℕ) → k ≤ n → earlier v n k ≡ getD v (n - k) nan
+pub since-start : (v : List Float) (n k : ℕ) → k ≤ n → earlier v n k ≡ getD v (n - k) nan
 unfolding earlier
 since-start v n k h = ap (λ (b : Bool). cond b zero32 (getD v (n - k) nan)) (le-ltb n k h)
 

@@ -4,7 +4,6 @@ use mathlib.Core.Bool.{false}
 use mathlib.Core.List.{List, [], _∷_, _++_}
 use Prim.Native.Nat.{ℕ, _-_, _*_, _/_, _≤_, min}
 use native.Mathlib.Omega.{arith}
-use lib.Dec.{lit≤}
 use lib.ListN.{length, take, drop, replicate}
 use lib.Seq.{take-at}
 use lib.Ieee.{Float}
@@ -28,11 +27,14 @@ use Rattle.half_band.proofs.WholeLists.{interpolator-whole}
 abbrev pub Usable : HbfInt → Type 0
 Usable d = stored.Usable 48 (d .m) (d .coeffs) (d .delay)
 
+room : (d : HbfInt) → Usable d → 2 * d .m ≤ 48
+room d u = omega (arith, u .most)
+
 pub taps-long : (d : HbfInt) → Usable d → length (intTaps d) ≡ d .m
-taps-long d u = stored.taps-long 2 48 (d .m) (d .coeffs) (d .delay) u (lit≤ tt)
+taps-long d u = stored.taps-long (2 * d .m) 48 (d .m) (d .coeffs) (d .delay) u (room d u)
 
 pub window-long : (d : HbfInt) → Usable d → length (intWindow d) ≡ 2 * d .m
-window-long d u = stored.window-long 2 48 (d .m) (d .coeffs) (d .delay) u (lit≤ tt)
+window-long d u = stored.window-long (2 * d .m) 48 (d .m) (d .coeffs) (d .delay) u (room d u)
 
 abbrev build : ℕ → List Float → List Float → HbfInt
 build m c d = record { m = m; coeffs = c; delay = d }
@@ -44,11 +46,11 @@ module _ (d : HbfInt) (u : Usable d) where
 
   pub outs-window : (v : List Float) → outs hbfInt d v ≡ outs (interpolator (intTaps d)) (intWindow d) v
   unfolding hbfInt intNext intOut interpolator
-  outs-window v = stored.outs-stored 2 48 (d .m) (d .coeffs) (d .delay) u (lit≤ tt) build hbfInt interpolator (λ t a. refl) (λ t a. refl) kept v
+  outs-window v = stored.outs-stored (2 * d .m) 48 (d .m) (d .coeffs) (d .delay) u (room d u) build hbfInt interpolator (λ t a. refl) (λ t a. refl) kept v
 
   pub state-window : (v : List Float) → state hbfInt d v ≡ withIntWindow d (state (interpolator (intTaps d)) (intWindow d) v)
   unfolding hbfInt intNext intOut interpolator
-  state-window v = stored.state-stored 2 48 (d .m) (d .coeffs) (d .delay) u (lit≤ tt) build hbfInt interpolator (λ t a. refl) (λ t a. refl) kept v
+  state-window v = stored.state-stored (2 * d .m) 48 (d .m) (d .coeffs) (d .delay) u (room d u) build hbfInt interpolator (λ t a. refl) (λ t a. refl) kept v
 
   -- a block of n samples that is not refused
   module _ (v span : List Float) (n : ℕ) (fine : intRefused d ≡ false) (in-limits : samplesRefused (length v) (length span) ≡ false) (count : n ≡ min (length v) (length span / 2)) where

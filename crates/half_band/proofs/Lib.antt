@@ -1,4 +1,5 @@
 pub mod Decimals
+pub mod Decimals98
 pub mod StageTables
 pub mod Choices
 pub mod Filling

@@ -19,6 +19,10 @@ use Rattle.half_band.specs.declared.hbf_int.HbfIntOut.{HbfIntOut}
 use Rattle.half_band.specs.declared.hbf_int.HbfIntOut.the-variants.{Values, Refused}
 use Rattle.half_band.specs.declared.hbf_int.HbfIntStep.{HbfIntStep}
 
+-- a state of its parts
+abbrev pub intOf : ℕ → List Float → List Float → HbfInt
+intOf m coeffs delay = record { m = m; coeffs = coeffs; delay = delay }
+
 -- the M taps and the last 2M samples; what lies behind them is not looked at
 abbrev pub intTaps : HbfInt → List Float
 intTaps d = take (d .m) (d .coeffs)

@@ -1,4 +1,5 @@
 pub mod HbfTaps
+pub mod HbfTaps98
 pub mod HalfBand
 pub mod Windows
 pub mod Limits

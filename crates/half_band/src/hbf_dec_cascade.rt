@@ -9,13 +9,17 @@ ghost use Rattle.refusal.specs.Outcome.{openingNumber};
 ghost use Rattle.half_band.specs.Answers.{toldOpening, toldCount};
 ghost use Rattle.float.specs.F32.{zero32};
 ghost use Rattle.half_band.specs.HbfTaps.{stageTaps, decimation};
+ghost use Rattle.half_band.specs.HbfTaps98.{decimation98, tableOf};
 ghost use Rattle.half_band.specs.Windows.{pairs, decimator, spliced};
-ghost use Rattle.half_band.specs.HbfStream.{hbfStream, streamOf};
-ghost use Rattle.half_band.specs.HbfDecCascade.{decCascadeFresh, decCascadeOpening, decCascadeReset, decCascadeBlock, decCascadeSpan, DecCascadeMeets};
+ghost use Rattle.half_band.specs.HbfStream.{stream, streamOf};
+ghost use Rattle.half_band.specs.HbfDecCascade.{cascadeOf, decCascadeFresh, decCascadeOpening, decCascadeReset, blockBy, spanBy, decCascadeBlock, decCascadeSpan, DecCascadeMeets};
 use crate::half_band::TAPE;
 use crate::half_band::decimate_in_place;
 use crate::half_band::on_tape;
 use crate::hbf_taps::HBF_TAPS;
+use crate::hbf_taps::HBF_TAPS_98;
+use crate::hbf_taps::HbfTable;
+use crate::hbf_taps::decimation_98_stage;
 use crate::hbf_taps::decimation_stage;
 use crate::limits::DEC_CASCADE_DELAYS;
 use crate::limits::DEC_DELAYS;
@@ -45,8 +49,8 @@ pub struct HbfDecCascadeBlock {
     pub state: HbfDecCascade,
 }
 
-// The first 2n values of the span go through stage k, and their outputs stand in front of it.
-fn decimate_stage(k: usize, delays: &mut [f32], span: &mut [f32], n: usize)
+// The first 2n values of the span go through stage k of the 140 dB table, and their outputs stand in front of it.
+fn decimate_stage_140(k: usize, delays: &mut [f32], span: &mut [f32], n: usize)
     requires { ⌜ (k < 5) × (length (now delays) ≡ 480) × (2 * n ≤ length (now span)) ⌝ }
     ensures { λ _. ⌜ (now (delays .exit) ≡ spliced (96 * k) (4 * length (stageTaps decimation k)) (state (decimator (stageTaps decimation k)) (take (4 * length (stageTaps decimation k)) (drop (96 * k) (now (delays .entry)))) (pairs (take (2 * n) (now (span .entry))))) (now (delays .entry))) × (now (span .exit) ≡ outs (decimator (stageTaps decimation k)) (take (4 * length (stageTaps decimation k)) (drop (96 * k) (now (delays .entry)))) (pairs (take (2 * n) (now (span .entry)))) ++ drop n (now (span .entry))) ⌝ }
 {
@@ -58,35 +62,72 @@ fn decimate_stage(k: usize, delays: &mut [f32], span: &mut [f32], n: usize)
     decimate_in_place(&mut delays[from..past], &HBF_TAPS[first..end], span, n)
 }
 
+// The first 2n values of the span go through stage k of the 98 dB table.
+fn decimate_stage_98(k: usize, delays: &mut [f32], span: &mut [f32], n: usize)
+    requires { ⌜ (k < 5) × (length (now delays) ≡ 480) × (2 * n ≤ length (now span)) ⌝ }
+    ensures { λ _. ⌜ (now (delays .exit) ≡ spliced (96 * k) (4 * length (stageTaps decimation98 k)) (state (decimator (stageTaps decimation98 k)) (take (4 * length (stageTaps decimation98 k)) (drop (96 * k) (now (delays .entry)))) (pairs (take (2 * n) (now (span .entry))))) (now (delays .entry))) × (now (span .exit) ≡ outs (decimator (stageTaps decimation98 k)) (take (4 * length (stageTaps decimation98 k)) (drop (96 * k) (now (delays .entry)))) (pairs (take (2 * n) (now (span .entry)))) ++ drop n (now (span .entry))) ⌝ }
+{
+    let taps = decimation_98_stage(k);
+    let first = taps.first;
+    let end = first + taps.count;
+    let from = DEC_DELAYS * k;
+    let past = from + 4 * taps.count;
+    decimate_in_place(&mut delays[from..past], &HBF_TAPS_98[first..end], span, n)
+}
+
+// The first 2n values of the span go through stage k, and their outputs stand in front of it.
+fn decimate_stage(k: usize, delays: &mut [f32], span: &mut [f32], n: usize, table: HbfTable)
+    requires { ⌜ (k < 5) × (length (now delays) ≡ 480) × (2 * n ≤ length (now span)) ⌝ }
+    ensures { λ _. ⌜ (now (delays .exit) ≡ spliced (96 * k) (4 * length (stageTaps (tableOf table) k)) (state (decimator (stageTaps (tableOf table) k)) (take (4 * length (stageTaps (tableOf table) k)) (drop (96 * k) (now (delays .entry)))) (pairs (take (2 * n) (now (span .entry))))) (now (delays .entry))) × (now (span .exit) ≡ outs (decimator (stageTaps (tableOf table) k)) (take (4 * length (stageTaps (tableOf table) k)) (drop (96 * k) (now (delays .entry)))) (pairs (take (2 * n) (now (span .entry)))) ++ drop n (now (span .entry))) ⌝ }
+{
+    match table {
+        HbfTable::Db140 => decimate_stage_140(k, delays, span, n),
+        HbfTable::Db98 => decimate_stage_98(k, delays, span, n),
+    }
+}
+
 // So many frames of the span go through the stages, and an output of each stands in front of it.
-fn decimate_stages(depth: usize, delays: &mut [f32], span: &mut [f32], frames: usize)
+fn decimate_stages(
+    depth: usize,
+    delays: &mut [f32],
+    span: &mut [f32],
+    frames: usize,
+    table: HbfTable,
+)
     requires { ⌜ (depth ≤ 5) × (length (now delays) ≡ 480) × (frames * 2 ^ depth ≤ length (now span)) ⌝ }
-    ensures { λ _. ⌜ (streamOf depth (now (delays .exit)) (replicate 5 zero32) (replicate 5 0) ≡ state hbfStream (streamOf depth (now (delays .entry)) (replicate 5 zero32) (replicate 5 0)) (take (frames * 2 ^ depth) (now (span .entry)))) × (take frames (now (span .exit)) ≡ outs hbfStream (streamOf depth (now (delays .entry)) (replicate 5 zero32) (replicate 5 0)) (take (frames * 2 ^ depth) (now (span .entry)))) ⌝ }
+    ensures { λ _. ⌜ (streamOf depth (now (delays .exit)) (replicate 5 zero32) (replicate 5 0) ≡ state (stream (stageTaps (tableOf table))) (streamOf depth (now (delays .entry)) (replicate 5 zero32) (replicate 5 0)) (take (frames * 2 ^ depth) (now (span .entry)))) × (take frames (now (span .exit)) ≡ outs (stream (stageTaps (tableOf table))) (streamOf depth (now (delays .entry)) (replicate 5 zero32) (replicate 5 0)) (take (frames * 2 ^ depth) (now (span .entry)))) ⌝ }
 {
     let mut n = frames * rate_change(depth);
     let mut k = 0;
     while k < depth {
         n = n / 2;
-        decimate_stage(k, delays, span, n);
+        decimate_stage(k, delays, span, n, table);
         k += 1;
     }
 }
 
 // The frames of src, at most a tape long, go through the stages on a tape, and an output of each fills dst.
-fn decimate_on_tape(depth: usize, delays: &mut [f32], src: &[f32], dst: &mut [f32])
+fn decimate_on_tape(depth: usize, delays: &mut [f32], src: &[f32], dst: &mut [f32], table: HbfTable)
     requires { ⌜ (depth ≤ 5) × (length (now delays) ≡ 480) × (length (now src) ≡ length (now dst) * 2 ^ depth) × (length (now src) ≤ 192) ⌝ }
-    ensures { λ _. ⌜ (streamOf depth (now (delays .exit)) (replicate 5 zero32) (replicate 5 0) ≡ state hbfStream (streamOf depth (now (delays .entry)) (replicate 5 zero32) (replicate 5 0)) (now (src .entry))) × (now (dst .exit) ≡ outs hbfStream (streamOf depth (now (delays .entry)) (replicate 5 zero32) (replicate 5 0)) (now (src .entry))) ⌝ }
+    ensures { λ _. ⌜ (streamOf depth (now (delays .exit)) (replicate 5 zero32) (replicate 5 0) ≡ state (stream (stageTaps (tableOf table))) (streamOf depth (now (delays .entry)) (replicate 5 zero32) (replicate 5 0)) (now (src .entry))) × (now (dst .exit) ≡ outs (stream (stageTaps (tableOf table))) (streamOf depth (now (delays .entry)) (replicate 5 zero32) (replicate 5 0)) (now (src .entry))) ⌝ }
 {
     let frames = dst.len();
     let mut tape = on_tape(src);
-    decimate_stages(depth, delays, &mut tape, frames);
+    decimate_stages(depth, delays, &mut tape, frames, table);
     put_at_end(dst, &tape[..frames]);
 }
 
 // So many frames of src go through the stages, and an output of each stands in front of dst.
-fn decimate_frames(depth: usize, delays: &mut [f32], src: &[f32], dst: &mut [f32], frames: usize)
+fn decimate_frames(
+    depth: usize,
+    delays: &mut [f32],
+    src: &[f32],
+    dst: &mut [f32],
+    frames: usize,
+    table: HbfTable,
+)
     requires { ⌜ (depth ≤ 5) × (length (now delays) ≡ 480) × (frames * 2 ^ depth ≤ length (now src)) × (frames ≤ length (now dst)) × (length (now src) ≤ 65536) ⌝ }
-    ensures { λ _. ⌜ (streamOf depth (now (delays .exit)) (replicate 5 zero32) (replicate 5 0) ≡ state hbfStream (streamOf depth (now (delays .entry)) (replicate 5 zero32) (replicate 5 0)) (take (frames * 2 ^ depth) (now (src .entry)))) × (now (dst .exit) ≡ outs hbfStream (streamOf depth (now (delays .entry)) (replicate 5 zero32) (replicate 5 0)) (take (frames * 2 ^ depth) (now (src .entry))) ++ drop frames (now (dst .entry))) ⌝ }
+    ensures { λ _. ⌜ (streamOf depth (now (delays .exit)) (replicate 5 zero32) (replicate 5 0) ≡ state (stream (stageTaps (tableOf table))) (streamOf depth (now (delays .entry)) (replicate 5 zero32) (replicate 5 0)) (take (frames * 2 ^ depth) (now (src .entry)))) × (now (dst .exit) ≡ outs (stream (stageTaps (tableOf table))) (streamOf depth (now (delays .entry)) (replicate 5 zero32) (replicate 5 0)) (take (frames * 2 ^ depth) (now (src .entry))) ++ drop frames (now (dst .entry))) ⌝ }
 {
     let factor = rate_change(depth);
     let most = TAPE / factor;
@@ -95,16 +136,44 @@ fn decimate_frames(depth: usize, delays: &mut [f32], src: &[f32], dst: &mut [f32
         let end = smaller(done + most, frames);
         let from = done * factor;
         let past = end * factor;
-        decimate_on_tape(depth, delays, &src[from..past], &mut dst[done..end]);
+        decimate_on_tape(depth, delays, &src[from..past], &mut dst[done..end], table);
         done = end;
     }
 }
 
-fn fresh(depth: usize) -> HbfDecCascade
+pub(crate) fn fresh(depth: usize) -> HbfDecCascade
     ensures { λ r. ⌜ r ≡ decCascadeFresh depth ⌝ }
 {
     let delays = [0.0f32; DEC_CASCADE_DELAYS];
     HbfDecCascade { depth, delays }
+}
+
+// The whole frames of src, as many as dst has places; the rest is left unread. Refusals 15, 7.
+pub(crate) fn decimate_lent(
+    depth: usize,
+    delays: &mut [f32],
+    src: &[f32],
+    dst: &mut [f32],
+    table: HbfTable,
+) -> Count
+    requires { ⌜ length (now delays) ≡ 480 ⌝ }
+    ensures answer { λ r. ⌜ (
+        let before = cascadeOf depth (now (delays .entry)) in
+        let after = cascadeOf depth (now (delays .exit)) in
+        toldCount r after ≡ blockBy (stageTaps (tableOf table)) before (now (src .entry)) (length (now (dst .entry)))) ⌝ }
+    ensures span { λ r. ⌜ (
+        let before = cascadeOf depth (now (delays .entry)) in
+        now (dst .exit) ≡ spanBy (stageTaps (tableOf table)) before (now (src .entry)) (now (dst .entry))) ⌝ }
+{
+    if outside(depth, 1, MOST_STAGES) {
+        return Count::Refused(Refusal::State);
+    }
+    if samples_refused(src.len(), dst.len()) {
+        return Count::Refused(Refusal::Samples);
+    }
+    let frames = smaller(dst.len(), src.len() / rate_change(depth));
+    decimate_frames(depth, delays, src, dst, frames, table);
+    Count::Written(frames)
 }
 
 impl HbfDecCascade {
@@ -132,25 +201,11 @@ impl HbfDecCascade {
         ensures answer { λ r. ⌜ toldCount (r .answer) (r .state) ≡ decCascadeBlock self (now (src .entry)) (length (now (dst .entry))) ⌝ }
         ensures span { λ r. ⌜ now (dst .exit) ≡ decCascadeSpan self (now (src .entry)) (now (dst .entry)) ⌝ }
     {
-        let depth = self.depth;
-        if outside(depth, 1, MOST_STAGES) {
-            return HbfDecCascadeBlock {
-                answer: Count::Refused(Refusal::State),
-                state: self,
-            };
-        }
-        if samples_refused(src.len(), dst.len()) {
-            return HbfDecCascadeBlock {
-                answer: Count::Refused(Refusal::Samples),
-                state: self,
-            };
-        }
-        let frames = smaller(dst.len(), src.len() / rate_change(depth));
         let mut delays = self.delays;
-        decimate_frames(depth, &mut delays, src, dst, frames);
+        let answer = decimate_lent(self.depth, &mut delays, src, dst, HbfTable::Db140);
         self.delays = delays;
         HbfDecCascadeBlock {
-            answer: Count::Written(frames),
+            answer,
             state: self,
         }
     }

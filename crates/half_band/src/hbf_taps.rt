@@ -2,6 +2,7 @@
 ghost use mathlib.Core.Path.{_≡_};
 ghost use Prim.Native.Nat.{_<_};
 ghost use Rattle.half_band.specs.HbfTaps.{hbfTaps, decimation, interpolation, PlaceOf};
+ghost use Rattle.half_band.specs.HbfTaps98.{hbfTaps98, decimation98};
 use crate::limits::MOST_STAGES;
 
 pub const HBF_TAPS: [f32; 45] = [
@@ -52,6 +53,45 @@ pub const HBF_TAPS: [f32; 45] = [
     0.58622005,
 ];
 
+// 02, §11: the 98 dB taps of the Rust, one table: 15 taps from 0 on, 6 from 15, 3 from 21, 3 from 24 and 2 from 27.
+pub const HBF_TAPS_98: [f32; 29] = [
+    7.02144012e-05,
+    -2.43279582e-04,
+    6.35026936e-04,
+    -1.39782541e-03,
+    2.74613582e-03,
+    -4.96403839e-03,
+    8.41806912e-03,
+    -1.35827601e-02,
+    2.11004053e-02,
+    -3.19267647e-02,
+    4.77024289e-02,
+    -7.18014345e-02,
+    1.12942004e-01,
+    -2.03279594e-01,
+    6.33592923e-01,
+    -0.00086943,
+    0.00577837,
+    -0.02201674,
+    0.06357869,
+    -0.16627679,
+    0.61979312,
+    0.01414651,
+    -0.10439639,
+    0.59026742,
+    0.01227974,
+    -0.09930782,
+    0.58702834,
+    -0.06291796,
+    0.5629161,
+];
+
+// The table that a cascade runs.
+pub(crate) enum HbfTable {
+    Db140,
+    Db98,
+}
+
 // Where a stage's taps begin in the table, and how many they are.
 pub(crate) struct StageTaps {
     pub first: usize,
@@ -70,6 +110,21 @@ pub(crate) fn decimation_stage(k: usize) -> StageTaps
     StageTaps {
         first: DECIMATION_STARTS[k],
         count: DECIMATION_LENGTHS[k],
+    }
+}
+
+// The stages of a decimation with the 98 dB taps, from the highest rate on.
+const DECIMATION_98_STARTS: [usize; MOST_STAGES] = [27, 24, 21, 15, 0];
+
+const DECIMATION_98_LENGTHS: [usize; MOST_STAGES] = [2, 3, 3, 6, 15];
+
+pub(crate) fn decimation_98_stage(k: usize) -> StageTaps
+    requires { ⌜ k < 5 ⌝ }
+    ensures { λ r. ⌜ PlaceOf decimation98 k (r .first) (r .count) ⌝ }
+{
+    StageTaps {
+        first: DECIMATION_98_STARTS[k],
+        count: DECIMATION_98_LENGTHS[k],
     }
 }
 
@@ -93,4 +148,11 @@ pub fn hbf_tap_table() -> [f32; 45]
     ensures { λ r. ⌜ r ≡ hbfTaps ⌝ }
 {
     HBF_TAPS
+}
+
+// The 98 dB table, each entry the f32 nearest to its printed decimal.
+pub fn hbf_tap_table_98() -> [f32; 29]
+    ensures { λ r. ⌜ r ≡ hbfTaps98 ⌝ }
+{
+    HBF_TAPS_98
 }

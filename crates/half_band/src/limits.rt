@@ -18,7 +18,7 @@ pub const DEC_CASCADE_DELAYS: usize = MOST_STAGES * DEC_DELAYS;
 pub const INT_CASCADE_DELAYS: usize = MOST_STAGES * INT_DELAYS;
 
 // The depths of a cascade, from 0 on.
-pub(crate) const DEPTHS: usize = MOST_STAGES + 1;
+pub const DEPTHS: usize = MOST_STAGES + 1;
 
 // The pairs of n samples or places; an odd last one is in none.
 pub(crate) fn pairs_in(n: usize) -> usize

@@ -9,6 +9,7 @@ pub mod Hogenauer
 pub mod Towers
 pub mod Decimating
 pub mod Streaming
+pub mod ExactSums
 pub mod Blocking
 pub mod Stuffing
 pub mod Filling

@@ -4,5 +4,6 @@ pub mod Gain
 pub mod Opening
 pub mod MovingSums
 pub mod CicDecimator
+pub mod ExactSums
 pub mod CicInterpolator
 pub mod Readings

@@ -4,18 +4,23 @@ ghost use mathlib.Core.Bool.{true};
 ghost use Prim.Native.Nat.{_+_, _-_, _*_, _^_, _≤_, _<_};
 ghost use lib.Dec.{ltb};
 ghost use lib.ListN.{length};
+ghost use Rattle.theory.specs.Sections.{outs};
 ghost use Rattle.theory.proofs.Machines.{Lawful};
 ghost use Rattle.theory.proofs.FeedLoop.{Midway};
 ghost use Rattle.refusal.specs.Table.{numberOf};
 ghost use Rattle.refusal.specs.Outcome.{openingNumber};
 ghost use Rattle.integer.specs.Opening.{opening, onState};
 ghost use Rattle.integer.specs.Gain.{gainOf, gainBits, toldGain, toldBits, Least};
+ghost use Rattle.integer.specs.ExactSums.{ExactSums, ExactWithin, exactRange, toldRange};
 ghost use Rattle.integer.specs.CicDecimator as D;
+use crate::exact_range::ExactRange;
+use crate::exact_range::range_of;
 use crate::gain::Gain;
 use crate::gain::GainBits;
 use crate::gain::bits_of;
 use crate::gain::gain_of;
 use crate::gain::scaled;
+use crate::limits::MAX_BITS;
 use crate::limits::MAX_STAGES;
 use crate::limits::factor_ok;
 use crate::limits::least;
@@ -27,9 +32,6 @@ use crate::stages::run_on;
 use refusal::Counts;
 use refusal::Opening;
 use refusal::Refusal;
-
-// 01, section 1: "for g up to 31".
-const MAX_BITS: u32 = 31;
 
 pub struct CicDecimator {
     pub stages: usize,
@@ -105,7 +107,7 @@ pub fn valid(stages: usize, r: usize, sample_counter: usize) -> bool
 }
 
 // Whether the next sample completes no sum.
-fn waits(sample_counter: usize, r: usize) -> bool
+pub fn waits(sample_counter: usize, r: usize) -> bool
     ensures { λ b. ⌜ b ≡ ltb («sample_counter» + 1) r ⌝ }
 {
     if r <= sample_counter {
@@ -148,7 +150,7 @@ fn refused(refusal: Refusal, state: CicDecimator) -> CicStep
     }
 }
 
-fn output_of(sum: CicSum) -> CicOutput
+pub fn output_of(sum: CicSum) -> CicOutput
     ensures { λ o. ⌜ (D.outputNumber o ≡ 0) × (D.outputSum o ≡ D.sumOf sum) ⌝ }
 {
     match sum {
@@ -157,7 +159,7 @@ fn output_of(sum: CicSum) -> CicOutput
     }
 }
 
-fn scaled_output_of(sum: CicSum, bits: u32) -> CicOutput
+pub fn scaled_output_of(sum: CicSum, bits: u32) -> CicOutput
     ensures { λ o. ⌜ (D.outputNumber o ≡ 0) × (D.outputSum o ≡ D.scaledBy bits (D.sumOf sum)) ⌝ }
 {
     match sum {
@@ -295,10 +297,11 @@ pub fn block_at(
 }
 
 impl CicDecimator {
-    // 01, section 1. The clause `stream` is Hogenauer's theorem, for every list of samples.
+    // 01, section 1. The clause `stream` is Hogenauer's theorem, for every list of samples; `exact` says of which no sum wraps.
     pub fn new(stages: usize, r: usize) -> CicOpened
         ensures answer { λ o. ⌜ D.toldOpening o ≡ opening D.fresh stages r ⌝ }
         ensures stream { λ o. ⌜ (openingNumber (o .answer) ≡ 0 → D.Streams stages r (o .state)) ⌝ }
+        ensures exact { λ o. ⌜ (openingNumber (o .answer) ≡ 0 → ExactSums stages r (outs D.decimator (o .state)) (outs D.scaledDecimator (o .state))) ⌝ }
     {
         if !stages_ok(stages) {
             return CicOpened {
@@ -337,6 +340,17 @@ impl CicDecimator {
             return GainBits::Refused(Refusal::State);
         }
         GainBits::Value(bits_of(gain_of(self.stages, self.r)))
+    }
+
+    // The samples of which every sum is exact, from the state's opening on.
+    pub fn exact_range(self) -> ExactRange
+        ensures answer { λ a. ⌜ toldRange a ≡ exactRange (D.valid self) (self .stages) (self .r) ⌝ }
+        ensures exact { λ a. ⌜ (toldRange a .number ≡ 0 → (
+            let opened = D.fresh (self .stages) (self .r) in
+            ExactWithin (toldRange a .value .least) (toldRange a .value .greatest) (self .stages) (self .r) (outs D.decimator opened) (outs D.scaledDecimator opened))) ⌝ }
+    {
+        let sound = valid(self.stages, self.r, self.sample_counter);
+        range_of(sound, self.stages, self.r)
     }
 
     pub fn process_sample(mut self, input: i32) -> CicStep

@@ -7,6 +7,9 @@ pub const MAX_STAGES: usize = 8;
 
 pub const MAX_FACTOR: usize = 4096;
 
+// The gain bits of a sum that is scaled: "for g up to 31".
+pub const MAX_BITS: u32 = 31;
+
 fn one_to(most: usize, x: usize) -> bool
     ensures { λ b. ⌜ b ≡ oneTo most x ⌝ }
 {
@@ -28,7 +31,7 @@ pub fn factor_ok(r: usize) -> bool
     one_to(MAX_FACTOR, r)
 }
 
-pub(crate) fn least(a: usize, b: usize) -> usize
+pub fn least(a: usize, b: usize) -> usize
     ensures { λ m. ⌜ m ≡ min a b ⌝ }
 {
     if a < b { a } else { b }

@@ -21,6 +21,7 @@ use Rattle.line.specs.Together.{RanTo}
 use Rattle.line.specs.Demand3.{History, none-yet, fed, lineOf, takenOf, writtenOf, Kept, Defined, Demand3}
 use Rattle.line.specs.declared.gauge_line.Line.{Line}
 use Rattle.line.proofs.Lawful.{Good, line-lawful}
+use Rattle.line.proofs.Cuts.{cuts-held}
 use Rattle.line.proofs.Openings.{Accepted, accepted, fresh-valid, makes, one-list}
 
 -- the same feeds, as the machine's theory has them
@@ -29,13 +30,13 @@ modelled none-yet = F.opened
 modelled (fed h xs span) = F.fed (modelled h) xs (length span)
 
 -- a feed of a valid line, by what the machine's feed did
-abbrev answered : F.Fed Line Float → Outcome Moved Line
+abbrev pub answered : F.Fed Line Float → Outcome Moved Line
 answered f = record { number = 0; value = record { taken = f .taken; written = length (f .written) }; state = f .line }
 
 abbrev spanned : F.Fed Line Float → List Float → List Float
 spanned f span = f .written ++ drop (length (f .written)) span
 
-outcome-is : (l : Line) (xs : List ℤ) (n : ℕ) → valid l ≡ true → feedOutcome l xs n ≡ answered (F.feed line l xs n)
+pub outcome-is : (l : Line) (xs : List ℤ) (n : ℕ) → valid l ≡ true → feedOutcome l xs n ≡ answered (F.feed line l xs n)
 unfolding feedOutcome fedLine
 outcome-is l xs n v = rw v
 
@@ -44,13 +45,13 @@ unfolding feedSpan fedLine
 span-is l xs span v = rw v
 
 module _ (o : Opening) (zero : opened o .number ≡ 0) where
-  ok : Accepted o
+  pub ok : Accepted o
   ok = accepted o (unfold opened in zero)
 
-  start : opened o .state ≡ fresh o
+  pub start : opened o .state ≡ fresh o
   start = unfold opened in ap (λ (n : ℕ). openedBy n o) zero
 
-  valid-fresh : valid (fresh o) ≡ true
+  pub valid-fresh : valid (fresh o) ≡ true
   valid-fresh = fresh-valid o ok
 
   valid-at : (h : F.History ℤ) → valid (F.lineOf line (fresh o) h) ≡ true
@@ -110,6 +111,7 @@ module _ (o : Opening) (zero : opened o .number ≡ 0) where
               subst (λ (z : List Float). length z < length outputs)
               (one-list o (butLast samples) (all line 64 (fresh o) (butLast samples)) y (makes o ok (butLast samples)) d)
               (model .filled e p);
+          cuts = cuts-held o ok (F.fed h xs (length before));
         }
 
 pub demanded :

@@ -29,16 +29,16 @@ use Rattle.line.proofs.Numbers.{due-limits}
 module _ (l₀ : Line) (xs : List ℤ) (out₀ : List Float) (f : Fixed) (s : Numbers) (sums combs taps firDelay : List ℤ) (delays held : List Float) (counts : List ℕ) (delay prototype : List Float) (t : ℕ) where
   -- the line with another mu
   abbrev at : Float → Line
-  at mu = together f (record { «sample_counter» = s .«sample_counter»; wait = s .wait; mu = mu }) sums combs taps firDelay delays held counts delay prototype
+  at mu = together f (record { «sample_counter» = s .«sample_counter»; wait = s .wait; mu = mu; cuts = s .cuts }) sums combs taps firDelay delays held counts delay prototype
 
   abbrev Mid : Float → ℕ → List Float → Type 0
   Mid mu w o = Midway line 64 Good line-lawful l₀ xs out₀ o (at mu) t w
 
   -- an output that is due
-  one-more : inLimits (f .phases) (f .taps) ≡ true → (mu : Float) (w : ℕ) (o : List Float) → Mid mu w o → lt mu one32 ≡ true → w < length o → Mid (add binary32 mu (f .step)) (w + 1) (set o w (output (f .phases) (f .taps) mu delay prototype))
+  one-more : inLimits (f .phases) (f .taps) ≡ true → (mu : Float) (w : ℕ) (o : List Float) → Mid mu w o → lt mu one32 ≡ true → w < length o → Mid (add binary32 mu (f .step)) (w + 1) (set o w (output (f .straight) (f .phases) (f .taps) mu delay prototype))
   unfolding inLine isOn outputOf passed
   one-more l mu w o mid d h =
-      let y : Float = output (f .phases) (f .taps) mu delay prototype in
+      let y : Float = output (f .straight) (f .phases) (f .taps) mu delay prototype in
       let e : Stepped Line Float = record { event = wrote y; line = at (add binary32 mu (f .step)) } in
       let on : eqb (f .phases) 0 ≡ false = ne-eqb (f .phases) 0 (λ z. let g = limits-say _ _ l .some-phases in omega arith) in
       let due : line .due (at mu) ≡ true = rw (on, d) in
@@ -55,7 +55,7 @@ module _ (l₀ : Line) (xs : List ℤ) (out₀ : List Float) (f : Fixed) (s : Nu
     pub more : w ≤ e .written
     pub quiet : ltb (e .written) (length (e .span)) ≡ true → dueAt f (e .mu) ≡ false
 
-  pub drained : (w : ℕ) (out : List Float) → Mid (s .mu) w out → (e : Emitted) → e ≡ emittedFrom (f .phases) (f .taps) (f .step) delay prototype (s .mu) w out → Drained w e
+  pub drained : (w : ℕ) (out : List Float) → Mid (s .mu) w out → (e : Emitted) → e ≡ emittedFrom (f .straight) (f .phases) (f .taps) (f .step) delay prototype (s .mu) w out → Drained w e
   unfolding emittedFrom
   drained w out mid e q = go (inLimits (f .phases) (f .taps)) refl
     where
@@ -68,10 +68,10 @@ module _ (l₀ : Line) (xs : List ℤ) (out₀ : List Float) (f : Fixed) (s : Nu
           let same : e ≡ record { mu = s .mu; written = w; span = out } = rw l at q in
           rw same (record { mid = mid; more = omega arith; quiet = λ p. off l (dueAt f (s .mu)) refl })
       go true l =
-          let same : e ≡ emitted (f .phases) (f .taps) (f .step) delay prototype (length out - w) (s .mu) w out = rw l at q in
-          let all : e .written < length (e .span) → lt (e .mu) one32 ≡ false = rw same (emitted-all (f .phases) (f .taps) (f .step) delay prototype (length out - w) (s .mu) w out refl) in
+          let same : e ≡ emitted (f .straight) (f .phases) (f .taps) (f .step) delay prototype (length out - w) (s .mu) w out = rw l at q in
+          let all : e .written < length (e .span) → lt (e .mu) one32 ≡ false = rw same (emitted-all (f .straight) (f .phases) (f .taps) (f .step) delay prototype (length out - w) (s .mu) w out refl) in
           record {
-            mid = rw same (emitted-keeps (f .phases) (f .taps) (f .step) delay prototype Mid (one-more l) (length out - w) (s .mu) w out refl mid);
-            more = rw same (emitted-keeps (f .phases) (f .taps) (f .step) delay prototype (λ mu v o. w ≤ v) (λ mu v o k d h. omega arith) (length out - w) (s .mu) w out refl (omega arith));
+            mid = rw same (emitted-keeps (f .straight) (f .phases) (f .taps) (f .step) delay prototype Mid (one-more l) (length out - w) (s .mu) w out refl mid);
+            more = rw same (emitted-keeps (f .straight) (f .phases) (f .taps) (f .step) delay prototype (λ mu v o. w ≤ v) (λ mu v o k d h. omega arith) (length out - w) (s .mu) w out refl (omega arith));
             quiet = λ p. not-due (e .mu) (all (ltb-true _ _ p));
           }

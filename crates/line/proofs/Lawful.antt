@@ -9,6 +9,9 @@ use lib.Ieee.{Float}
 use mir.Syntax.{w16}
 use Rattle.theory.specs.Sections.{each}
 use Rattle.theory.specs.Machines.{Machine, before, viewed}
+use Rattle.theory.specs.Tally.{tallied}
+use Rattle.theory.proofs.Tally.{lawful-tallied, all-tallied}
+use Rattle.line.specs.Outputs.{mostCuts}
 use Rattle.theory.proofs.Machines.{Lawful, all, all-before, lawful-before, lawful-viewed, all-viewed, lawful-as}
 use Rattle.theory.specs.Sections.{outs}
 use Rattle.integer.specs.Gain.{gainBits, mostBits}
@@ -28,7 +31,7 @@ use Rattle.float.specs.declared.polyphase_resamp.PolyphaseResampF32.{PolyphaseR
 use Rattle.half_band.proofs.HeldOnes.{line-next-not-refused}
 use Rattle.float.proofs.PolyphaseRange as Res
 use Rattle.float.specs.Level.{level}
-use Rattle.line.specs.Line.{Parts, partsOf, ofParts, from3, from4, from5, chain, line, cicFine, halfBandFine, valid}
+use Rattle.line.specs.Line.{Parts, partsOf, countedOf, ofCounted, cutsAt, from3, from4, from5, chain, line, cicFine, halfBandFine, valid}
 use Rattle.line.specs.declared.gauge_line.Line.{Line}
 use Rattle.line.proofs.Flags.{and-left, and-right, and-both, not-says, not-is}
 
@@ -92,11 +95,15 @@ pub of-parts : (l : Line) → Good1 (partsOf l) → valid l ≡ true
 unfolding valid
 of-parts l g = and-both _ _ (g .0) (and-both _ _ (g .1 .1 .0) (and-both _ _ (g .1 .1 .1 .1 .0) (g .1 .1 .1 .1 .1)))
 
+-- the count changes nothing of it
+law0 : Lawful (tallied mostCuts cutsAt chain) 64 (λ p. Good1 (p .0))
+law0 = lawful-tallied mostCuts cutsAt chain 64 Good1 law1
+
 abbrev pub Good : Line → Type 0
 Good l = valid l ≡ true
 
 pub line-lawful : Lawful line 64 Good
-line-lawful = lawful-as Good to-parts of-parts (lawful-viewed chain partsOf ofParts (λ p. refl) 64 Good1 law1)
+line-lawful = lawful-as Good to-parts of-parts (lawful-viewed (tallied mostCuts cutsAt chain) countedOf ofCounted (λ p. refl) 64 (λ p. Good1 (p .0)) law0)
 
 -- what the line makes of a whole list is what each section makes of the whole list of the section before
 pub line-all : (l : Line) → valid l ≡ true → (w : List ℤ) →
@@ -108,7 +115,8 @@ line-all l v w =
     let w3 : List ℤ = outs (each (cut w16)) (tt {0}) w2 in
     let w4 : List ℤ = outs fir (l .fir) w3 in
     let w5 : List Float = outs (each level) (tt {0}) w4 in
-    all-viewed chain partsOf ofParts (λ p. refl) 64 Good1 law1 l w g
+    all-viewed (tallied mostCuts cutsAt chain) countedOf ofCounted (λ p. refl) 64 (λ p. Good1 (p .0)) law0 l w g
+    ∙ all-tallied mostCuts cutsAt chain 64 Good1 law1 (countedOf l) w g
     ∙ all-before scaledDecimator (before (each (cut w16)) from3) 64 Good2 law2 (l .cic) (partsOf l .1) w (g .1)
     ∙ all-before (each (cut w16)) from3 64 Good3 law3 (tt {0}) (partsOf l .1 .1) w2 (g .1 .1)
     ∙ all-before fir (before (each level) from4) 64 GoodLevel law-level (l .fir) (partsOf l .1 .1 .1) w3 (g .1 .1 .1)

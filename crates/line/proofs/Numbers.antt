@@ -16,7 +16,7 @@ use Rattle.integer.specs.CicDecimator as C
 use Rattle.integer.proofs.Within.{sound}
 use Rattle.q15.specs.FirDecimator as Q
 use Rattle.float.specs.PolyphaseResamp.{inLimits, isOn, validInLine}
-use Rattle.q15.specs.FirDecimator.{settingsNumberInLine}
+use Rattle.q15.specs.FirDecimator.{mostTaps, settingsNumberInLine}
 use Rattle.q15.proofs.FirSteps.{valid-few, settings-valid}
 use Rattle.half_band.proofs.HeldOnes.{line-few}
 use Rattle.float.proofs.PolyphaseOutput.{limits-say}
@@ -56,7 +56,7 @@ unfolding cicFine bitsAt
 bits-apart l v = ap (λ (b : Bool). cond b (gainBits (l .cic .stages) (l .cic .r)) 64) (and-left (C.valid (l .cic)) _ (to-parts l v .0))
 
 -- the taps and the prototype of a valid line lie in its arrays
-pub few-taps : (l : Line) → valid l ≡ true → l .fir .«tap_count» ≤ 64
+pub few-taps : (l : Line) → valid l ≡ true → l .fir .«tap_count» ≤ mostTaps
 few-taps l v = valid-few (l .fir .«tap_count») (l .fir .factor) (l .fir .wait) (to-parts l v .1 .1 .0)
 
 cells-by : (l : Line) → valid l ≡ true → (n : ℕ) → l .resampler .phases ≡ n → n * l .resampler .taps ≤ 1024

@@ -97,7 +97,7 @@ accepted o e =
 -- by whether the resampler is off
 module _ (o : Opening) (ok : Accepted o) where
   abbrev resampler : PolyphaseResampF32
-  resampler = cond (eqb (o .settings .phases) 0) R.zeros (R.fresh (o .settings .phases) (o .settings .taps) (o .prototype) (o .settings .step))
+  resampler = cond (eqb (o .settings .phases) 0) R.zeros (R.fresh (o .settings .straight) (o .settings .phases) (o .settings .taps) (o .prototype) (o .settings .step))
 
   some-phases : (n : ℕ) → o .settings .phases ≡ suc n → o .settings .phases ≡ 0 → ⊥
   some-phases n e z = omega arith
@@ -106,7 +106,7 @@ module _ (o : Opening) (ok : Accepted o) where
   resampler-valid zero e = rw e (line-off R.zeros (unfold R.zeros in refl))
   resampler-valid (suc n) e =
       let on = ok .resampler (some-phases n e) in
-      rw (ne-eqb (o .settings .phases) 0 (some-phases n e)) (line-fresh (o .settings .phases) (o .settings .taps) (o .prototype) (o .settings .step) (on .limits) (on .step))
+      rw (ne-eqb (o .settings .phases) 0 (some-phases n e)) (line-fresh (o .settings .straight) (o .settings .phases) (o .settings .taps) (o .prototype) (o .settings .step) (on .limits) (on .step))
 
   pub fresh-valid : valid (fresh o) ≡ true
   unfolding valid fresh resamplerFresh cicFine halfBandFine
@@ -124,8 +124,8 @@ module _ (o : Opening) (ok : Accepted o) where
       whole : On o → Resampled (o .settings .phases) o v (all inLine 64 resampler v)
       whole on =
           rw (ne-eqb (o .settings .phases) 0 (some-phases n e))
-          (subst⁻¹ (λ (k : ℕ). Resampled k o v (all inLine 64 (R.fresh k (o .settings .taps) (o .prototype) (o .settings .step)) v)) e
-          (becomes-all (suc n) (o .settings .taps) (o .prototype) (subst (λ (k : ℕ). inLimits k (o .settings .taps) ≡ true) e (on .limits)) (on .long ∙ ap (λ (k : ℕ). k * o .settings .taps) e) (o .settings .step) (on .step) v))
+          (subst⁻¹ (λ (k : ℕ). Resampled k o v (all inLine 64 (R.fresh (o .settings .straight) k (o .settings .taps) (o .prototype) (o .settings .step)) v)) e
+          (becomes-all (o .settings .straight) (suc n) (o .settings .taps) (o .prototype) (subst (λ (k : ℕ). inLimits k (o .settings .taps) ≡ true) e (on .limits)) (on .long ∙ ap (λ (k : ℕ). k * o .settings .taps) e) (o .settings .step) (on .step) v))
 
   reaches : (w : List ℤ) →
       outs hbfStream (streamFresh (o .settings .depth)) (outs (each level) (tt {0}) (outs fir (Q.freshInLine (o .taps) (o .settings .factor)) (outs (each (cut w16)) (tt {0}) (outs scaledDecimator (C.fresh (o .settings .stages) (o .settings .r)) w))))
@@ -156,7 +156,7 @@ one-list o w a b = go (o .settings .phases)
   where
     go : (n : ℕ) → Resampled n o (levels o w) a → Resampled n o (levels o w) b → a ≡ b
     go zero p q = p ∙ sym q
-    go (suc n) p q = becomes-one (suc n) (o .settings .taps) (o .prototype) (o .settings .step) (levels o w) a b p q
+    go (suc n) p q = becomes-one (o .settings .straight) (suc n) (o .settings .taps) (o .prototype) (o .settings .step) (levels o w) a b p q
 
 -- the half-band part: of no stages zeros, which a refused opening leaves
 opened-to : (d : ℕ) → d ≤ 5 → streamOpening d .state ≡ streamFresh d

@@ -8,7 +8,7 @@ use lib.Ieee.{Float}
 use lib.ListN.{length, take, drop}
 use Rattle.theory.specs.Lists.{butLast}
 use Rattle.refusal.specs.Outcome.{Outcome, Moved}
-use Rattle.line.specs.Outputs.{Opening, Outputs}
+use Rattle.line.specs.Outputs.{Opening, Outputs, heldCuts}
 use Rattle.line.specs.Line.{feedOutcome, feedSpan, opened}
 use Rattle.line.specs.declared.gauge_line.Line.{Line}
 
@@ -47,6 +47,8 @@ pub record Kept (o : Opening) (xs : List ℤ) (before after : List Float) (told 
   pub unwritten : told .value .written < length before → Outputs o w y × (told .value .taken ≡ length xs)
   -- "After one that fills its span and took a sample, 01 defines fewer outputs for W without its last sample than were written so far."
   pub filled : told .value .written ≡ length before → 0 < told .value .taken → (all : List Float) → Outputs o (butLast w) all → length all < length y
+  -- 02, §4: "For every feeding history the count is the number of cuts that the definitions make for W, held likewise."
+  pub cuts : told .state .cuts ≡ heldCuts o w
 
 -- 01 defines outputs for every W, and only one list of them, so that `first` and `filled` speak of something
 pub record Defined (o : Opening) : Type 0 where

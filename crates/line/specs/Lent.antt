@@ -25,7 +25,8 @@ lineOf n integrators combs taps firDelay delays held counts delay prototype =
       cic = decimatorOf (n .stages) (n .r) integrators combs (n .«sample_counter»);
       fir = firState taps (n .«tap_count») (n .factor) firDelay (n .wait);
       «half_band» = streamOf (n .depth) delays held counts;
-      resampler = R.together (n .phases) (n .taps) (n .mu) (n .step) delay prototype;
+      resampler = R.together (n .straight) (n .phases) (n .taps) (n .mu) (n .step) delay prototype;
+      cuts = n .cuts;
     }
 
 -- the numbers of a line
@@ -41,8 +42,10 @@ numbersIn l =
       depth = l .«half_band» .depth;
       phases = l .resampler .phases;
       taps = l .resampler .taps;
+      straight = l .resampler .straight;
       mu = l .resampler .mu;
       step = l .resampler .step;
+      cuts = l .cuts;
     }
 
 -- what a call answered, with the line that it left
@@ -64,11 +67,12 @@ fixedIn n =
       depth = n .depth;
       phases = n .phases;
       taps = n .taps;
+      straight = n .straight;
       step = n .step;
     }
 
 abbrev pub changingIn : LineNumbers → Numbers
-changingIn n = record { «sample_counter» = n .«sample_counter»; wait = n .wait; mu = n .mu }
+changingIn n = record { «sample_counter» = n .«sample_counter»; wait = n .wait; mu = n .mu; cuts = n .cuts }
 
 abbrev pub goneOn : LineNumbers → Numbers → LineNumbers
 goneOn n s =
@@ -82,6 +86,8 @@ goneOn n s =
       depth = n .depth;
       phases = n .phases;
       taps = n .taps;
+      straight = n .straight;
       mu = s .mu;
       step = n .step;
+      cuts = s .cuts;
     }

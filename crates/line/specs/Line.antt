@@ -4,7 +4,7 @@ use mathlib.Core.Path.{_≡_}
 use mathlib.Core.Bool.{Bool, true, false, cond, _&&_, not}
 use mathlib.Core.List.{List, [], _∷_, _++_}
 use mathlib.Core.Option.{Option, none, some}
-use Prim.Native.Nat.{ℕ, zero, suc, _*_}
+use Prim.Native.Nat.{ℕ, zero, suc, _+_, _*_}
 use lib.Dec.{leb, ltb, eqb}
 use lib.ListN.{length, take, drop}
 use lib.IntN.{ℤ}
@@ -12,6 +12,7 @@ use lib.Ieee.{Float}
 use mir.Syntax.{w16}
 use Rattle.theory.specs.Sections.{Section, each}
 use Rattle.theory.specs.Machines.{Machine, before, viewed}
+use Rattle.theory.specs.Tally.{tallied}
 use Rattle.theory.specs.Feeds as F
 use Rattle.refusal.specs.Table.{numberOf}
 use Rattle.refusal.specs.Outcome.{Outcome, Opened, openingNumber, Moved, countsAnswer}
@@ -21,8 +22,8 @@ use Rattle.integer.specs.Gain.{gainBits, mostBits}
 use Rattle.integer.specs.CicDecimator.{scaledDecimator}
 use Rattle.integer.specs.CicDecimator as C
 use Rattle.integer.specs.declared.cic_decimator.CicDecimator.{CicDecimator}
-use Rattle.q15.specs.Fixed.{cut}
-use Rattle.q15.specs.FirDecimator.{fir, settingsNumberInLine}
+use Rattle.q15.specs.Fixed.{cut, cutOne}
+use Rattle.q15.specs.FirDecimator.{fir, firSumOut, settingsNumberInLine}
 use Rattle.q15.specs.FirDecimator as Q
 use Rattle.q15.specs.declared.fir_decimator.FirDecimator.{FirDecimator}
 use Rattle.half_band.specs.Limits.{mostStages}
@@ -32,7 +33,7 @@ use Rattle.float.specs.PolyphaseResamp as R
 use Rattle.half_band.specs.declared.hbf_stream.HbfStream.{HbfStream}
 use Rattle.float.specs.declared.polyphase_resamp.PolyphaseResampF32.{PolyphaseResampF32}
 use Rattle.float.specs.Level.{level}
-use Rattle.line.specs.Outputs.{Opening}
+use Rattle.line.specs.Outputs.{Opening, mostCuts}
 use Rattle.line.specs.declared.settings.Settings.{Settings}
 use Rattle.line.specs.declared.gauge_line.Line.{Line}
 use Rattle.line.specs.declared.lent.LineStep.{LineStep}
@@ -48,8 +49,12 @@ Parts = CicDecimator × (Unit {0} × (FirDecimator × (Unit {0} × (HbfStream ×
 abbrev pub partsOf : Line → Parts
 partsOf l = (l .cic, (tt, (l .fir, (tt, (l .«half_band», l .resampler)))))
 
-abbrev pub ofParts : Parts → Line
-ofParts p = record { cic = p .0; fir = p .1 .1 .0; «half_band» = p .1 .1 .1 .1 .0; resampler = p .1 .1 .1 .1 .1 }
+-- the same with the count of cut values
+abbrev pub countedOf : Line → Parts × ℕ
+countedOf l = (partsOf l, l .cuts)
+
+abbrev pub ofCounted : Parts × ℕ → Line
+ofCounted p = record { cic = p .0 .0; fir = p .0 .1 .1 .0; «half_band» = p .0 .1 .1 .1 .1 .0; resampler = p .0 .1 .1 .1 .1 .1; cuts = p .1 }
 
 -- "the next sample is taken through sections 1 to 5 (with the resampler off, a value that results is written)": the machine, from section k on
 abbrev pub from5 : Machine PolyphaseResampF32 Float Float
@@ -64,8 +69,21 @@ from3 = before fir (before (each level) from4)
 abbrev pub chain : Machine Parts ℤ Float
 chain = before scaledDecimator (before (each (cut w16)) from3)
 
+-- 02, §4: how many values are cut where a scaled sum reaches sections 2 and 3: the sum itself, and the FIR's, if it makes one
+abbrev pub sumCut : Option ℤ → ℕ
+sumCut none = 0
+sumCut (some z) = cutOne w16 z
+
+abbrev pub cutsFor : FirDecimator → Option ℤ → ℕ
+cutsFor s none = 0
+cutsFor s (some v) = cutOne w16 v + sumCut (firSumOut s (cut w16 v))
+
+-- and where a sample is taken
+abbrev pub cutsAt : Parts → ℤ → ℕ
+cutsAt p x = cutsFor (p .1 .1 .0) (scaledDecimator .out (p .0) x)
+
 abbrev pub line : Machine Line ℤ Float
-line = viewed chain partsOf ofParts
+line = viewed (tallied mostCuts cutsAt chain) countedOf ofCounted
 
 -- row 15 of the table, part by part: "settings that its opening refuses; `sample_counter` not below r; more than one held sample at one half-band stage; FIR wait 0
 -- or above both T and D; mu not in .. (line: 0..1+step); a part that is off is not checked"
@@ -147,7 +165,7 @@ openingNumberOf o = numberAt (o .settings) (length (o .taps)) (length (o .protot
 
 -- "A part that is off is opened as zeros, settings too": no taps, depth 0, P = 0
 unfoldable pub resamplerFresh : Settings → List Float → PolyphaseResampF32
-resamplerFresh s prototype = cond (eqb (s .phases) 0) R.zeros (R.fresh (s .phases) (s .taps) prototype (s .step))
+resamplerFresh s prototype = cond (eqb (s .phases) 0) R.zeros (R.fresh (s .straight) (s .phases) (s .taps) prototype (s .step))
 
 unfoldable pub fresh : Opening → Line
 fresh o =
@@ -156,11 +174,12 @@ fresh o =
       fir = Q.freshInLine (o .taps) (o .settings .factor);
       «half_band» = streamFresh (o .settings .depth);
       resampler = resamplerFresh (o .settings) (o .prototype);
+      cuts = 0;
     }
 
 -- "a refused opening's state is all zeros"
 unfoldable pub zeros : Line
-zeros = record { cic = C.fresh 0 0; fir = Q.firZeros; «half_band» = streamFresh 0; resampler = R.zeros }
+zeros = record { cic = C.fresh 0 0; fir = Q.firZeros; «half_band» = streamFresh 0; resampler = R.zeros; cuts = 0 }
 
 abbrev pub openedBy : ℕ → Opening → Line
 openedBy zero o = fresh o
@@ -184,6 +203,7 @@ openingOf l =
             depth = l .«half_band» .depth;
             phases = l .resampler .phases;
             taps = l .resampler .taps;
+            straight = l .resampler .straight;
             step = l .resampler .step;
           };
       taps = take (l .fir .«tap_count») (l .fir .taps);

@@ -45,7 +45,7 @@ abbrev pub halfBandOf : Fixed → List Float → List Float → List ℕ → Hbf
 halfBandOf f delays held counts = streamOf (f .depth) delays held counts
 
 abbrev pub resamplerOf : Fixed → Float → List Float → List Float → PolyphaseResampF32
-resamplerOf f mu delay prototype = R.together (f .phases) (f .taps) mu (f .step) delay prototype
+resamplerOf f mu delay prototype = R.together (f .straight) (f .phases) (f .taps) mu (f .step) delay prototype
 
 -- the whole
 abbrev pub together : Fixed → Numbers → List ℤ → List ℤ → List ℤ → List ℤ → List Float → List Float → List ℕ → List Float → List Float → Line
@@ -55,6 +55,7 @@ together f s integrators combs taps firDelay delays held counts delay prototype 
       fir = firOf f (s .wait) taps firDelay;
       «half_band» = halfBandOf f delays held counts;
       resampler = resamplerOf f (s .mu) delay prototype;
+      cuts = s .cuts;
     }
 
 -- what the code says a step did, as an event of the machine
@@ -84,7 +85,7 @@ atOnce f s place left = cond place (cond (dueAt f (s .mu)) 0 (min (f .r - 1 - s 
 
 -- the numbers after k more samples
 abbrev pub counted : Numbers → ℕ → Numbers
-counted s k = record { «sample_counter» = s .«sample_counter» + k; wait = s .wait; mu = s .mu }
+counted s k = record { «sample_counter» = s .«sample_counter» + k; wait = s .wait; mu = s .mu; cuts = s .cuts }
 
 -- row 15 of the line held apart: the gain bits of a valid decimator, 64 of another
 unfoldable pub bitsAt : ℕ → ℕ → ℕ → ℕ

@@ -92,6 +92,7 @@ pub(crate) fn feed_on(
         let due = write_due(
             prototype,
             delay,
+            f.straight,
             f.phases,
             f.taps,
             f.step,

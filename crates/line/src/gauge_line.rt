@@ -30,12 +30,13 @@ use refusal::Counts;
 use refusal::Opening;
 use refusal::Refusal;
 
-// The parts of a line, each as its layer has it. A part that is off is zeros, settings too.
+// The parts of a line, each as its layer has it, and how many values were cut to 16 bits. A part that is off is zeros, settings too.
 pub struct Line {
     pub cic: CicDecimator,
     pub fir: FirDecimator,
     pub half_band: HbfStream,
     pub resampler: PolyphaseResampF32,
+    pub cuts: u32,
 }
 
 // An opening or a reset, with the line beside it.
@@ -56,7 +57,7 @@ pub struct LineFed {
 }
 
 // Each part as its refused opening leaves it, which is zeros.
-fn zeros() -> Line
+pub fn zeros() -> Line
     ensures { λ l. ⌜ l ≡ L.zeros ⌝ }
 {
     let cic = CicDecimator::new(0, 0).state;
@@ -69,6 +70,7 @@ fn zeros() -> Line
         fir,
         half_band,
         resampler,
+        cuts: 0,
     }
 }
 
@@ -78,7 +80,7 @@ fn resampler_of(s: Settings, prototype: &[f32]) -> PolyphaseResampF32
     if s.phases == 0 {
         return PolyphaseResampF32::zeros();
     }
-    PolyphaseResampF32::fresh(s.phases, s.taps, prototype, s.step)
+    PolyphaseResampF32::fresh(s.straight, s.phases, s.taps, prototype, s.step)
 }
 
 // A part that is off is one that its own opening refuses, and what that leaves is what the line has for it: zeros, settings too.
@@ -95,6 +97,7 @@ fn fresh(s: Settings, taps: &[i16], prototype: &[f32]) -> Line
         fir,
         half_band,
         resampler,
+        cuts: 0,
     }
 }
 
@@ -120,9 +123,23 @@ fn numbers_in(l: Line) -> LineNumbers
         depth: half_band.depth,
         phases: resampler.phases,
         taps: resampler.taps,
+        straight: resampler.straight,
         mu: resampler.mu,
         step: resampler.step,
+        cuts: l.cuts,
     }
+}
+
+// Whether no call on the line is refused by 15.
+pub fn line_valid(l: Line) -> bool
+    ensures { λ b. ⌜ b ≡ L.valid l ⌝ }
+{
+    let n = numbers_in(l);
+    let half_band = l.half_band;
+    let counts = half_band.counts;
+    let f = fixed(n);
+    let s = changing(n);
+    valid_at(f, s, counts)
 }
 
 // The line put together from what a call held apart.
@@ -163,6 +180,7 @@ fn assembled(
     let resampler = PolyphaseResampF32 {
         phases: n.phases,
         taps: n.taps,
+        straight: n.straight,
         mu: n.mu,
         step: n.step,
         delay,
@@ -173,6 +191,7 @@ fn assembled(
         fir,
         half_band,
         resampler,
+        cuts: n.cuts,
     }
 }
 
@@ -302,11 +321,7 @@ impl Line {
         ensures accepted { λ o. ⌜ (L.valid self ≡ true → openingNumber (o .answer) ≡ 0) ⌝ }
     {
         let n = numbers_in(self);
-        let half_band = self.half_band;
-        let counts = half_band.counts;
-        let f = fixed(n);
-        let s = changing(n);
-        if !valid_at(f, s, counts) {
+        if !line_valid(self) {
             return LineOpened {
                 answer: Opening::Refused(Refusal::State),
                 line: self,
@@ -319,6 +334,7 @@ impl Line {
             depth: n.depth,
             phases: n.phases,
             taps: n.taps,
+            straight: n.straight,
             step: n.step,
         };
         let fir = self.fir;

@@ -33,8 +33,10 @@ pub struct LineNumbers {
     pub depth: usize,
     pub phases: usize,
     pub taps: usize,
+    pub straight: bool,
     pub mu: f32,
     pub step: f32,
+    pub cuts: u32,
 }
 
 // What a step did: it took a sample, wrote one float sample, did both, stopped, or was refused.
@@ -70,6 +72,7 @@ pub(crate) fn fixed(n: LineNumbers) -> Fixed
         depth: n.depth,
         phases: n.phases,
         taps: n.taps,
+        straight: n.straight,
         step: n.step,
     }
 }
@@ -81,6 +84,7 @@ pub(crate) fn changing(n: LineNumbers) -> Numbers
         sample_counter: n.sample_counter,
         wait: n.wait,
         mu: n.mu,
+        cuts: n.cuts,
     }
 }
 
@@ -97,8 +101,10 @@ fn gone_on(n: LineNumbers, s: Numbers) -> LineNumbers
         depth: n.depth,
         phases: n.phases,
         taps: n.taps,
+        straight: n.straight,
         mu: s.mu,
         step: n.step,
+        cuts: s.cuts,
     }
 }
 

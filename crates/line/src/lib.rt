@@ -2,7 +2,7 @@
 mod feed;
 pub mod gauge_line;
 pub mod lent;
-mod opening;
+pub mod opening;
 mod pieces;
 mod sample;
 pub mod settings;
@@ -13,6 +13,8 @@ pub use crate::gauge_line::Line;
 pub use crate::gauge_line::LineFed;
 pub use crate::gauge_line::LineOpened;
 pub use crate::gauge_line::LineStepped;
+pub use crate::gauge_line::line_valid;
+pub use crate::gauge_line::zeros;
 pub use crate::lent::LentFed;
 pub use crate::lent::LentStepped;
 pub use crate::lent::LineNumbers;

@@ -71,7 +71,7 @@ fn first(a: Opening, b: Opening) -> Opening
     }
 }
 
-pub(crate) fn answer(s: Settings, tap_count: usize, cells: usize) -> Opening
+pub fn answer(s: Settings, tap_count: usize, cells: usize) -> Opening
     ensures { λ a. ⌜ openingNumber a ≡ L.numberAt s «tap_count» cells ⌝ }
 {
     let cic = cic_answer(s.stages, s.r);

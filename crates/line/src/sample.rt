@@ -1,9 +1,14 @@
 // A sample on its way through sections 1 to 5, the numbers by value and the arrays lent.
 ghost use mathlib.Core.Path.{_≡_};
+ghost use mathlib.Core.Bool.{cond};
 ghost use mathlib.Core.List.{List};
+ghost use Prim.Native.Nat.{_+_};
 ghost use lib.Ieee.{Float};
+ghost use Rattle.theory.specs.Tally.{heldSum};
 ghost use Rattle.integer.specs.Gain.{gainBits};
-ghost use Rattle.half_band.specs.HbfStream.{valueOf};
+ghost use Rattle.q15.specs.FirDecimator.{firSumOut, cutIn};
+ghost use Rattle.half_band.specs.HbfStream.{streamOf, hbfStream, valueOf};
+ghost use Rattle.line.specs.Outputs.{mostCuts};
 ghost use Rattle.line.specs.Line as L;
 ghost use Rattle.line.specs.Together as T;
 use float::polyphase_resamp::MOST_TAPS as MOST_PHASE_TAPS;
@@ -23,6 +28,9 @@ use q15::Q15;
 use q15::cut_q15;
 use q15::fir_at;
 
+// Where the count of cut values holds.
+pub const MOST_CUTS: u32 = 4294967295;
+
 // What a feed never changes: the settings, and the gain bits that follow from them.
 pub struct Fixed {
     pub stages: usize,
@@ -33,6 +41,7 @@ pub struct Fixed {
     pub depth: usize,
     pub phases: usize,
     pub taps: usize,
+    pub straight: bool,
     pub step: f32,
 }
 
@@ -41,6 +50,7 @@ pub struct Numbers {
     pub sample_counter: usize,
     pub wait: usize,
     pub mu: f32,
+    pub cuts: u32,
 }
 
 // What came of a level: nothing, or a level that is written at once.
@@ -49,9 +59,10 @@ struct Resampled {
     mu: f32,
 }
 
-// The same of a value before the FIR.
+// The same of a value before the FIR, and whether the FIR's sum was cut.
 struct Filtered {
     out: HbfOut,
+    cut: bool,
     wait: usize,
     mu: f32,
 }
@@ -80,6 +91,24 @@ fn resampler_in(f: Fixed, mu: f32, delay: &mut [f32; MOST_PHASE_TAPS], level: f3
     }
 }
 
+// A level into the half-band stages, or past them where there are none.
+fn stages_in(
+    depth: usize,
+    delays: &mut [f32; DEC_CASCADE_DELAYS],
+    held: &mut [f32; MOST_STAGES],
+    counts: &mut [usize; MOST_STAGES],
+    level: f32,
+) -> HbfOut
+    ensures out { λ r. ⌜ valueOf r ≡ hbfStream .out (streamOf depth (now (delays .entry)) (now (held .entry)) (now (counts .entry))) level ⌝ }
+    ensures next { λ _. ⌜ streamOf depth (now (delays .exit)) (now (held .exit)) (now (counts .exit))
+        ≡ hbfStream .next (streamOf depth (now (delays .entry)) (now (held .entry)) (now (counts .entry))) level ⌝ }
+{
+    if depth == 0 {
+        return HbfOut::Value(level);
+    }
+    hbf_stream_at(depth, delays, held, counts, level)
+}
+
 // A level into the half-band stages, and what they make into the resampler.
 fn half_band_in(
     f: Fixed,
@@ -97,10 +126,7 @@ fn half_band_in(
         let next-resampler = T.resamplerOf f (r .mu) (now (delay .exit)) h in
         T.Takes L.from4 (half-band, resampler) level (valueOf (r .out)) (next-half-band, next-resampler)) ⌝ }
 {
-    if f.depth == 0 {
-        return resampler_in(f, mu, delay, level);
-    }
-    let made = hbf_stream_at(f.depth, delays, held, counts, level);
+    let made = stages_in(f.depth, delays, held, counts, level);
     match made {
         HbfOut::Nothing => Resampled {
             out: HbfOut::Nothing,
@@ -123,7 +149,7 @@ fn fir_in(
     delay: &mut [f32; MOST_PHASE_TAPS],
     value: Q15,
 ) -> Filtered
-    ensures { λ r. ⌜ ((h : List Float) →
+    ensures takes { λ r. ⌜ ((h : List Float) →
         let fir = T.firOf f wait (now (taps .entry)) (now («fir_delay» .entry)) in
         let half-band = T.halfBandOf f (now (delays .entry)) (now (held .entry)) (now (counts .entry)) in
         let resampler = T.resamplerOf f mu (now (delay .entry)) h in
@@ -132,12 +158,14 @@ fn fir_in(
         let next-resampler = T.resamplerOf f (r .mu) (now (delay .exit)) h in
         T.Takes L.from3 (fir, (tt, (half-band, resampler))) (value .0) (valueOf (r .out))
         (next-fir, (tt, (next-half-band, next-resampler)))) ⌝ }
+    ensures cut { λ r. ⌜ r .cut ≡ cutIn (firSumOut (T.firOf f wait (now (taps .entry)) (now («fir_delay» .entry))) (value .0)) ⌝ }
 {
     let at = fir_at(fir_delay, taps, f.tap_count, f.factor, wait, value);
     let made = at.made;
     match made {
         FirMade::Nothing => Filtered {
             out: HbfOut::Nothing,
+            cut: at.cut,
             wait: at.wait,
             mu,
         },
@@ -147,11 +175,30 @@ fn fir_in(
             let out = on.out;
             Filtered {
                 out,
+                cut: at.cut,
                 wait: at.wait,
                 mu: on.mu,
             }
         }
     }
+}
+
+fn one(cut: bool) -> u32
+    ensures { λ n. ⌜ n ≡ cond cut 1 0 ⌝ }
+{
+    if cut { 1 } else { 0 }
+}
+
+// The count of cut values, with one more for a scaled sum and for a sum of the FIR that was cut; it holds at its end. The compiler makes one held
+// addition of it.
+fn counted(cuts: u32, scaled: bool, filtered: bool) -> u32
+    ensures { λ n. ⌜ n ≡ heldSum mostCuts cuts (cond scaled 1 0 + cond filtered 1 0) ⌝ }
+{
+    let more = one(scaled) + one(filtered);
+    if MOST_CUTS - cuts < more {
+        return MOST_CUTS;
+    }
+    cuts + more
 }
 
 // A sample into the CIC decimator, and what it makes, scaled and cut, into the FIR.
@@ -185,10 +232,12 @@ pub(crate) fn sample_in(
                 sample_counter: at.sample_counter,
                 wait: s.wait,
                 mu: s.mu,
+                cuts: s.cuts,
             },
         },
         CicSum::Value(v) => {
-            let value = cut_q15(scaled(v, f.bits) as i64);
+            let first = cut_q15(scaled(v, f.bits) as i64);
+            let value = first.value;
             let on = fir_in(
                 f,
                 s.wait,
@@ -202,12 +251,14 @@ pub(crate) fn sample_in(
                 value,
             );
             let out = on.out;
+            let cuts = counted(s.cuts, first.cut, on.cut);
             Sampled {
                 out,
                 numbers: Numbers {
                     sample_counter: at.sample_counter,
                     wait: on.wait,
                     mu: on.mu,
+                    cuts,
                 },
             }
         }

@@ -167,13 +167,14 @@ pub(crate) fn step_on(
         };
     }
     if due(f, s.mu) {
-        let y = interpolate(prototype, delay, f.phases, f.taps, s.mu);
+        let y = interpolate(prototype, delay, f.straight, f.phases, f.taps, s.mu);
         return NumberStep {
             step: Did::Wrote(y),
             numbers: Numbers {
                 sample_counter: s.sample_counter,
                 wait: s.wait,
                 mu: s.mu + f.step,
+                cuts: s.cuts,
             },
         };
     }

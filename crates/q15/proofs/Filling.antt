@@ -15,7 +15,7 @@ use Rattle.theory.proofs.Listed.{length-listed}
 use Rattle.q15.specs.Block.{written, blockAnswer, blockSpan}
 
 -- i outputs, and m after them
-listed-more : {A : Type 0} (g : ℕ → A) (i m : ℕ) → listed i g ++ listed m (λ k. g (i + k)) ≡ listed (i + m) g
+pub listed-more : {A : Type 0} (g : ℕ → A) (i m : ℕ) → listed i g ++ listed m (λ k. g (i + k)) ≡ listed (i + m) g
 listed-more g i zero = append-nil (listed i g) ∙ ap (λ (n : ℕ). listed n g) (sym (add-zero i))
 listed-more {A} g i (suc m) =
     sym (append-assoc (listed i g) (listed m (λ k. g (i + k))) (g (i + m) ∷ []))
@@ -92,6 +92,14 @@ take-listed g m (suc n) l = elim (decLe m n) [
       (take-append-le m (listed n g) (g n ∷ []) (omega (arith, length-listed n g)) ∙ take-listed g m n h)
   | no h ↦
       (take-all m (listed (suc n) g) (omega (arith, length-listed (suc n) g)) ∙ ap (λ (k : ℕ). listed k g) (let e : suc n ≡ m = omega arith in e))
+]
+
+-- the first of n outputs, as many as there are of m
+pub least-listed : {A : Type 0} (g : ℕ → A) (m n : ℕ) → take m (listed n g) ≡ listed (min m n) g
+least-listed {A} g m n = elim (decLe m n) [
+  | yes h ↦ (take-listed g m n h ∙ ap {B = List A} (λ (k : ℕ). listed k g) (sym (min-eq-left h)))
+  | no h ↦
+      (take-all m (listed n g) (omega (arith, length-listed n g)) ∙ ap {B = List A} (λ (k : ℕ). listed k g) (sym (min-eq-right {m = m} (omega arith))))
 ]
 
 -- as many of n outputs as the span has places for are the span written with them

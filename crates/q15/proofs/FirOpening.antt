@@ -13,9 +13,10 @@ use Rattle.refusal.specs.Table.{numberOf}
 use Rattle.refusal.specs.Outcome.{Opened}
 use Rattle.q15.specs.FirDecimator.{firZeros, settingsNumber, settingsNumberInLine, firValidInLine, valid, validInLine, fresh, freshInLine, openedBy, firOpened, Streams}
 use Rattle.q15.specs.declared.fir_decimator.FirDecimator.{FirDecimator}
+use Rattle.q15.proofs.Rounding.{rounded}
 use Rattle.q15.proofs.Rows.{turned, not-zero}
 use Rattle.q15.proofs.FirSteps.{settings-in, line-settings, on-valid, valid-in-line, outs-steps, never-refused}
-use Rattle.q15.proofs.FirStream.{fresh-streamed}
+use Rattle.q15.proofs.FirStream.{fresh-streamed, fresh-flagged}
 
 module _ (c : List ℤ) (D : ℕ) where
   pub fresh-valid : settingsNumber (length c) D ≡ 0 → valid (fresh c D) ≡ true
@@ -51,7 +52,12 @@ module _ (c : List ℤ) (D : ℕ) where
   pub fresh-streams : settingsNumber (length c) D ≡ 0 → Streams c D (fresh c D)
   fresh-streams e =
       let v = fresh-valid e in
-      record { outputs = λ w. outs-steps (fresh c D) w v ∙ fresh-streamed c D e w; never-refused = never-refused (fresh c D) v }
+      record {
+        outputs = λ w. outs-steps (fresh c D) w v ∙ fresh-streamed c D e w;
+        cuts = fresh-flagged c D e v;
+        rounding = rounded c D;
+        never-refused = never-refused (fresh c D) v;
+      }
 
   -- the two ways of an opening
   pub opening-refused :

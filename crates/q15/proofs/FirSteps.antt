@@ -2,45 +2,47 @@
 use mathlib.Core.Path.{_≡_, refl, ap, _∙_, subst}
 use mathlib.Core.Bool.{Bool, true, false, not, _&&_, cond, true≢false, false≢true}
 use mathlib.Core.List.{List, [], _∷_}
-use mathlib.Core.Option.{none, some}
+use mathlib.Core.Option.{Option, none, some}
 use Prim.Native.Nat.{ℕ, _-_, _≤_, _<_, max}
 use native.Mathlib.Decide.{decLe}
 use native.Mathlib.Omega.{arith}
 use borrow.Author.Tests.{eq-eqb, ne-eqb, eqb-true, eqb-false, lt-ltb, le-ltb, ltb-false, le-leb, lt-leb, leb-false, not-true}
 use lib.Dec.{leb, ltb, eqb}
 use lib.IntN.{ℤ}
+use mir.Syntax.{w16}
 use Rattle.theory.specs.Sections.{onto, outs, state}
 use Rattle.theory.proofs.Sections.{state-keeps}
 use Rattle.refusal.specs.Rows.{outside}
 use Rattle.q15.specs.Block.{mostFactor}
-use Rattle.q15.specs.PolyphaseDecimate.{filtered}
-use Rattle.q15.specs.FirDecimator.{mostTaps, firState, stored, moved, firNext, firOut, fir, settingsNumber, settingsNumberInLine, badWait, firValid, firValidInLine, valid, validInLine, firStep, steps}
+use Rattle.q15.specs.Fixed.{isCut}
+use Rattle.q15.specs.PolyphaseDecimate.{windowSum, filtered}
+use Rattle.q15.specs.FirDecimator.{mostTaps, firState, stored, moved, firNext, firOut, firSumOut, cutIn, fir, settingsNumber, settingsNumberInLine, badWait, firValid, firValidInLine, valid, validInLine, firStep, steps}
 use Rattle.q15.specs.declared.fir_decimator.FirDecimator.{FirDecimator}
 use Rattle.refusal.proofs.Limits.{within}
 
--- what the section makes of a sample: off, over 64 taps, still waiting, and with the sample that the wait was for
+-- what the section makes of a sample, and whether that was cut: off, over the most taps, still waiting, and with the sample that the wait was for
 module _ (c : List ℤ) (T D : ℕ) (d : List ℤ) (w : ℕ) (x : ℤ) where
-  pub off : T ≡ 0 → (some x ≡ firOut (firState c T D d w) x) × (firState c T D d w ≡ firNext (firState c T D d w) x)
-  unfolding firOut firNext
-  off e = rw (eq-eqb T 0 e) (refl, refl)
+  pub off : T ≡ 0 → (some x ≡ firOut (firState c T D d w) x) × ((firState c T D d w ≡ firNext (firState c T D d w) x) × (false ≡ cutIn (firSumOut (firState c T D d w) x)))
+  unfolding firOut firNext firSumOut
+  off e = rw (eq-eqb T 0 e) (refl, (refl, refl))
 
-  pub over : (T ≡ 0 → ⊥) → mostTaps < T → (none ≡ firOut (firState c T D d w) x) × (firState c T D d w ≡ firNext (firState c T D d w) x)
-  unfolding firOut firNext
-  over n l = rw (ne-eqb T 0 n, lt-ltb mostTaps T l) (refl, refl)
+  pub over : (T ≡ 0 → ⊥) → mostTaps < T → (none ≡ firOut (firState c T D d w) x) × ((firState c T D d w ≡ firNext (firState c T D d w) x) × (false ≡ cutIn (firSumOut (firState c T D d w) x)))
+  unfolding firOut firNext firSumOut
+  over n l = rw (ne-eqb T 0 n, lt-ltb mostTaps T l) (refl, (refl, refl))
 
   pub quiet :
       (e : List ℤ) → e ≡ stored T w x d → (T ≡ 0 → ⊥) → T ≤ mostTaps → 1 < w
-      → (none ≡ firOut (firState c T D d w) x) × (firState c T D e (w - 1) ≡ firNext (firState c T D d w) x)
-  unfolding firOut firNext
-  quiet e h n t l = rw (ne-eqb T 0 n, le-ltb mostTaps T t, lt-leb w 1 l) (refl, ap (λ (p : List ℤ). firState c T D p (w - 1)) h)
+      → (none ≡ firOut (firState c T D d w) x) × ((firState c T D e (w - 1) ≡ firNext (firState c T D d w) x) × (false ≡ cutIn (firSumOut (firState c T D d w) x)))
+  unfolding firOut firNext firSumOut
+  quiet e h n t l = rw (ne-eqb T 0 n, le-ltb mostTaps T t, lt-leb w 1 l) (refl, (ap (λ (p : List ℤ). firState c T D p (w - 1)) h, refl))
 
   pub makes :
-      (e f : List ℤ) (y : ℤ) → e ≡ stored T w x d → f ≡ moved T D e → y ≡ filtered c T e 0 → (T ≡ 0 → ⊥) → T ≤ mostTaps → w ≤ 1
-      → (some y ≡ firOut (firState c T D d w) x) × (firState c T D f D ≡ firNext (firState c T D d w) x)
-  unfolding firOut firNext
-  makes e f y h k v n t l =
+      (e f : List ℤ) (y : ℤ) (k : Bool) → e ≡ stored T w x d → f ≡ moved T D e → (y ≡ filtered c T e 0) × (k ≡ isCut w16 (windowSum c T e 0)) → (T ≡ 0 → ⊥) → T ≤ mostTaps → w ≤ 1
+      → (some y ≡ firOut (firState c T D d w) x) × ((firState c T D f D ≡ firNext (firState c T D d w) x) × (k ≡ cutIn (firSumOut (firState c T D d w) x)))
+  unfolding firOut firNext firSumOut
+  makes e f y k h m v n t l =
       rw (ne-eqb T 0 n, le-ltb mostTaps T t, le-leb w 1 l)
-      (ap some (v ∙ ap (λ (p : List ℤ). filtered c T p 0) h), ap (λ (p : List ℤ). firState c T D p D) (k ∙ ap (moved T D) h))
+      (ap some (v .0 ∙ ap (λ (p : List ℤ). filtered c T p 0) h), (ap (λ (p : List ℤ). firState c T D p D) (m ∙ ap (moved T D) h), v .1 ∙ ap (λ (p : List ℤ). isCut w16 (windowSum c T p 0)) h))
 
 -- settings that are not refused
 pub record SettingsIn (T D : ℕ) : Type 0 where
@@ -126,7 +128,7 @@ settings-valid T D w v = elim (decLe 1 T) [
   | no h ↦ (let z : T ≡ 0 = omega arith in rw (eq-eqb T 0 z))
 ]
 
--- a valid state has at most 64 taps
+-- a valid state's taps lie in its array
 pub valid-few : (T D w : ℕ) → firValidInLine T D w ≡ true → T ≤ mostTaps
 valid-few T D w v = elim (decLe 1 T) [
   | yes h ↦ valid-on T D w (line-valid T D w (let n : T ≡ 0 → ⊥ = omega arith in n) v) .within .few
@@ -156,13 +158,15 @@ line-next s x v = elim (decLe 1 (s .«tap_count»)) [
   | yes h ↦ (let n : s .«tap_count» ≡ 0 → ⊥ = omega arith in
       valid-in-line _ _ _ (valid-next s x (line-valid (s .«tap_count») (s .factor) (s .wait) n v)))
   | no h ↦ (let z : s .«tap_count» ≡ 0 = omega arith in
-      subst (λ (t : FirDecimator). validInLine t ≡ true) (off (s .taps) (s .«tap_count») (s .factor) (s .delay) (s .wait) x z .1) v)
+      subst (λ (t : FirDecimator). validInLine t ≡ true) (off (s .taps) (s .«tap_count») (s .factor) (s .delay) (s .wait) x z .1 .0) v)
 ]
 
 -- what a caller sees of a valid state is the section, and no sample is refused
 pub outs-steps : (s : FirDecimator) (w : List ℤ) → valid s ≡ true → outs steps s w ≡ outs fir s w
 outs-steps s [] v = refl
-outs-steps s (a ∷ w) v = rw v (ap (onto (firOut s a)) (outs-steps (firNext s a) w (valid-next s a v)))
+outs-steps s (a ∷ w) v =
+    let o : firStep s a .value .made ≡ firOut s a = rw v in
+    ap (λ (q : Option ℤ). onto q (outs steps (firStep s a .state) w)) o ∙ rw v (ap (onto (firOut s a)) (outs-steps (firNext s a) w (valid-next s a v)))
 
 pub never-refused : (s : FirDecimator) → valid s ≡ true → (w : List ℤ) (x : ℤ) → firStep (state steps s w) x .number ≡ 0
 never-refused s v w x =

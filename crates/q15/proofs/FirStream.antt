@@ -1,15 +1,15 @@
 -- The streaming FIR, from its opening over any list, makes the outputs of the whole list: a relation between the samples so far and the state is kept, which
 -- says where the next window begins and that the window's places hold its samples so far.
-use mathlib.Core.Path.{_≡_, refl, sym, ap, _∙_}
+use mathlib.Core.Path.{_≡_, refl, sym, ap, ap₂, _∙_}
 use mathlib.Core.Bool.{Bool, true, false, cond, _&&_}
-use mathlib.Core.List.{List, [], _∷_, _++_}
+use mathlib.Core.List.{List, [], _∷_, _++_, map, map-append}
 use mathlib.Core.Option.{Option, none, some}
-use Prim.Native.Nat.{ℕ, suc, _+_, _*_, _/_, _%_, _-_, _≤_, _<_}
+use Prim.Native.Nat.{ℕ, zero, suc, _+_, _*_, _/_, _%_, _-_, _≤_, _<_}
 use native.Mathlib.Nat.{suc-mul, zero-mul, mul-mod-left}
 use native.Mathlib.Omega.{arith}
 use native.Mathlib.Decide.{decLe}
 use borrow.Author.Tests.{le-leb, lt-leb, eq-eqb, ne-eqb, le-ltb}
-use lib.Dec.{eqb}
+use lib.Dec.{eqb, leb, ltb}
 use lib.IntN.{ℤ, pos}
 use lib.ListN.{length, set, take, replicate, length-append, length-replicate, List·getD-append}
 use lib.Seq.{getD-take, getD-set-same, getD-set-other, getD-at, length-take-le}
@@ -19,16 +19,16 @@ use Rattle.theory.specs.Sections.{Section, onto, outs}
 use Rattle.theory.proofs.Sections.{outs-off}
 use Rattle.theory.proofs.Listed.{collected, madeAt}
 use Rattle.theory.proofs.Decimation.{firFires, fir-one, fir-no, fir-listed}
-use Rattle.q15.specs.Fixed.{flooredProduct, cut, at}
+use Rattle.q15.specs.Fixed.{flooredProduct, cut, isCut, at}
 use Rattle.q15.specs.FirSum.{firSum}
-use Rattle.q15.specs.PolyphaseDecimate.{filtered, decimatedCount, decimated}
-use Rattle.q15.specs.FirDecimator.{mostTaps, firState, firZeros, stored, moved, firNext, firOut, fir, settingsNumber, settingsNumberInLine, padded, fresh, freshInLine, firWhole}
+use Rattle.q15.specs.PolyphaseDecimate.{windowSum, firSums, filtered, decimatedCount, decimated}
+use Rattle.q15.specs.FirDecimator.{mostTaps, firState, firZeros, stored, moved, firNext, firOut, firSumOut, cutIn, summing, fir, settingsNumber, settingsNumberInLine, valid, flagged, flags, padded, fresh, freshInLine, firWhole}
 use Rattle.q15.specs.declared.fir_decimator.FirDecimator.{FirDecimator}
 use Rattle.q15.proofs.Sums.{sum-ext}
 use Rattle.q15.proofs.Filling.{listed-ext}
 use Rattle.q15.proofs.Counts.{decimated-in}
 use Rattle.q15.proofs.Windows.{length-moved, moved-at, length-stored}
-use Rattle.q15.proofs.FirSteps.{settings-in, line-settings}
+use Rattle.q15.proofs.FirSteps.{valid-on, valid-next, settings-in, line-settings}
 
 -- what a section makes of a whole list, where a relation between the values so far and the state is kept
 module _ {S A B : Type 0} (f : Section S A B) (R : List A → S → Type 0) (made : List A → Option B)
@@ -40,15 +40,14 @@ module _ {S A B : Type 0} (f : Section S A B) (R : List A → S → Type 0) (mad
       ap (λ (o : Option B). onto o (outs f (f .next s a) w)) (out-by v s a r)
       ∙ ap (onto (made (v ++ (a ∷ [])))) (outs-by (v ++ (a ∷ [])) w (f .next s a) (next-by v s a r))
 
--- an output follows from the T samples and the T taps that it is made of
-filtered-ext :
+-- a sum follows from the T samples and the T taps that it is made of
+window-ext :
     (c e : List ℤ) (T : ℕ) (s u : List ℤ) (i j : ℕ) → ((t : ℕ) → t < T → at c t ≡ at e t) → ((t : ℕ) → t < T → at s (i + t) ≡ at u (j + t))
-    → filtered c T s i ≡ filtered e T u j
-unfolding filtered firSum
-filtered-ext c e T s u i j g h =
-    ap (cut w16)
-    (sum-ext T (λ t. flooredProduct (at s (i + t)) (at c t)) (λ t. flooredProduct (at u (j + t)) (at e t))
-    (λ t l. ap (λ (z : ℤ). flooredProduct z (at c t)) (h t l) ∙ ap (flooredProduct (at u (j + t))) (g t l)))
+    → windowSum c T s i ≡ windowSum e T u j
+unfolding firSum
+window-ext c e T s u i j g h =
+    sum-ext T (λ t. flooredProduct (at s (i + t)) (at c t)) (λ t. flooredProduct (at u (j + t)) (at e t))
+    (λ t l. ap (λ (z : ℤ). flooredProduct z (at c t)) (h t l) ∙ ap (flooredProduct (at u (j + t))) (g t l))
 
 length-snoc : (v : List ℤ) (a : ℤ) → length (v ++ (a ∷ [])) ≡ suc (length v)
 length-snoc v a = let e : length (v ++ (a ∷ [])) ≡ length v + 1 = length-append v (a ∷ []) in let q : length (v ++ (a ∷ [])) ≡ suc (length v) = omega (arith, e) in q
@@ -159,13 +158,13 @@ module _ (c : List ℤ) (T D : ℕ) (pt : 0 < T) (small : T ≤ mostTaps) (pd : 
             };
           }
 
-  -- the output that the last of the samples u makes
-  abbrev lastOut : List ℤ → ℤ
-  lastOut u = filtered c T u (length u - T)
+  -- the sum that the last of the samples u makes
+  abbrev lastSum : List ℤ → ℤ
+  lastSum u = windowSum c T u (length u - T)
 
-  held-out : (v : List ℤ) (s : FirDecimator) (a : ℤ) → Held v s → firOut s a ≡ madeAt (firFires T D pt pd) lastOut (v ++ (a ∷ []))
-  unfolding firOut
-  held-out v s a h = ap (λ (x : FirDecimator). firOut x a) (h .is) ∙ go (decLe (h .wait) 1)
+  held-out : (v : List ℤ) (s : FirDecimator) (a : ℤ) → Held v s → firSumOut s a ≡ madeAt (firFires T D pt pd) lastSum (v ++ (a ∷ []))
+  unfolding firSumOut
+  held-out v s a h = ap (λ (x : FirDecimator). firSumOut x a) (h .is) ∙ go (decLe (h .wait) 1)
     where
       u : List ℤ
       u = v ++ (a ∷ [])
@@ -173,23 +172,23 @@ module _ (c : List ℤ) (T D : ℕ) (pt : 0 < T) (small : T ≤ mostTaps) (pd : 
       w : ℕ
       w = h .wait
 
-      go : Dec (w ≤ 1) → firOut (firState c T D (h .delay) w) a ≡ madeAt (firFires T D pt pd) lastOut u
+      go : Dec (w ≤ 1) → firSumOut (firState c T D (h .delay) w) a ≡ madeAt (firFires T D pt pd) lastSum u
       go (yes k) =
           let one : w ≡ 1 = omega (arith, h .places .waits) in
           let f : firFires T D pt pd (length u) ≡ true = ap (firFires T D pt pd) (length-snoc v a) ∙ fires v (h .delay) w (h .places) one in
-          let e : filtered c T (stored T w a (h .delay)) 0 ≡ lastOut u =
-          filtered-ext c c T (stored T w a (h .delay)) u 0 (length u - T) (λ t l. refl)
+          let e : windowSum c T (stored T w a (h .delay)) 0 ≡ lastSum u =
+          window-ext c c T (stored T w a (h .delay)) u 0 (length u - T) (λ t l. refl)
           (λ t l.
           let z : 0 + t ≡ t = omega arith in
           let i : base (length v) + t ≡ length u - T + t = omega (arith, length-snoc v a, h .places .wait-is, one) in
           ap (at (stored T w a (h .delay))) z
           ∙ more v (h .delay) w (base (length v)) a (h .places) t l (omega (arith, h .places .wait-is, one, l))
           ∙ ap (at u) i) in
-          rw (ne-eqb T 0 on, le-ltb mostTaps T small, le-leb w 1 k) (ap some e ∙ sym (ap (λ (b : Bool). cond b (some (lastOut u)) none) f))
+          rw (ne-eqb T 0 on, le-ltb mostTaps T small, le-leb w 1 k) (ap some e ∙ sym (ap (λ (b : Bool). cond b (some (lastSum u)) none) f))
       go (no k) =
           let above : 1 < w = omega arith in
           let f : firFires T D pt pd (length u) ≡ false = ap (firFires T D pt pd) (length-snoc v a) ∙ rests v (h .delay) w (h .places) above in
-          rw (ne-eqb T 0 on, le-ltb mostTaps T small, lt-leb w 1 above) (sym (ap (λ (b : Bool). cond b (some (lastOut u)) none) f))
+          rw (ne-eqb T 0 on, le-ltb mostTaps T small, lt-leb w 1 above) (sym (ap (λ (b : Bool). cond b (some (lastSum u)) none) f))
 
   opened : Held [] (firState c T D (replicate mostTaps (pos 0)) T)
   opened =
@@ -201,14 +200,14 @@ module _ (c : List ℤ) (T D : ℕ) (pt : 0 < T) (small : T ≤ mostTaps) (pd : 
         places = record { wait-is = omega (arith, z); waits = pt; long = length-replicate mostTaps (pos 0); held = λ j l m. absurd (omega (arith, m)) };
       }
 
-  streamed : (w : List ℤ) → outs fir (firState c T D (replicate mostTaps (pos 0)) T) w ≡ listed (decimatedCount T D (length w)) (λ i. filtered c T w (i * D))
-  streamed w =
-      outs-by fir Held (madeAt (firFires T D pt pd) lastOut) held-next held-out [] w (firState c T D (replicate mostTaps (pos 0)) T) opened
-      ∙ fir-listed T D pt pd lastOut w
-      ∙ listed-ext (decimatedCount T D (length w)) (λ i. lastOut (take (i * D + T) w)) (λ i. filtered c T w (i * D))
+  summed : (w : List ℤ) → outs summing (firState c T D (replicate mostTaps (pos 0)) T) w ≡ listed (decimatedCount T D (length w)) (λ i. windowSum c T w (i * D))
+  summed w =
+      outs-by summing Held (madeAt (firFires T D pt pd) lastSum) held-next held-out [] w (firState c T D (replicate mostTaps (pos 0)) T) opened
+      ∙ fir-listed T D pt pd lastSum w
+      ∙ listed-ext (decimatedCount T D (length w)) (λ i. lastSum (take (i * D + T) w)) (λ i. windowSum c T w (i * D))
       (λ i l.
       let n : length (take (i * D + T) w) ≡ i * D + T = length-take-le (i * D + T) w (decimated-in T D (length w) i l) in
-      filtered-ext c c T (take (i * D + T) w) w (length (take (i * D + T) w) - T) (i * D) (λ t h. refl)
+      window-ext c c T (take (i * D + T) w) w (length (take (i * D + T) w) - T) (i * D) (λ t h. refl)
       (λ t h.
       let e : length (take (i * D + T) w) - T + t ≡ i * D + t = omega (arith, n) in
       ap (at (take (i * D + T) w)) e ∙ getD-take (i * D + T) w (i * D + t) (pos 0) (omega arith)))
@@ -217,20 +216,110 @@ off : (w : List ℤ) → outs fir firZeros w ≡ w
 unfolding firNext firOut
 off w = outs-off fir (λ s. s .«tap_count» ≡ 0) (λ s a o. rw (eq-eqb (s .«tap_count») 0 o) o) (λ s a o. rw (eq-eqb (s .«tap_count») 0 o)) firZeros w refl
 
--- zeros behind the taps change nothing
-padding : (c : List ℤ) (D : ℕ) (w : List ℤ) → listed (decimatedCount (length c) D (length w)) (λ i. filtered (padded c) (length c) w (i * D)) ≡ decimated c D w
-unfolding decimated padded
-padding c D w =
-    listed-ext (decimatedCount (length c) D (length w)) (λ i. filtered (padded c) (length c) w (i * D)) (λ i. filtered c (length c) w (i * D))
-    (λ i l.
-    filtered-ext (padded c) c (length c) w w (i * D) (i * D) (λ t h. List·getD-append c (replicate (mostTaps - length c) (pos 0)) (pos 0) t h) (λ t h. refl))
+off-sums : (w : List ℤ) (s : FirDecimator) → s .«tap_count» ≡ 0 → outs summing s w ≡ []
+unfolding firNext firSumOut
+off-sums [] s e = refl
+off-sums (a ∷ w) s e = rw (eq-eqb (s .«tap_count») 0 e) (off-sums w s e)
 
--- a fresh decimator makes section 3 of any list; in the line also one that is off
-pub fresh-streamed : (c : List ℤ) (D : ℕ) → settingsNumber (length c) D ≡ 0 → (w : List ℤ) → outs fir (fresh c D) w ≡ decimated c D w
+-- a part that is on makes the sums, cut
+abbrev cutOf : Option ℤ → Option ℤ
+cutOf none = none
+cutOf (some z) = some (cut w16 z)
+
+out-cut : (s : FirDecimator) (a : ℤ) → (s .«tap_count» ≡ 0 → ⊥) → firOut s a ≡ cutOf (firSumOut s a)
+unfolding firOut firSumOut filtered
+out-cut s a n = rw (ne-eqb (s .«tap_count») 0 n) (go (ltb mostTaps (s .«tap_count»)) (leb (s .wait) 1) _)
+  where
+    go : (many due : Bool) (z : ℤ) → cond many none (cond due (some (cut w16 z)) none) ≡ cutOf (cond many none (cond due (some z) none))
+    go true due z = refl
+    go false true z = refl
+    go false false z = refl
+
+taps-kept : (s : FirDecimator) (a : ℤ) → firNext s a .«tap_count» ≡ s .«tap_count»
+unfolding firNext
+taps-kept s a = go (eqb (s .«tap_count») 0) (ltb mostTaps (s .«tap_count»)) (leb (s .wait) 1) _ _
+  where
+    go :
+        (off many due : Bool) (p q : List ℤ)
+        → cond off s (cond many s (cond due (firState (s .taps) (s .«tap_count») (s .factor) p (s .factor)) (firState (s .taps) (s .«tap_count») (s .factor) q (s .wait - 1)))) .«tap_count» ≡ s .«tap_count»
+    go true many due p q = refl
+    go false true due p q = refl
+    go false false true p q = refl
+    go false false false p q = refl
+
+cut-sums : (w : List ℤ) (s : FirDecimator) → (s .«tap_count» ≡ 0 → ⊥) → outs fir s w ≡ map (cut w16) (outs summing s w)
+cut-sums [] s n = refl
+cut-sums (a ∷ w) s n =
+    ap₂ {C = List ℤ} (λ (o : Option ℤ) (l : List ℤ). onto o l) (out-cut s a n) (cut-sums w (firNext s a) (λ e. n (sym (taps-kept s a) ∙ e))) ∙ go (firSumOut s a)
+  where
+    go : (o : Option ℤ) → onto (cutOf o) (map (cut w16) (outs summing (firNext s a) w)) ≡ map (cut w16) (onto o (outs summing (firNext s a) w))
+    go none = refl
+    go (some z) = refl
+
+map-listed : {A B : Type 0} (g : A → B) (n : ℕ) (f : ℕ → A) → map g (listed n f) ≡ listed n (λ i. g (f i))
+map-listed g zero f = refl
+map-listed {A} {B} g (suc n) f = map-append g (listed n f) (f n ∷ []) ∙ ap (λ (l : List B). l ++ (g (f n) ∷ [])) (map-listed g n f)
+
+pub decimated-sums : (c : List ℤ) (D : ℕ) (w : List ℤ) → map (cut w16) (firSums c D w) ≡ decimated c D w
+unfolding firSums decimated filtered
+decimated-sums c D w = map-listed (cut w16) (decimatedCount (length c) D (length w)) (λ i. windowSum c (length c) w (i * D))
+
+-- zeros behind the taps change nothing
+padding : (c : List ℤ) (D : ℕ) (w : List ℤ) → listed (decimatedCount (length c) D (length w)) (λ i. windowSum (padded c) (length c) w (i * D)) ≡ firSums c D w
+unfolding firSums padded
+padding c D w =
+    listed-ext (decimatedCount (length c) D (length w)) (λ i. windowSum (padded c) (length c) w (i * D)) (λ i. windowSum c (length c) w (i * D))
+    (λ i l.
+    window-ext (padded c) c (length c) w w (i * D) (i * D) (λ t h. List·getD-append c (replicate (mostTaps - length c) (pos 0)) (pos 0) t h) (λ t h. refl))
+
+-- a fresh decimator has taps
+taps-some : (c : List ℤ) (D : ℕ) → settingsNumber (length c) D ≡ 0 → fresh c D .«tap_count» ≡ 0 → ⊥
 unfolding fresh
-fresh-streamed c D e w =
+taps-some c D e z = omega (arith, settings-in (length c) D e .some, z)
+
+-- a fresh decimator makes the sums of section 3 of any list; in the line one that is off makes none
+fresh-summed : (c : List ℤ) (D : ℕ) → settingsNumber (length c) D ≡ 0 → (w : List ℤ) → outs summing (fresh c D) w ≡ firSums c D w
+unfolding fresh
+fresh-summed c D e w =
     let i = settings-in (length c) D e in
-    streamed (padded c) (length c) D (i .some) (i .few) (i .factor) w ∙ padding c D w
+    summed (padded c) (length c) D (i .some) (i .few) (i .factor) w ∙ padding c D w
+
+pub line-summed : (c : List ℤ) (D : ℕ) → settingsNumberInLine (length c) D ≡ 0 → (w : List ℤ) → outs summing (freshInLine c D) w ≡ cond (eqb (length c) 0) [] (firSums c D w)
+unfolding freshInLine
+line-summed c D e w = go (decLe 1 (length c))
+  where
+    go : Dec (1 ≤ length c) → outs summing (freshInLine c D) w ≡ cond (eqb (length c) 0) [] (firSums c D w)
+    go (yes h) =
+        let n : length c ≡ 0 → ⊥ = omega arith in
+        rw (ne-eqb (length c) 0 n) (fresh-summed c D (line-settings (length c) D n e) w)
+    go (no h) = let z : length c ≡ 0 = omega arith in rw (eq-eqb (length c) 0 z) (off-sums w firZeros refl)
+
+-- and section 3 of any list, those sums cut; in the line one that is off hands the list on
+pub fresh-streamed : (c : List ℤ) (D : ℕ) → settingsNumber (length c) D ≡ 0 → (w : List ℤ) → outs fir (fresh c D) w ≡ decimated c D w
+fresh-streamed c D e w = cut-sums w (fresh c D) (taps-some c D e) ∙ ap (map (cut w16)) (fresh-summed c D e w) ∙ decimated-sums c D w
+
+-- and its flags say which of those sums are cut
+flags-are : (w : List ℤ) (s : FirDecimator) → valid s ≡ true → outs flags s w ≡ map (isCut w16) (outs summing s w)
+flags-are [] s v = refl
+flags-are (a ∷ w) s v =
+    let n : s .«tap_count» ≡ 0 → ⊥ = (λ z. omega (arith, valid-on (s .«tap_count») (s .factor) (s .wait) v .within .some, z)) in
+    let o : flagged (firOut s a) (cutIn (firSumOut s a)) ≡ flagOf (firSumOut s a) = ap (λ (q : Option ℤ). flagged q (cutIn (firSumOut s a))) (out-cut s a n) ∙ one (firSumOut s a) in
+    rw v (ap₂ {C = List Bool} (λ (q : Option Bool) (l : List Bool). onto q l) o (flags-are w (firNext s a) (valid-next s a v)) ∙ more (firSumOut s a))
+  where
+    flagOf : Option ℤ → Option Bool
+    flagOf none = none
+    flagOf (some z) = some (isCut w16 z)
+
+    one : (q : Option ℤ) → flagged (cutOf q) (cutIn q) ≡ flagOf q
+    one none = refl
+    one (some z) = refl
+
+    more : (q : Option ℤ) → onto (flagOf q) (map (isCut w16) (outs summing (firNext s a) w)) ≡ map (isCut w16) (onto q (outs summing (firNext s a) w))
+    more none = refl
+    more (some z) = refl
+
+pub fresh-flagged : (c : List ℤ) (D : ℕ) → settingsNumber (length c) D ≡ 0 → valid (fresh c D) ≡ true → (w : List ℤ) → outs flags (fresh c D) w ≡ map (isCut w16) (firSums c D w)
+fresh-flagged c D e v w = flags-are w (fresh c D) v ∙ ap (map (isCut w16)) (fresh-summed c D e w)
 
 pub line-streamed : (c : List ℤ) (D : ℕ) → settingsNumberInLine (length c) D ≡ 0 → (w : List ℤ) → outs fir (freshInLine c D) w ≡ firWhole c D w
 unfolding freshInLine firWhole

@@ -1,5 +1,7 @@
 mod Sums
-mod Filling
+pub mod Rounding
+pub mod Filling
+mod CutFilling
 mod Rows
 mod Counts
 mod Between

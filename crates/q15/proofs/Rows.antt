@@ -16,7 +16,7 @@ use Rattle.refusal.proofs.Limits.{Between, within, Lengths, lengths-fine, first
 use Rattle.q15.specs.PolyphaseInterpolate.{interpolateNumber}
 use Rattle.q15.specs.ResampleLinear.{linearNumber}
 use Rattle.refusal.specs.Rows.{outside, mostBlock, samplesRefused, firstOf}
-use Rattle.q15.specs.Block.{mostFactor, samplesNumber, blockNumber, blockAnswer, blockSpan}
+use Rattle.q15.specs.Block.{mostFactor, samplesNumber, blockNumber, blockAnswer, blockSpan, blockCuts}
 
 -- row q does not apply, nor do those below it
 passed : (b : Bool) (q rest : ℕ) → cond b (suc q) rest ≡ 0 → (b ≡ false) × (rest ≡ 0)
@@ -57,6 +57,9 @@ module _ (number : ℕ) (q : Refusal) (e : numberOf q ≡ number) where
   pub block-refused : (count : ℕ) (outputs dst : List ℤ) → (_≡_ {A = Answer ℕ} (record { number = numberOf q; value = 0 }) (blockAnswer number count)) × (dst ≡ blockSpan number outputs dst)
   block-refused count outputs dst =
       rw turned (ap {B = Answer ℕ} (λ (n : ℕ). record { number = n; value = 0 }) (is-suc q), refl)
+
+  pub refused-count : (sums dst : List ℤ) → 0 ≡ blockCuts number sums dst
+  refused-count sums dst = rw turned
 
 kept : (b : Bool) (q : ℕ) → cond b 0 (suc q) ≡ 0 → b ≡ true
 kept true q e = refl

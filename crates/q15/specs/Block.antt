@@ -4,9 +4,11 @@ use mathlib.Core.List.{List, _++_}
 use Prim.Native.Nat.{ℕ, zero, suc}
 use lib.IntN.{ℤ}
 use lib.ListN.{length, take, drop}
+use mir.Syntax.{w16}
 use Rattle.refusal.specs.Table.{numberOf}
 use Rattle.refusal.specs.Outcome.{Answer}
 use Rattle.refusal.specs.Rows.{outside, mostBlock, samplesRefused}
+use Rattle.q15.specs.Fixed.{cutCount}
 use Rattle.q15.specs.declared.block.Rows.{Rows}
 use Rattle.q15.specs.declared.block.Rows.the-variants.{Passed, Refused}
 
@@ -40,3 +42,8 @@ blockAnswer (suc q) count = record { number = suc q; value = 0 }
 abbrev pub blockSpan : ℕ → List ℤ → List ℤ → List ℤ
 blockSpan zero outputs dst = written outputs dst
 blockSpan (suc q) outputs dst = dst
+
+-- 02, §4: how many of the outputs that were written were cut, by the sums that they were cut from; "The counts .. of a refusal are 0"
+abbrev pub blockCuts : ℕ → List ℤ → List ℤ → ℕ
+blockCuts zero sums dst = cutCount w16 (take (length dst) sums)
+blockCuts (suc q) sums dst = 0

@@ -3,18 +3,21 @@
 -- beside the line no taps is refused by 6, as row 6 has it, and the zeros that a refused opening leaves answer 15.
 use mathlib.Core.Path.{_≡_}
 use mathlib.Core.Bool.{Bool, true, false, not, _&&_, cond}
-use mathlib.Core.List.{List, _++_}
+use mathlib.Core.List.{List, _++_, map}
 use mathlib.Core.Option.{Option, none, some}
 use Prim.Native.Nat.{ℕ, zero, suc, _-_}
 use lib.Dec.{leb, ltb, eqb}
 use lib.IntN.{ℤ, pos}
+use mir.Syntax.{w16}
 use lib.ListN.{length, set, take, drop, replicate}
 use Rattle.refusal.specs.Table.{numberOf}
 use Rattle.refusal.specs.Outcome.{Outcome, Opened, openingNumber}
 use Rattle.theory.specs.Sections.{Section, outs, state}
 use Rattle.refusal.specs.Rows.{outside}
+use Rattle.q15.specs.Fixed.{isCut}
 use Rattle.q15.specs.Block.{mostFactor}
-use Rattle.q15.specs.PolyphaseDecimate.{filtered, decimated}
+use Rattle.q15.specs.PolyphaseDecimate.{windowSum, firSums, filtered, decimated}
+use Rattle.q15.specs.Rounding.{Rounded}
 use Rattle.q15.specs.declared.fir_decimator.FirDecimator.{FirDecimator}
 use Rattle.q15.specs.declared.fir_decimator.FirMade.{FirMade}
 use Rattle.q15.specs.declared.fir_decimator.FirMade.the-variants as made
@@ -23,9 +26,9 @@ use Rattle.q15.specs.declared.fir_decimator.FirOutput.the-variants as ou
 use Rattle.q15.specs.declared.fir_decimator.FirStep.{FirStep}
 use Rattle.q15.specs.declared.fir_decimator.FirOpening.{FirOpening}
 
--- the most taps of the line's FIR
+-- 02, request 7: "The line's FIR limit goes from 64 to 128, so refusal 6 moves there."
 abbrev pub mostTaps : ℕ
-mostTaps = 64
+mostTaps = 128
 
 -- a state, by T and D, the taps with what lies behind them, the delay and the wait
 abbrev pub firState : List ℤ → ℕ → ℕ → List ℤ → ℕ → FirDecimator
@@ -47,7 +50,7 @@ moved T D d = take (T - D) (drop D d) ++ drop (T - D) d
 abbrev pub taking : FirDecimator → ℤ → List ℤ
 taking s x = stored (s .«tap_count») (s .wait) x (s .delay)
 
--- the part as a section on the bits: off, it hands each value on; a state of over 64 taps has no window, and nothing comes of it; else the sample that the
+-- the part as a section on the bits: off, it hands each value on; a state of more taps than that has no window, and nothing comes of it; else the sample that the
 -- wait was for makes an output
 unfoldable pub firNext : FirDecimator → ℤ → FirDecimator
 firNext s x =
@@ -61,6 +64,20 @@ firOut s x =
     cond (eqb (s .«tap_count») 0) (some x)
     (cond (ltb mostTaps (s .«tap_count»)) none (cond (leb (s .wait) 1) (some (filtered (s .taps) (s .«tap_count») (taking s x) 0)) none))
 
+-- 02, §4: the sum that a sample makes, before it is cut; off, there is none
+unfoldable pub firSumOut : FirDecimator → ℤ → Option ℤ
+firSumOut s x =
+    cond (eqb (s .«tap_count») 0) none
+    (cond (ltb mostTaps (s .«tap_count»)) none (cond (leb (s .wait) 1) (some (windowSum (s .taps) (s .«tap_count») (taking s x) 0)) none))
+
+abbrev pub summing : Section FirDecimator ℤ ℤ
+summing = record { next = firNext; out = firSumOut }
+
+-- whether a sum was cut, where there is one
+abbrev pub cutIn : Option ℤ → Bool
+cutIn none = false
+cutIn (some z) = isCut w16 z
+
 abbrev pub fir : Section FirDecimator ℤ ℤ
 fir = record { next = firNext; out = firOut }
 
@@ -68,7 +85,7 @@ fir = record { next = firNext; out = firOut }
 unfoldable pub settingsNumber : ℕ → ℕ → ℕ
 settingsNumber T D = cond (outside D 1 mostFactor) 5 (cond (outside T 1 mostTaps) 6 0)
 
--- in the line "no taps means off, and D is not looked at", so that of row 6 "only over 64" is left
+-- in the line "no taps means off, and D is not looked at", so that of row 6 "only over" the limit is left
 unfoldable pub settingsNumberInLine : ℕ → ℕ → ℕ
 settingsNumberInLine T D = cond (eqb T 0) 0 (settingsNumber T D)
 
@@ -90,9 +107,16 @@ valid s = firValid (s .«tap_count») (s .factor) (s .wait)
 abbrev pub validInLine : FirDecimator → Bool
 validInLine s = firValidInLine (s .«tap_count») (s .factor) (s .wait)
 
+-- what comes of a sample, and whether it was cut
+pub record Filtered : Type 0 where
+  pub made : Option ℤ
+  pub cut : Bool
+
 -- one sample beside the line: "any call on a state" answers 15 first
-abbrev pub firStep : FirDecimator → ℤ → Outcome (Option ℤ) FirDecimator
-firStep s x = cond (valid s) (record { number = 0; value = firOut s x; state = firNext s x }) (record { number = 15; value = none; state = s })
+abbrev pub firStep : FirDecimator → ℤ → Outcome Filtered FirDecimator
+firStep s x =
+    cond (valid s) (record { number = 0; value = record { made = firOut s x; cut = cutIn (firSumOut s x) }; state = firNext s x })
+    (record { number = 15; value = record { made = none; cut = false }; state = s })
 
 -- the taps, and zeros behind them
 unfoldable pub padded : List ℤ → List ℤ
@@ -134,15 +158,23 @@ outputValue output.Nothing = none
 outputValue (output.Value q) = some (q .0)
 outputValue (output.Refused q) = none
 
-abbrev pub told : FirStep → Outcome (Option ℤ) FirDecimator
-told r = record { number = outputNumber (r .output); value = outputValue (r .output); state = r .state }
+abbrev pub told : FirStep → Outcome Filtered FirDecimator
+told r = record { number = outputNumber (r .output); value = record { made = outputValue (r .output); cut = r .cut }; state = r .state }
 
 abbrev pub toldOpening : FirOpening → Opened FirDecimator
 toldOpening r = record { number = openingNumber (r .answer); state = r .state }
 
 -- the steps as a caller sees them, one after the other
 abbrev pub steps : Section FirDecimator ℤ ℤ
-steps = record { next = λ s x. firStep s x .state; out = λ s x. firStep s x .value }
+steps = record { next = λ s x. firStep s x .state; out = λ s x. firStep s x .value .made }
+
+-- whether each output was cut, likewise
+abbrev pub flagged : Option ℤ → Bool → Option Bool
+flagged none b = none
+flagged (some y) b = some b
+
+abbrev pub flags : Section FirDecimator ℤ Bool
+flags = record { next = λ s x. firStep s x .state; out = λ s x. flagged (firStep s x .value .made) (firStep s x .value .cut) }
 
 -- section 3 of a whole list in the line, as the block has it: "A part that is off hands its list on unchanged"
 unfoldable pub firWhole : List ℤ → ℕ → List ℤ → List ℤ
@@ -152,5 +184,9 @@ firWhole c D w = cond (eqb (length c) 0) w (decimated c D w)
 pub record Streams (c : List ℤ) (D : ℕ) (s : FirDecimator) : Type 0 where
   -- over any list, so after every sample, its outputs are the block's for the list so far: output i comes with sample iD+T−1
   pub outputs : (w : List ℤ) → outs steps s w ≡ decimated c D w
+  -- 02, §4: and cut are those of them that the block cuts
+  pub cuts : (w : List ℤ) → outs flags s w ≡ map (isCut w16) (firSums c D w)
+  -- 02, §8: and before cutting each is off by what rounding its products down takes
+  pub rounding : (w : List ℤ) → Rounded c D w
   -- no sample after the opening is refused
   pub never-refused : (w : List ℤ) (x : ℤ) → firStep (state steps s w) x .number ≡ 0

@@ -2,6 +2,7 @@ pub mod Fixed
 pub mod FirSum
 pub mod Block
 pub mod PolyphaseDecimate
+pub mod Rounding
 pub mod FirDecimator
 pub mod PolyphaseInterpolate
 pub mod ResampleLinear

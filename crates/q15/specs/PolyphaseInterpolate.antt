@@ -11,11 +11,15 @@ use Rattle.theory.specs.Lists.{listed}
 use Rattle.q15.specs.Fixed.{cut}
 use Rattle.q15.specs.FirSum.{firSum}
 use Rattle.refusal.specs.Rows.{firstOf}
-use Rattle.q15.specs.Block.{blockNumber, blockAnswer, blockSpan}
+use Rattle.q15.specs.Block.{blockNumber, blockAnswer, blockSpan, blockCuts}
 
--- "output iL+p is the cut of L × sum over t<K of floor(s[i+t] × c[tL+p] / 32768)"
+-- "L × sum over t<K of floor(s[i+t] × c[tL+p] / 32768)"
+abbrev pub phaseSum : List ℤ → ℕ → ℕ → List ℤ → ℕ → ℕ → ℤ
+phaseSum c L K s i p = pos L *ℤ firSum (λ t. t * L + p) c K s i
+
+-- "output iL+p is the cut of" it
 unfoldable pub phaseOutput : List ℤ → ℕ → ℕ → List ℤ → ℕ → ℕ → ℤ
-phaseOutput c L K s i p = cut w16 (pos L *ℤ firSum (λ t. t * L + p) c K s i)
+phaseOutput c L K s i p = cut w16 (phaseSum c L K s i p)
 
 -- "(n−K+1) × L, 0 where n < K"
 abbrev pub interpolatedCount : ℕ → ℕ → ℕ → ℕ
@@ -24,6 +28,10 @@ interpolatedCount K L n = cond (leb K n) ((n - K + 1) * L) 0
 -- the outputs of the whole list, output j = iL+p at sample i = floor(j/L) and phase p, the rest
 unfoldable pub interpolated : List ℤ → ℕ → List ℤ → List ℤ
 interpolated c L s = listed (interpolatedCount (length c / L) L (length s)) (λ j. phaseOutput c L (length c / L) s (j / L) (j % L))
+
+-- 02, §4: the sums of the whole list before they are cut
+unfoldable pub phaseSums : List ℤ → ℕ → List ℤ → List ℤ
+phaseSums c L s = listed (interpolatedCount (length c / L) L (length s)) (λ j. phaseSum c L (length c / L) s (j / L) (j % L))
 
 -- rows 5 to 7, and 8: "taps not a multiple of L"
 unfoldable pub interpolateNumber : ℕ → ℕ → ℕ → ℕ → ℕ
@@ -37,3 +45,7 @@ module _ (c : List ℤ) (L : ℕ) (s dst : List ℤ) where
 
   abbrev pub interpolateSpan : List ℤ
   interpolateSpan = blockSpan (interpolateNumber L (length c) (length s) (length dst)) (interpolated c L s) dst
+
+  -- "the FIR sums hand that on": how many of the outputs written were cut
+  abbrev pub interpolateCuts : ℕ
+  interpolateCuts = blockCuts (interpolateNumber L (length c) (length s) (length dst)) (phaseSums c L s) dst

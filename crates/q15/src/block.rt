@@ -1,6 +1,7 @@
 // 01, "Where each call is turned back": the rows that the Q15 blocks share.
 ghost use mathlib.Core.Path.{_≡_};
 ghost use Rattle.q15.specs.Block.{samplesNumber, blockNumber, rowsNumber};
+use refusal::Count;
 use refusal::Refusal;
 use refusal::rows::MOST_BLOCK;
 use refusal::rows::outside;
@@ -13,6 +14,12 @@ pub const MOST_FACTOR: usize = 4096;
 pub(crate) enum Rows {
     Passed,
     Refused(Refusal),
+}
+
+// A FIR block's answer: how many outputs stand in front of the span, and how many of them were cut, none where it is refused.
+pub struct FirBlock {
+    pub answer: Count,
+    pub cuts: usize,
 }
 
 // Row 7, for n samples and a span of m places.

@@ -1,21 +1,24 @@
 // 01, section 3: FIR decimation of a stream, the line's part.
 ghost use mathlib.Core.Path.{_≡_};
 ghost use mathlib.Core.Bool.{true};
+ghost use mir.Syntax.{w16};
 ghost use Prim.Native.Nat.{_≤_};
 ghost use lib.ListN.{length};
 ghost use Rattle.refusal.specs.Outcome.{openingNumber};
-ghost use Rattle.q15.specs.PolyphaseDecimate.{filtered};
-ghost use Rattle.q15.specs.FirDecimator.{mostTaps, firState, firZeros, stored, moved, firNext, firOut, settingsNumber, settingsNumberInLine, badWait, firValid, firValidInLine, firStep, padded, fresh, firOpened, firReset, madeValue, outputNumber, outputValue, told, toldOpening, Streams};
+ghost use Rattle.q15.specs.Fixed.{isCut};
+ghost use Rattle.q15.specs.PolyphaseDecimate.{windowSum, filtered};
+ghost use Rattle.q15.specs.FirDecimator.{mostTaps, firState, firZeros, stored, moved, firNext, firOut, firSumOut, cutIn, settingsNumber, settingsNumberInLine, badWait, firValid, firValidInLine, firStep, padded, fresh, firOpened, firReset, madeValue, outputNumber, outputValue, told, toldOpening, Streams};
 use crate::block::MOST_FACTOR;
 use crate::fir_sum::fir_sum;
+use crate::fixed::Cut;
 use crate::fixed::Q15;
 use crate::fixed::cut_q15;
 use refusal::Opening;
 use refusal::Refusal;
 use refusal::rows::outside;
 
-// The most taps of the line's FIR.
-pub const MOST_TAPS: usize = 64;
+// The most taps of the line's FIR. 02, request 7: "goes from 64 to 128, so refusal 6 moves there".
+pub const MOST_TAPS: usize = 128;
 
 // A FIR decimator between two samples. The window of the next output stands at the front of the delay; wait counts the samples up to and with the one
 // that makes it. No taps: in the line off, beside it a state that no opening gives.
@@ -33,9 +36,10 @@ pub enum FirMade {
     Value(Q15),
 }
 
-// What comes of a sample, and the next wait.
+// What comes of a sample, whether it was cut, and the next wait.
 pub struct FirAt {
     pub made: FirMade,
+    pub cut: bool,
     pub wait: usize,
 }
 
@@ -46,9 +50,10 @@ pub enum FirOutput {
     Refused(Refusal),
 }
 
-// One sample's answer, and the next state.
+// One sample's answer, whether its output was cut, and the next state.
 pub struct FirStep {
     pub output: FirOutput,
+    pub cut: bool,
     pub state: FirDecimator,
 }
 
@@ -89,9 +94,9 @@ fn move_down(delay: &mut [i16; MOST_TAPS], t: usize, factor: usize)
 }
 
 // The output of a whole window.
-fn fir_output(delay: &[i16; MOST_TAPS], taps: &[i16; MOST_TAPS], t: usize) -> Q15
+fn fir_output(delay: &[i16; MOST_TAPS], taps: &[i16; MOST_TAPS], t: usize) -> Cut
     requires { ⌜ t ≤ mostTaps ⌝ }
-    ensures { λ r. ⌜ r .0 ≡ filtered (now (taps .entry)) t (now (delay .entry)) 0 ⌝ }
+    ensures { λ r. ⌜ (r .value .0 ≡ filtered (now (taps .entry)) t (now (delay .entry)) 0) × (r .cut ≡ isCut w16 (windowSum (now (taps .entry)) t (now (delay .entry)) 0)) ⌝ }
 {
     array_length(*delay);
     array_length(*taps);
@@ -110,10 +115,12 @@ pub fn fir_at(
 ) -> FirAt
     ensures answer { λ r. ⌜ madeValue (r .made) ≡ firOut (firState (now (taps .entry)) t factor (now (delay .entry)) wait) (sample .0) ⌝ }
     ensures state { λ r. ⌜ firState (now (taps .entry)) t factor (now (delay .exit)) (r .wait) ≡ firNext (firState (now (taps .entry)) t factor (now (delay .entry)) wait) (sample .0) ⌝ }
+    ensures cut { λ r. ⌜ r .cut ≡ cutIn (firSumOut (firState (now (taps .entry)) t factor (now (delay .entry)) wait) (sample .0)) ⌝ }
 {
     if t == 0 {
         return FirAt {
             made: FirMade::Value(sample),
+            cut: false,
             wait,
         };
     }
@@ -121,6 +128,7 @@ pub fn fir_at(
     if MOST_TAPS < t {
         return FirAt {
             made: FirMade::Nothing,
+            cut: false,
             wait,
         };
     }
@@ -128,13 +136,16 @@ pub fn fir_at(
     if wait > 1 {
         return FirAt {
             made: FirMade::Nothing,
+            cut: false,
             wait: wait - 1,
         };
     }
     let y = fir_output(delay, taps, t);
     move_down(delay, t, factor);
+    let value = y.value;
     FirAt {
-        made: FirMade::Value(y),
+        made: FirMade::Value(value),
+        cut: y.cut,
         wait: factor,
     }
 }
@@ -306,6 +317,7 @@ impl FirDecimator {
         if !fir_valid(t, factor, wait) {
             return FirStep {
                 output: FirOutput::Refused(Refusal::State),
+                cut: false,
                 state: self,
             };
         }
@@ -318,6 +330,7 @@ impl FirDecimator {
         self.wait = next.wait;
         FirStep {
             output,
+            cut: next.cut,
             state: self,
         }
     }

@@ -7,6 +7,7 @@ pub mod polyphase_decimate;
 pub mod polyphase_interpolate;
 pub mod resample_linear;
 
+pub use crate::block::FirBlock;
 pub use crate::block::MOST_FACTOR;
 pub use crate::fir_decimator::FirAt;
 pub use crate::fir_decimator::FirDecimator;
@@ -17,6 +18,7 @@ pub use crate::fir_decimator::FirStep;
 pub use crate::fir_decimator::MOST_TAPS;
 pub use crate::fir_decimator::fir_at;
 pub use crate::fir_decimator::fir_valid_in_line;
+pub use crate::fixed::Cut;
 pub use crate::fixed::Q15;
 pub use crate::fixed::cut_q15;
 pub use crate::polyphase_decimate::polyphase_decimate_q15;

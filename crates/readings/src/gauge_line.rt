@@ -45,6 +45,7 @@ pub(crate) fn readings() {
         depth: 0,
         phases: 2,
         taps: 1,
+        straight: false,
         step: 0.5,
     };
     let samples = [16384, 0];

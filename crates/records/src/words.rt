@@ -1,5 +1,6 @@
 // A record's words, and the comparison of answers with them. tests/oracle/README.md has the format.
 ghost use mathlib.Core.Path.{_≡_};
+ghost use mathlib.Core.Bool.{cond};
 ghost use Prim.Native.Nat.{_+_, _*_, _%_};
 ghost use lib.ListN.{take, drop};
 ghost use mir.Syntax.{w16, w32, w64};
@@ -144,6 +145,16 @@ pub fn same_short(w: &[u32], at: usize, x: i16) -> usize
         return same(w, at, word(w, at));
     }
     LOST
+}
+
+// Whether something is so, 1 or 0.
+pub fn same_flag(w: &[u32], at: usize, x: bool) -> usize
+    ensures { λ r. ⌜ r ≡ after (now (w .entry)) at (cond x 1 0) ⌝ }
+{
+    if x {
+        return same(w, at, 1);
+    }
+    same(w, at, 0)
 }
 
 pub fn same_float(w: &[u32], at: usize, x: f32) -> usize

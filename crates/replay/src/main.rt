@@ -27,6 +27,7 @@ fn agrees(operation: u32, w: &[u32]) -> bool {
         0x50..=0xbf => replay_float::agrees(operation, w),
         0xc0..=0xcf => replay_line::agrees(operation, w),
         0xd0..=0xdf => replay_sheet::agrees(operation, w),
+        0xe0..=0xef => replay_phase::agrees(operation, w),
         _ => false,
     }
 }

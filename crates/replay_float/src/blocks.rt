@@ -24,7 +24,7 @@ fn lent_of(operation: u32, w: &[u32]) -> &[u32] {
         0x73 => hbf_int::behind_state(w),
         0x82 => hbf_dec_cascade::behind_state(w),
         0x92 => hbf_int_cascade::behind_state(w),
-        0xb1 => rest(w, 5),
+        0xb1 | 0xb5 => rest(w, 5),
         0xb2 => polyphase_resamp::behind_state(w),
         0xb3 => rest(polyphase_resamp::behind_state(w), 1),
         _ => w,
@@ -42,7 +42,7 @@ fn samples_of(operation: u32, w: &[u32]) -> &[u32] {
 // The words from the span on; none for an opening.
 fn span_of(operation: u32, w: &[u32]) -> &[u32] {
     match operation {
-        0x61 | 0x71 | 0xb1 => first(w, 0),
+        0x61 | 0x71 | 0xb1 | 0xb5 => first(w, 0),
         0xb3 => lent_of(operation, w),
         _ => behind(lent_of(operation, w)),
     }
@@ -50,7 +50,7 @@ fn span_of(operation: u32, w: &[u32]) -> &[u32] {
 
 fn call(operation: u32, w: &[u32], lent_span: &[u32], samples: &[f32], span: &mut [f32]) -> bool
     ensures below { λ r. ⌜ (operation < 81 → r ≡ false) ⌝ }
-    ensures above { λ r. ⌜ (180 < operation → r ≡ false) ⌝ }
+    ensures above { λ r. ⌜ (181 < operation → r ≡ false) ⌝ }
 {
     match operation {
         0x51 => values::linear(w, lent_span, samples, span),
@@ -63,13 +63,14 @@ fn call(operation: u32, w: &[u32], lent_span: &[u32], samples: &[f32], span: &mu
         0xb1 => polyphase_resamp::from_taps(w, samples),
         0xb2 => polyphase_resamp::process_block(w, lent_span, samples, span),
         0xb3 => polyphase_resamp::push(w, lent_span, span),
+        0xb5 => polyphase_resamp::from_taps_straight(w, samples),
         _ => false,
     }
 }
 
 fn agrees_in(operation: u32, w: &[u32], samples: &mut [f32], span: &mut [f32]) -> bool
     ensures below { λ r. ⌜ (operation < 81 → r ≡ false) ⌝ }
-    ensures above { λ r. ⌜ (180 < operation → r ≡ false) ⌝ }
+    ensures above { λ r. ⌜ (181 < operation → r ≡ false) ⌝ }
 {
     let lent_span = span_of(operation, w);
     lend_floats(samples_of(operation, w), samples);
@@ -80,7 +81,7 @@ fn agrees_in(operation: u32, w: &[u32], samples: &mut [f32], span: &mut [f32]) -
 // Whether a converter answers as a record says; `w` is what follows the operation's code.
 pub(crate) fn agrees(operation: u32, w: &[u32]) -> bool
     ensures below { λ r. ⌜ (operation < 81 → r ≡ false) ⌝ }
-    ensures above { λ r. ⌜ (180 < operation → r ≡ false) ⌝ }
+    ensures above { λ r. ⌜ (181 < operation → r ≡ false) ⌝ }
 {
     let mut samples = no_floats();
     let mut span = no_floats();

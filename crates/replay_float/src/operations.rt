@@ -14,7 +14,7 @@ use crate::values;
 // Whether the converters answer as a record says; `w` is what follows the operation's code. A code that is none of this layer's agrees with nothing.
 pub fn agrees(operation: u32, w: &[u32]) -> bool
     ensures below { λ r. ⌜ (operation < 81 → r ≡ false) ⌝ }
-    ensures above { λ r. ⌜ (180 < operation → r ≡ false) ⌝ }
+    ensures above { λ r. ⌜ (181 < operation → r ≡ false) ⌝ }
 {
     match operation {
         0x52 => values::to_f32(w),

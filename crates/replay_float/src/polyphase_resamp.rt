@@ -20,7 +20,7 @@ use records::words::word;
 use refusal::Count;
 
 // Where a state's delay begins, behind its numbers; its prototype follows it.
-const DELAY: usize = 6;
+const DELAY: usize = 8;
 
 fn state_of(w: &[u32]) -> PolyphaseResampF32 {
     let mut delay = [0.0f32; MOST_PHASE_TAPS];
@@ -31,8 +31,9 @@ fn state_of(w: &[u32]) -> PolyphaseResampF32 {
     PolyphaseResampF32 {
         phases: long(w, 0),
         taps: long(w, 2),
-        mu: float(word(w, 4)),
-        step: float(word(w, 5)),
+        straight: long(w, 4) != 0,
+        mu: float(word(w, 6)),
+        step: float(word(w, 7)),
         delay,
         prototype,
     }
@@ -43,16 +44,29 @@ pub(crate) fn behind_state(w: &[u32]) -> &[u32] {
     behind(behind(rest(w, DELAY)))
 }
 
+// A state's setting as a record has it.
+fn flag(straight: bool) -> usize {
+    if straight {
+        return 1;
+    }
+    0
+}
+
+fn same_numbers(w: &[u32], at: usize, state: PolyphaseResampF32) -> usize {
+    let phases = same_long(w, at, state.phases);
+    let taps = same_long(w, phases, state.taps);
+    let straight = same_long(w, taps, flag(state.straight));
+    let mu = same_float(w, straight, state.mu);
+    same_float(w, mu, state.step)
+}
+
 // The state after a call on the one that `lent` begins with; on none, that is of zeros, after an opening.
 fn same_state(w: &[u32], at: usize, lent: &[u32], state: PolyphaseResampF32) -> usize {
     let delay = state.delay;
     let prototype = state.prototype;
     let lent_delay = rest(lent, DELAY);
-    let mut next = same_long(w, at, state.phases);
-    next = same_long(w, next, state.taps);
-    next = same_float(w, next, state.mu);
-    next = same_float(w, next, state.step);
-    next = same_floats(w, next, lent_delay, &delay);
+    let numbers = same_numbers(w, at, state);
+    let next = same_floats(w, numbers, lent_delay, &delay);
     same_floats(w, next, behind(lent_delay), &prototype)
 }
 
@@ -65,6 +79,12 @@ fn same_opened(w: &[u32], lent: &[u32], opened: PolyphaseOpening) -> bool {
 pub(crate) fn from_taps(w: &[u32], prototype: &[f32]) -> bool {
     let step = float(word(w, 4));
     let opened = PolyphaseResampF32::from_taps(long(w, 0), long(w, 2), prototype, step);
+    same_opened(behind(rest(w, 5)), first(w, 0), opened)
+}
+
+pub(crate) fn from_taps_straight(w: &[u32], prototype: &[f32]) -> bool {
+    let step = float(word(w, 4));
+    let opened = PolyphaseResampF32::from_taps_straight(long(w, 0), long(w, 2), prototype, step);
     same_opened(behind(rest(w, 5)), first(w, 0), opened)
 }
 

@@ -24,12 +24,13 @@ use records::words::LOST;
 use records::words::float;
 use records::words::long;
 use records::words::rest;
+use records::words::same;
 use records::words::same_float;
 use records::words::same_long;
 use records::words::word;
 
 // Where the FIR taps begin, behind the settings; the prototype follows them.
-const TAPS: usize = 13;
+const TAPS: usize = 15;
 
 fn settings_of(w: &[u32]) -> Settings {
     Settings {
@@ -39,7 +40,8 @@ fn settings_of(w: &[u32]) -> Settings {
         depth: long(w, 6),
         phases: long(w, 8),
         taps: long(w, 10),
-        step: float(word(w, 12)),
+        straight: long(w, 12) != 0,
+        step: float(word(w, 14)),
     }
 }
 
@@ -83,7 +85,8 @@ struct Compared {
 fn compare(w: &[u32], lent_span: &[u32], span: &[f32], fed: LineFed) -> Compared {
     let counts = fed.counts;
     let line = fed.line;
-    let next = same_floats(w, same_counts(w, 0, counts), lent_span, span);
+    let moved = same_counts(w, 0, counts);
+    let next = same_floats(w, same(w, moved, line.cuts), lent_span, span);
     let left = if next <= w.len() {
         w.len() - next
     } else {
@@ -135,8 +138,8 @@ pub(crate) fn feeds(w: &[u32]) -> bool {
     same_feeds(behind_opening(w), line)
 }
 
-// The numbers of a line that row 15 looks at, in words.
-const NUMBERS: usize = 30;
+// The numbers of a line that row 15 looks at and the count of cut values, in words.
+const NUMBERS: usize = 31;
 
 // The line with other numbers.
 fn with_numbers(w: &[u32], line: Line) -> Line {
@@ -167,6 +170,7 @@ fn with_numbers(w: &[u32], line: Line) -> Line {
         fir,
         half_band,
         resampler,
+        cuts: word(w, 30),
     }
 }
 
@@ -198,7 +202,8 @@ fn same_numbers_of(w: &[u32], line: Line) -> usize {
     let phases = same_long(w, held, resampler.phases);
     let taps = same_long(w, phases, resampler.taps);
     let step = same_float(w, taps, resampler.step);
-    same_float(w, step, resampler.mu)
+    let mu = same_float(w, step, resampler.mu);
+    same(w, mu, line.cuts)
 }
 
 fn same_step(w: &[u32], at: usize, step: LineStep) -> usize {

@@ -17,6 +17,7 @@ use records::words::first;
 use records::words::long;
 use records::words::rest;
 use records::words::same;
+use records::words::same_flag;
 use records::words::same_long;
 use records::words::same_short;
 use records::words::short;
@@ -92,7 +93,8 @@ fn same_output(w: &[u32], at: usize, output: FirOutput) -> usize {
 fn same_step(w: &[u32], lent: &[u32], step: FirStep) -> bool {
     let output = step.output;
     let state = step.state;
-    same_state(w, same_output(w, 0, output), lent, state) == w.len()
+    let made = same_flag(w, same_output(w, 0, output), step.cut);
+    same_state(w, made, lent, state) == w.len()
 }
 
 pub(crate) fn process_sample(w: &[u32]) -> bool {

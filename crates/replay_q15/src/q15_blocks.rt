@@ -1,4 +1,5 @@
 // The Q15 blocks and the cut. Each takes the words behind its code: its inputs, then the answers.
+use q15::FirBlock;
 use q15::cut_q15;
 use q15::polyphase_decimate_q15;
 use q15::polyphase_interpolate_q15;
@@ -13,6 +14,8 @@ use records::slices::same_shorts;
 use records::words::long;
 use records::words::number;
 use records::words::rest;
+use records::words::same_flag;
+use records::words::same_long;
 use records::words::same_short;
 use records::words::signed_long;
 use refusal::Count;
@@ -21,7 +24,13 @@ fn same_block(w: &[u32], count: Count, lent: &[u32], span: &[i16]) -> bool {
     same_shorts(w, same_count(w, 0, count), lent, span) == w.len()
 }
 
-fn fir(up: bool, samples: &[i16], taps: &[i16], factor: usize, span: &mut [i16]) -> Count {
+fn same_fir(w: &[u32], block: FirBlock, lent: &[u32], span: &[i16]) -> bool {
+    let answer = block.answer;
+    let counts = same_long(w, same_count(w, 0, answer), block.cuts);
+    same_shorts(w, counts, lent, span) == w.len()
+}
+
+fn fir(up: bool, samples: &[i16], taps: &[i16], factor: usize, span: &mut [i16]) -> FirBlock {
     if up {
         return polyphase_interpolate_q15(samples, taps, factor, span);
     }
@@ -35,8 +44,8 @@ fn fir_in(up: bool, w: &[u32], samples: &mut [i16], taps: &mut [i16], span: &mut
     lend_shorts(lent, samples);
     lend_shorts(lent_taps, taps);
     lend_shorts(lent_span, span);
-    let count = fir(up, samples, taps, long(w, 0), span);
-    same_block(behind(lent_span), count, lent_span, span)
+    let block = fir(up, samples, taps, long(w, 0), span);
+    same_fir(behind(lent_span), block, lent_span, span)
 }
 
 fn fir_block(up: bool, w: &[u32]) -> bool {
@@ -84,6 +93,7 @@ pub(crate) fn linear(w: &[u32]) -> bool {
 }
 
 pub(crate) fn cut(w: &[u32]) -> bool {
-    let y = cut_q15(signed_long(long(w, 0)));
-    same_short(w, 2, y.0) == w.len()
+    let made = cut_q15(signed_long(long(w, 0)));
+    let y = made.value;
+    same_flag(w, same_short(w, 2, y.0), made.cut) == w.len()
 }

@@ -8,6 +8,7 @@ use lib.ListN.{length, getD, set, take, drop}
 use Rattle.refusal.specs.Rows.{firstOf}
 use Rattle.refusal.specs.Outcome.{Answer}
 use Rattle.refusal.specs.Table.{numberOf}
+use Rattle.sheet.specs.Laid.{laidIn}
 use Rattle.sheet.specs.declared.check.SheetCount.{SheetCount}
 use Rattle.sheet.specs.declared.check.SheetCount.the-variants as counted
 use Rattle.sheet.specs.declared.check.EntrySize.{EntrySize}
@@ -159,6 +160,14 @@ marked b = set b 1 (getD b 1 0 + 128)
 unfoldable pub written : Rule → List ℕ → List ℕ → List ℕ
 written rule joined lengths = bytes16 (countWord rule (length lengths)) ++ (pairsFrom (dataFrom (length lengths)) lengths ++ joined)
 
+-- the count and the pairs in front of a span, for who lays the entries behind them: lengths over 32 or that do not add up to a total below 2^32 are not laid, nor
+-- are they where the span has no room
+unfoldable pub directoryIn : Rule → ℕ → List ℕ → List ℕ → List ℕ
+directoryIn rule total lengths span =
+    cond (leb (length lengths) mostEntries && (leb total (2 ^ 32 - 1) && eqb (sum lengths) total))
+    (laidIn 0 (bytes16 (countWord rule (length lengths)) ++ pairsFrom (dataFrom (length lengths)) lengths) span)
+    span
+
 -- 16 of the count; "17 .. when the writer's lengths do not add up to its bytes, its sheet would pass 2^32−1 bytes or its span is too short for the sheet"
 unfoldable pub writerNumber : List ℕ → List ℕ → ℕ → ℕ
 writerNumber joined lengths places =
@@ -188,6 +197,12 @@ writerSpan rule joined lengths span =
 -- "reading its sheet yields them again": entry k is the k-th part of the joined bytes
 unfoldable pub laidEntry : List ℕ → List ℕ → ℕ → List ℕ
 laidEntry joined lengths k = take (getD lengths k 0) (drop (sum (take k lengths)) joined)
+
+-- 02, request 9, of a sheet that the writer made: "A reader made before this answers a new sheet with 16", whatever count it keeps; and but for the mark the bytes are
+-- those that a writer made before this lays
+pub record ForOlder (joined lengths sheet : List ℕ) : Type 0 where
+  pub refused : (kept : ℕ) → readerNumber former sheet kept ≡ 16
+  pub but-for-the-mark : sheet ≡ marked (written former joined lengths)
 
 pub record ReadsBack (rule : Rule) (joined lengths sheet : List ℕ) : Type 0 where
   pub count : countOf rule sheet ≡ length lengths

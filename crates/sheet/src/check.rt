@@ -28,18 +28,29 @@ pub enum EntrySize {
     Refused(Refusal),
 }
 
-// The entry count.
+// The top bit of an entry count: the sheet has its empty entries first. 02, request 9: "which new sheets set .. and readers strip".
+pub const MARK: usize = 32768;
+
+// Whether the entries are to stand by the present rule: "sheets made before this are checked under the former rule, marked by the lack of the top bit".
+fn empty_first(bytes: &[u8]) -> bool
+    requires { ⌜ 2 ≤ length (now bytes) ⌝ }
+    ensures { λ r. ⌜ r ≡ S.emptyFirst S.Rule.present (now (bytes .entry)) ⌝ }
+{
+    MARK <= le16_at(bytes, 0)
+}
+
+// The entry count, without the mark.
 fn count_in(bytes: &[u8]) -> usize
     requires { ⌜ 2 ≤ length (now bytes) ⌝ }
-    ensures { λ r. ⌜ r ≡ S.countOf S.Rule.former (now (bytes .entry)) ⌝ }
+    ensures { λ r. ⌜ r ≡ S.countOf S.Rule.present (now (bytes .entry)) ⌝ }
     ensures below { λ r. ⌜ r + 1 ≤ 65536 ⌝ }
 {
-    le16_at(bytes, 0)
+    le16_at(bytes, 0) % MARK
 }
 
 // Whether the count is over its limit or the sheet ends inside its directory.
 fn directory_broken(bytes: &[u8]) -> bool
-    ensures { λ r. ⌜ r ≡ S.directoryBroken S.Rule.former (now (bytes .entry)) ⌝ }
+    ensures { λ r. ⌜ r ≡ S.directoryBroken S.Rule.present (now (bytes .entry)) ⌝ }
 {
     if bytes.len() < 2 {
         return true;
@@ -118,7 +129,7 @@ fn entries_fine(bytes: &[u8], n: usize, first: bool) -> bool
 
 // 16 and 17, for a reader that keeps a count.
 fn reader_check(bytes: &[u8], count: usize) -> Opening
-    ensures { λ r. ⌜ openingNumber r ≡ S.readerNumber S.Rule.former (now (bytes .entry)) count ⌝ }
+    ensures { λ r. ⌜ openingNumber r ≡ S.readerNumber S.Rule.present (now (bytes .entry)) count ⌝ }
 {
     if directory_broken(bytes) {
         return Opening::Refused(Refusal::Directory);
@@ -126,14 +137,15 @@ fn reader_check(bytes: &[u8], count: usize) -> Opening
     if count_in(bytes) != count {
         return Opening::Refused(Refusal::Directory);
     }
-    if entries_fine(bytes, count, false) {
+    let first = empty_first(bytes);
+    if entries_fine(bytes, count, first) {
         return Opening::Opened;
     }
     Opening::Refused(Refusal::Entries)
 }
 
 // Whether an answer refuses nothing.
-pub(crate) fn is_opened(answer: Opening) -> bool
+pub fn is_opened(answer: Opening) -> bool
     ensures { λ r. ⌜ r ≡ eqb (openingNumber answer) 0 ⌝ }
 {
     match answer {
@@ -143,8 +155,8 @@ pub(crate) fn is_opened(answer: Opening) -> bool
 }
 
 // 16 and 17, for a sheet by itself.
-fn sheet_check(bytes: &[u8]) -> Opening
-    ensures { λ r. ⌜ openingNumber r ≡ S.sheetNumber S.Rule.former (now (bytes .entry)) ⌝ }
+pub fn sheet_check(bytes: &[u8]) -> Opening
+    ensures { λ r. ⌜ openingNumber r ≡ S.sheetNumber S.Rule.present (now (bytes .entry)) ⌝ }
 {
     if bytes.len() < 2 {
         return Opening::Refused(Refusal::Directory);
@@ -155,7 +167,7 @@ fn sheet_check(bytes: &[u8]) -> Opening
 
 // 16, 17 and 18, for an entry.
 fn entry_check(bytes: &[u8], count: usize, k: usize) -> Opening
-    ensures { λ r. ⌜ openingNumber r ≡ S.entryNumber S.Rule.former (now (bytes .entry)) count k ⌝ }
+    ensures { λ r. ⌜ openingNumber r ≡ S.entryNumber S.Rule.present (now (bytes .entry)) count k ⌝ }
 {
     let answer = reader_check(bytes, count);
     if !is_opened(answer) {
@@ -169,7 +181,8 @@ fn entry_check(bytes: &[u8], count: usize, k: usize) -> Opening
 
 // How many entries a sheet has.
 pub fn sheet_count(bytes: &[u8]) -> SheetCount
-    ensures { λ r. ⌜ S.sheetCountAnswer r ≡ S.sheetAnswer S.Rule.former (now (bytes .entry)) ⌝ }
+    ensures answer { λ r. ⌜ S.sheetCountAnswer r ≡ S.sheetAnswer S.Rule.present (now (bytes .entry)) ⌝ }
+    ensures earlier { λ r. ⌜ (S.le16 (now (bytes .entry)) 0 < S.mark → S.sheetCountAnswer r ≡ S.sheetAnswer S.Rule.former (now (bytes .entry))) ⌝ }
 {
     let answer = sheet_check(bytes);
     match answer {
@@ -180,7 +193,7 @@ pub fn sheet_count(bytes: &[u8]) -> SheetCount
 
 // The bytes that a reader keeps: the sheet, or none where it is refused.
 pub fn kept_bytes(bytes: &[u8]) -> &[u8]
-    ensures { λ r. ⌜ now r ≡ S.keptBytes S.Rule.former (now (bytes .entry)) ⌝ }
+    ensures { λ r. ⌜ now r ≡ S.keptBytes S.Rule.present (now (bytes .entry)) ⌝ }
 {
     if is_opened(sheet_check(bytes)) {
         bytes
@@ -191,7 +204,7 @@ pub fn kept_bytes(bytes: &[u8]) -> &[u8]
 
 // The count that a reader keeps: the sheet's, or 0 where it is refused.
 pub fn kept_count(bytes: &[u8]) -> usize
-    ensures { λ r. ⌜ r ≡ S.keptCount S.Rule.former (now (bytes .entry)) ⌝ }
+    ensures { λ r. ⌜ r ≡ S.keptCount S.Rule.present (now (bytes .entry)) ⌝ }
 {
     if is_opened(sheet_check(bytes)) {
         return count_in(bytes);
@@ -201,7 +214,7 @@ pub fn kept_count(bytes: &[u8]) -> usize
 
 // How many bytes entry k has, for a reader that keeps a count.
 pub fn entry_size(bytes: &[u8], count: usize, k: usize) -> EntrySize
-    ensures { λ r. ⌜ S.sizeAnswer r ≡ S.entryAnswer S.Rule.former (now (bytes .entry)) count k ⌝ }
+    ensures { λ r. ⌜ S.sizeAnswer r ≡ S.entryAnswer S.Rule.present (now (bytes .entry)) count k ⌝ }
 {
     let answer = entry_check(bytes, count, k);
     match answer {
@@ -212,7 +225,7 @@ pub fn entry_size(bytes: &[u8], count: usize, k: usize) -> EntrySize
 
 // Entry k, as a part of the bytes; none of them where it is refused.
 pub fn entry_part(bytes: &[u8], count: usize, k: usize) -> &[u8]
-    ensures { λ r. ⌜ now r ≡ S.entry S.Rule.former (now (bytes .entry)) count k ⌝ }
+    ensures { λ r. ⌜ now r ≡ S.entry S.Rule.present (now (bytes .entry)) count k ⌝ }
 {
     if is_opened(entry_check(bytes, count, k)) {
         let from = le32_at(bytes, 2 + 8 * k);
@@ -225,7 +238,7 @@ pub fn entry_part(bytes: &[u8], count: usize, k: usize) -> &[u8]
 
 // Where entry k begins, for a caller to whom no part of the bytes can be handed; 0 where it is refused.
 pub fn entry_offset(bytes: &[u8], count: usize, k: usize) -> usize
-    ensures { λ r. ⌜ r ≡ S.entryOffset S.Rule.former (now (bytes .entry)) count k ⌝ }
+    ensures { λ r. ⌜ r ≡ S.entryOffset S.Rule.present (now (bytes .entry)) count k ⌝ }
 {
     if is_opened(entry_check(bytes, count, k)) {
         return le32_at(bytes, 2 + 8 * k);

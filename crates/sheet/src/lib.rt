@@ -1,6 +1,6 @@
 // 02, request 1: tap sheets. A reader over a sheet's bytes, and a writer.
 pub mod check;
-mod fields;
+pub mod fields;
 pub mod tap_sheet;
 mod write;
 
@@ -14,4 +14,7 @@ pub use crate::check::kept_count;
 pub use crate::check::sheet_count;
 pub use crate::tap_sheet::SheetEntry;
 pub use crate::tap_sheet::TapSheet;
+pub use crate::write::lay_directory;
+pub use crate::write::lay16;
+pub use crate::write::lay32;
 pub use crate::write::write_sheet;

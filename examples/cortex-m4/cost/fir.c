@@ -4,10 +4,10 @@
 static GaugeFirDecimator fir;
 
 static uint64_t feed(void) {
-    uint64_t made, refused = 0;
+    uint64_t made, cut, refused = 0;
     int16_t value;
     for (uint32_t i = 0; i < SAMPLES; i++) {
-        refused |= GaugeFirDecimator_process_sample(&fir, samples_i16[i], &made, &value);
+        refused |= GaugeFirDecimator_process_sample(&fir, samples_i16[i], &made, &value, &cut);
     }
     return refused;
 }

@@ -11,8 +11,8 @@ const WIDTH: usize = 120;
 
 const RAW: &str = "\
 // The archive's functions over a state, which crosses as its fields, each lent. A program calls the functions over a
-// struct instead: gauge_line.h, gauge_cic.h, gauge_q15.h, gauge_half_band.h and gauge_resampler.h have them, with
-// their contracts.
+// struct instead: gauge_line.h, gauge_cic.h, gauge_q15.h, gauge_half_band.h, gauge_linear_phase.h, gauge_resampler.h
+// and gauge_sheet.h have them, with their contracts.
 //
 // Printed by host/bindings/run.sh from what crates/gauge_line/src exports.
 #ifndef GAUGE_RAW_H
@@ -104,7 +104,7 @@ fn parameter(one: &Parameter, limits: &Limits) -> Result<Vec<String>, String> {
         Form::Value => vec![format!("{number} {name}")],
         Form::Place { .. } => vec![format!("{number} *{name}")],
         Form::Array { length, .. } => {
-            let length = limits.length(one.number, length)?;
+            let length = limits.length(one, length)?;
             vec![format!("{number} {name}[GAUGE_{length}]")]
         }
         Form::Slice { .. } => vec![format!("{number} *{name}"), format!("uint64_t {name}_len")],
@@ -119,7 +119,7 @@ pub fn state(state: &State, limits: &Limits) -> Result<String, String> {
     for field in &state.fields {
         let (kind, member) = (field.number.in_c(), &field.name);
         if let Form::Array { length, .. } = field.form {
-            let length = limits.length(field.number, length)?;
+            let length = limits.length(field, length)?;
             members += &format!("    {kind} {member}[GAUGE_{length}];\n");
             lent.push(format!("(s)->{member}"));
         } else {

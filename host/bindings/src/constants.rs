@@ -119,17 +119,31 @@ impl Scope<'_> {
         if let Ok(number) = word.replace('_', "").parse() {
             return Ok(number);
         }
+        let (crate_name, name) = self
+            .meant(word)
+            .ok_or_else(|| format!("{word} is not a whole number"))?;
+        self.constants.whole(self.constants.find(crate_name, name)?)
+    }
+
+    // The crate that a name is looked up in, and the name there.
+    fn meant<'b>(&'b self, word: &'b str) -> Option<(&'b str, &'b str)> {
         let path: Vec<&str> = word.split("::").collect();
         if !path.iter().all(|part| text::is_name(part)) {
-            return Err(format!("{word} is not a whole number"));
+            return None;
         }
         let (first, last) = (path[0], path[path.len() - 1]);
-        let (crate_name, name) = match self.file.used.get(word) {
-            Some((from, name)) => (from.as_str(), name.as_str()),
-            None if path.len() == 1 || first == "crate" => (self.file.crate_name.as_str(), last),
+        Some(match self.file.used.get(word) {
+            Some((from, name)) => (from, name),
+            None if path.len() == 1 || first == "crate" => (&self.file.crate_name, last),
             None => (first, last),
-        };
-        self.constants.whole(self.constants.find(crate_name, name)?)
+        })
+    }
+
+    /// The constant of this name, as `crate::NAME`; nothing of a number or a sum.
+    pub fn constant(&self, word: &str) -> Option<String> {
+        let (crate_name, name) = self.meant(word)?;
+        self.constants.find(crate_name, name).ok()?;
+        Some(format!("{crate_name}::{name}"))
     }
 }
 

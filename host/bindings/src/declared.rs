@@ -69,6 +69,8 @@ pub struct Parameter {
     pub name: String,
     pub number: Number,
     pub form: Form,
+    /// The constant that an array's length is declared by, where it is one: `crate::NAME`.
+    pub constant: Option<String>,
 }
 
 impl Parameter {
@@ -92,6 +94,10 @@ impl Parameter {
             name: name.to_string(),
             number,
             form,
+            constant: kind
+                .trim_end_matches(']')
+                .split_once(';')
+                .and_then(|(_, length)| scope.constant(length.trim())),
         })
     }
 

@@ -61,9 +61,11 @@ impl Exported {
     }
 }
 
-// The state that a function of this name opens.
+// The state that a function of this name opens. A number behind the ending is that of the state's layout.
 fn opened(function: &str) -> Option<&str> {
     let name = function.strip_prefix(PREFIX)?;
+    let unnumbered = name.trim_end_matches(|letter: char| letter.is_ascii_digit());
+    let name = unnumbered.strip_suffix('_').unwrap_or(name);
     OPENINGS.iter().find_map(|ending| name.strip_suffix(ending))
 }
 

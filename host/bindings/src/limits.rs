@@ -1,7 +1,7 @@
 //! The limits and lengths that C and Rust have names for, as limits.txt lists them.
 
 use crate::constants::Constants;
-use crate::declared::{Form, Number};
+use crate::declared::{Form, Number, Parameter};
 use crate::exported::Exported;
 use crate::text;
 use std::path::Path;
@@ -14,6 +14,7 @@ pub struct Limit {
     pub number: String,
     pub value: String,
     pub words: String,
+    source: String,
     /// The numbers of which an array can be so long.
     lengths: Vec<Number>,
 }
@@ -40,16 +41,18 @@ impl Limits {
         Ok(&limit.value)
     }
 
-    /// The name of the length of an array.
-    pub fn length(&self, number: Number, length: u64) -> Result<&str, String> {
-        let value = length.to_string();
+    /// The name of the length of an array: the only one that fits, or else that of the constant that the array is declared by.
+    pub fn length(&self, array: &Parameter, length: u64) -> Result<&str, String> {
+        let (number, value) = (array.number, length.to_string());
         let fits = |limit: &&Limit| limit.lengths.contains(&number) && limit.value == value;
-        let mut named = self.all.iter().filter(fits);
-        let array = format!("an array of {length} {}", number.in_rust());
-        match (named.next(), named.next()) {
-            (Some(limit), None) => Ok(&limit.name),
-            (None, _) => Err(format!("{TABLE} has no length for {array}")),
-            (Some(_), Some(_)) => Err(format!("{TABLE} has two lengths for {array}")),
+        let named: Vec<&Limit> = self.all.iter().filter(fits).collect();
+        let constant = array.constant.as_ref();
+        let its_own = named.iter().find(|one| Some(&one.source) == constant);
+        let words = format!("an array of {length} {}", number.in_rust());
+        match (named.as_slice(), its_own) {
+            ([limit], _) | (_, Some(limit)) => Ok(&limit.name),
+            ([], _) => Err(format!("{TABLE} has no length for {words}")),
+            _ => Err(format!("{TABLE} has several lengths for {words}")),
         }
     }
 }
@@ -69,6 +72,7 @@ fn limit(row: &str, constants: &Constants, exported: &Exported) -> Result<Limit,
         number,
         value,
         words: words.to_string(),
+        source: source.to_string(),
         lengths: lengths.map(Number::named).collect::<Result<_, _>>()?,
     })
 }

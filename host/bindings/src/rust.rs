@@ -95,7 +95,7 @@ fn parameter(
         Form::Value => vec![format!("{name}: {number}")],
         Form::Place { .. } => vec![format!("{name}: {lent}{number}")],
         Form::Array { length, .. } => {
-            let length = limits.length(one.number, length)?;
+            let length = limits.length(one, length)?;
             used.insert(length.to_string());
             vec![format!("{name}: {lent}[{number}; {length}]")]
         }

@@ -17,6 +17,7 @@ fn open_line() -> Result<Line, Refusal> {
         phases: 2,
         phase_taps: 2,
         step: 1.5,
+        ..Settings::default()
     };
     Line::open(settings, &[8192; 4], &[1.0, 0.5, 0.0, 0.5])
 }

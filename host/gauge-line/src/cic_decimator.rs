@@ -4,6 +4,7 @@ use crate::limits::MOST_STAGES;
 use crate::moved::Moved;
 use crate::raw;
 use crate::refusal::{Refusal, answered};
+use core::ops::RangeInclusive;
 
 /// A cascade of integrators and combs that thins i32 samples by a factor r, every sum modulo 2^32.
 #[derive(Clone, Debug, PartialEq, Eq)]
@@ -98,6 +99,33 @@ impl CicDecimator {
             )
         };
         answered(number, bits)
+    }
+
+    /// The samples of which every sum is exact: −2^(31−g) to 2^(31−g) − 1 with g gain bits. From an opening on, sums of such samples are the moving sums themselves,
+    /// with no modulus, and scaled ones are rounded down from those.
+    ///
+    /// Refused: `State`, then `GainBits` where they are over 31.
+    ///
+    /// ```
+    /// let cic = gauge_line::CicDecimator::new(3, 64)?;
+    /// assert_eq!(cic.exact_range()?, -8192..=8191);
+    /// # Ok::<(), gauge_line::Refusal>(())
+    /// ```
+    pub fn exact_range(&self) -> Result<RangeInclusive<i32>, Refusal> {
+        let (mut least, mut greatest) = (0, 0);
+        // SAFETY: every place is borrowed for this call alone.
+        let number = unsafe {
+            raw::gauge_raw_cic_decimator_exact_range(
+                self.stages,
+                self.r,
+                &self.integrators,
+                &self.combs,
+                self.sample_counter,
+                &mut least,
+                &mut greatest,
+            )
+        };
+        answered(number, least..=greatest)
     }
 
     /// Takes one sample. Every r-th makes a sum: the moving sum of the last r samples, taken `stages` times over, modulo 2^32.
@@ -202,6 +230,7 @@ mod tests {
         let damaged = state.clone();
         assert_eq!(state.gain(), Err(Refusal::State));
         assert_eq!(state.gain_bits(), Err(Refusal::State));
+        assert_eq!(state.exact_range(), Err(Refusal::State));
         assert_eq!(state.process_sample(1), Err(Refusal::State));
         assert_eq!(state.process_block(&[1], &mut [0; 1]), Err(Refusal::State));
         assert_eq!(state, damaged);
@@ -211,6 +240,7 @@ mod tests {
     fn sums_of_too_many_bits_are_not_scaled() {
         let mut state = CicDecimator::new(8, 15).unwrap();
         assert_eq!(state.process_sample_scaled(1), Err(Refusal::GainBits));
+        assert_eq!(state.exact_range(), Err(Refusal::GainBits));
         assert_eq!(state.process_sample(1), Ok(None));
     }
 }

@@ -3,6 +3,7 @@
 use crate::limits::MOST_TAPS;
 use crate::raw;
 use crate::refusal::{Refusal, answered};
+use crate::values::Cut;
 
 /// A FIR on Q15 samples that thins them by a factor, as the line has it.
 #[derive(Clone, Debug, PartialEq, Eq)]
@@ -28,7 +29,7 @@ impl FirDecimator {
         };
         // SAFETY: the pointer is lent with the length of its own slice, and the fields are this function's own.
         let number = unsafe {
-            raw::gauge_raw_fir_decimator_new(
+            raw::gauge_raw_fir_decimator_new_2(
                 taps.as_ptr(),
                 taps.len() as u64,
                 factor as u64,
@@ -60,19 +61,23 @@ impl FirDecimator {
     }
 
     /// Takes one sample, in Q15. The sample that fills the first window makes an output, and every factor-th after it: what
-    /// [`polyphase_decimate_q15`](crate::polyphase_decimate_q15) gives for the whole list.
+    /// [`polyphase_decimate_q15`](crate::polyphase_decimate_q15) gives for the whole list, and whether it was cut to 16 bits.
     ///
     /// Refused: `State`.
     ///
     /// ```
-    /// let mut fir = gauge_line::FirDecimator::new(&[16384, 16384], 2)?;
-    /// let outputs = [100, 300, 500, 700].map(|sample| fir.process_sample(sample));
-    /// assert_eq!(outputs, [Ok(None), Ok(Some(200)), Ok(None), Ok(Some(600))]);
+    /// use gauge_line::{Cut, FirDecimator};
+    ///
+    /// let mut fir = FirDecimator::new(&[32767, 32767], 2)?;
+    /// let outputs = [100, 300, 20_000, 20_000].map(|sample| fir.process_sample(sample));
+    /// let inside = Cut { value: 398, cut: false };
+    /// let past = Cut { value: 32_767, cut: true };
+    /// assert_eq!(outputs, [Ok(None), Ok(Some(inside)), Ok(None), Ok(Some(past))]);
     /// # Ok::<(), gauge_line::Refusal>(())
     /// ```
     #[inline]
-    pub fn process_sample(&mut self, sample: i16) -> Result<Option<i16>, Refusal> {
-        let (mut made, mut value) = (0, 0);
+    pub fn process_sample(&mut self, sample: i16) -> Result<Option<Cut>, Refusal> {
+        let (mut made, mut value, mut cut) = (0, 0, 0);
         // SAFETY: every place is borrowed for this call alone.
         let number = unsafe {
             raw::gauge_raw_fir_decimator_process_sample(
@@ -84,9 +89,14 @@ impl FirDecimator {
                 sample,
                 &mut made,
                 &mut value,
+                &mut cut,
             )
         };
-        answered(number, (made > 0).then_some(value))
+        let output = Cut {
+            value,
+            cut: cut > 0,
+        };
+        answered(number, (made > 0).then_some(output))
     }
 }
 

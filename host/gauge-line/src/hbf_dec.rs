@@ -80,7 +80,7 @@ impl HbfDec {
     /// let mut stage = gauge_line::HbfDec::new(&[0.5])?;
     /// let mut out = [0.0; 4];
     /// assert_eq!(stage.process(&[1.0, 0.0, 0.0, 0.0, 9.0], &mut out)?, 2);
-    /// assert_eq!(out, [0.25, 0.25, 0.0, 0.0]);
+    /// assert_eq!(out.map(f32::to_bits), [0.25f32, 0.25, 0.0, 0.0].map(f32::to_bits));
     /// # Ok::<(), gauge_line::Refusal>(())
     /// ```
     #[inline]

@@ -79,7 +79,7 @@ impl HbfInt {
     /// let mut stage = gauge_line::HbfInt::new(&[0.5])?;
     /// let mut out = [0.0; 5];
     /// assert_eq!(stage.process(&[1.0, 0.0], &mut out)?, 4);
-    /// assert_eq!(out, [1.0, 0.5, 0.0, 0.5, 0.0]);
+    /// assert_eq!(out.map(f32::to_bits), [1.0f32, 0.5, 0.0, 0.5, 0.0].map(f32::to_bits));
     /// # Ok::<(), gauge_line::Refusal>(())
     /// ```
     #[inline]

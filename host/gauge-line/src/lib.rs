@@ -15,13 +15,18 @@ mod environment;
 mod fir_decimator;
 mod hbf_dec;
 mod hbf_dec_cascade;
+mod hbf_dec_cascade_98;
 mod hbf_int;
 mod hbf_int_cascade;
 mod hbf_stream;
 pub mod limits;
 mod line;
+mod linear_phase_fir;
 mod moved;
+mod nonrecursive_decimator;
 pub mod passband;
+mod phase_rows;
+mod plan;
 mod polyphase_resamp;
 mod q15_blocks;
 mod raw;
@@ -36,24 +41,34 @@ pub use environment::fp_environment_ok;
 pub use fir_decimator::FirDecimator;
 pub use hbf_dec::HbfDec;
 pub use hbf_dec_cascade::HbfDecCascade;
+pub use hbf_dec_cascade_98::HbfDecCascade98;
 pub use hbf_int::HbfInt;
 pub use hbf_int_cascade::HbfIntCascade;
 pub use hbf_stream::HbfStream;
-pub use line::{Line, Settings, Step, next_piece};
+pub use line::{Line, Phase, Settings, Step, next_piece};
+pub use linear_phase_fir::LinearPhaseFir;
 pub use moved::Moved;
+pub use nonrecursive_decimator::NonrecursiveDecimator;
+pub use phase_rows::{prototype_by_phase, prototype_by_tap};
+pub use plan::plan;
 pub use polyphase_resamp::PolyphaseResampF32;
-pub use q15_blocks::{polyphase_decimate_q15, polyphase_interpolate_q15};
+pub use q15_blocks::{Filtered, polyphase_decimate_q15, polyphase_interpolate_q15};
 pub use refusal::Refusal;
 pub use resample_linear::{resample_linear_f32, resample_linear_q15};
 pub use sheet::Sheet;
 pub use values::{
-    cut_q15, hbf_dec_response_length, hbf_int_response_length, hbf_tap_table, q15_to_f32,
+    Cut, cut_q15, hbf_dec_reach, hbf_dec_reach_98, hbf_dec_response_length,
+    hbf_int_response_length, hbf_tap_table, hbf_tap_table_98, q15_to_f32,
 };
 
 /// The version of the crate and of its archive.
 pub const VERSION: &str = env!("CARGO_PKG_VERSION");
 
-// The page's examples are doc tests too.
+// The pages' examples are doc tests too.
 #[cfg(doctest)]
 #[doc = include_str!("../../../docs/rust.md")]
 struct Page;
+
+#[cfg(doctest)]
+#[doc = include_str!("../../../docs/linear-phase.md")]
+struct LinearPhasePage;

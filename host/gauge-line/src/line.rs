@@ -36,10 +36,12 @@ pub struct Settings {
     pub factor: usize,
     /// Half-band stages, 0 (off) to 5; each halves the rate. The crate's page says what each depth holds off.
     pub depth: usize,
-    /// Phases of the resampler, 0 (off) or 2 to 64. The next two are not looked at when it is off.
+    /// Phases of the resampler, 0 (off) or 2 to 64. The next three are not looked at when it is off.
     pub phases: usize,
     /// Taps of each phase, 1 to 16.
     pub phase_taps: usize,
+    /// How the resampler reads its prototype.
+    pub phase: Phase,
     /// Input samples for each output of the resampler, 1/64 to 64.
     pub step: f32,
 }
@@ -53,9 +55,26 @@ impl Default for Settings {
             depth: 0,
             phases: 0,
             phase_taps: 0,
+            phase: Phase::Wrapped,
             step: 1.0,
         }
     }
+}
+
+/// How a resampler of P phases and T taps reads its prototype at the place q = (1 − mu) × P, which is from 0 to P.
+///
+/// Which layout goes with which: a prototype is laid with each row reversed for wrapped phase ([`PolyphaseResampF32`](crate::PolyphaseResampF32) says how), and in its natural order
+/// for straight phase. Of a ramp through a prototype that is straight from value to value, the other pairs make levels that jump, and a prototype laid for wrapped phase may give 0
+/// in straight phase. docs/float.md has the figures.
+#[derive(Clone, Copy, Debug, Default, PartialEq, Eq)]
+pub enum Phase {
+    /// As the Rust original: phases p0 = floor(q) modulo P and p1 = (p0 + 1) modulo P of the same samples, and f = q − p0, so that an output on a sample, q = P, is drawn on from
+    /// phases 0 and 1 by P times their difference.
+    #[default]
+    Wrapped,
+    /// The places t × P + p and t × P + p + 1 of the prototype as one row, 0 past its P × T taps, with p = floor(q) and f = q − p. A level on a sample, as each is at step 1, reads
+    /// one place of each row. Levels between samples read the taps of a row forwards while time goes backwards, so only steps of whole samples are even.
+    Straight,
 }
 
 /// What one step of the line did.
@@ -77,7 +96,7 @@ pub enum Step {
 /// use gauge_line::{Line, Moved, Settings};
 ///
 /// // One stage, r = 1, no FIR, no half-band stages, a resampler of two phases and one tap.
-/// let settings = Settings { stages: 1, r: 1, factor: 0, depth: 0, phases: 2, phase_taps: 1, step: 0.5 };
+/// let settings = Settings { stages: 1, r: 1, factor: 0, depth: 0, phases: 2, phase_taps: 1, step: 0.5, ..Settings::default() };
 /// let mut line = Line::open(settings, &[], &[1.0, 0.0])?;
 /// let mut out = [0.0];
 /// assert_eq!(line.feed(&[16384, 0], &mut out)?, Moved { taken: 1, written: 1 });
@@ -102,10 +121,12 @@ pub struct Line {
     counts: [u64; MOST_DEPTH],
     phases: u64,
     phase_taps: u64,
+    straight: u64,
     mu: f32,
     step: f32,
     delay: [f32; MOST_PHASE_TAPS],
     prototype: [f32; MOST_PROTOTYPE],
+    cuts: u32,
 }
 
 const ZEROS: Line = Line {
@@ -125,10 +146,12 @@ const ZEROS: Line = Line {
     counts: [0; MOST_DEPTH],
     phases: 0,
     phase_taps: 0,
+    straight: 0,
     mu: 0.0,
     step: 0.0,
     delay: [0.0; MOST_PHASE_TAPS],
     prototype: [0.0; MOST_PROTOTYPE],
+    cuts: 0,
 };
 
 // A function of the archive on a line: what stands before its fields, the fields in the order in which they cross, what stands behind.
@@ -152,14 +175,19 @@ macro_rules! on_line {
             &mut $line.counts,
             &mut $line.phases,
             &mut $line.phase_taps,
+            &mut $line.straight,
             &mut $line.mu,
             &mut $line.step,
             &mut $line.delay,
             &mut $line.prototype,
+            &mut $line.cuts,
             $($after,)*
         )
     };
 }
+
+// Its own parking, over the same macro.
+mod parking;
 
 impl Line {
     /// Opens a line. `taps` are the FIR's, in Q15 (32768ths), at most [`MOST_TAPS`]; none turn the FIR off. `prototype` is the resampler's, phases × phase_taps long, tap t of phase p at
@@ -169,7 +197,7 @@ impl Line {
     ///
     /// ```
     /// # use gauge_line::{Line, Refusal, Settings};
-    /// let settings = Settings { stages: 8, r: 15, factor: 0, depth: 0, phases: 0, phase_taps: 0, step: 0.0 };
+    /// let settings = Settings { stages: 8, r: 15, factor: 0, depth: 0, ..Settings::default() };
     /// assert_eq!(Line::open(settings, &[], &[]).unwrap_err(), Refusal::GainBits);
     /// assert!(Line::open(Settings { r: 14, ..settings }, &[], &[]).is_ok());
     /// ```
@@ -178,7 +206,7 @@ impl Line {
         // SAFETY: each pointer is lent with the length of its own slice, and the fields are this function's own.
         let number = unsafe {
             on_line!(
-                gauge_raw_line_open,
+                gauge_raw_line_open_2,
                 [
                     settings.stages as u64,
                     settings.r as u64,
@@ -186,6 +214,7 @@ impl Line {
                     settings.depth as u64,
                     settings.phases as u64,
                     settings.phase_taps as u64,
+                    u64::from(settings.phase == Phase::Straight),
                     settings.step,
                     taps.as_ptr(),
                     taps.len() as u64,
@@ -211,7 +240,7 @@ impl Line {
     /// ```
     /// # use gauge_line::{Line, Moved, Settings};
     /// // The sum of each two samples, halved; a level for each.
-    /// let settings = Settings { stages: 1, r: 2, factor: 0, depth: 0, phases: 0, phase_taps: 0, step: 0.0 };
+    /// let settings = Settings { stages: 1, r: 2, factor: 0, depth: 0, ..Settings::default() };
     /// let mut line = Line::open(settings, &[], &[])?;
     /// let mut out = [9.0; 3];
     /// assert_eq!(line.feed(&[8192, 8192, 16384, 16384, 0], &mut out)?, Moved { taken: 5, written: 2 });
@@ -247,7 +276,7 @@ impl Line {
     ///
     /// ```
     /// # use gauge_line::{Line, Settings, Step};
-    /// # let settings = Settings { stages: 1, r: 1, factor: 0, depth: 0, phases: 2, phase_taps: 1, step: 0.5 };
+    /// # let settings = Settings { stages: 1, r: 1, factor: 0, depth: 0, phases: 2, phase_taps: 1, step: 0.5, ..Settings::default() };
     /// # let mut line = Line::open(settings, &[], &[1.0, 0.0])?;
     /// assert_eq!(line.step(&[16384, 0], 0, false)?, Step::Stopped);
     /// assert_eq!(line.step(&[16384, 0], 0, true)?, Step::Took);
@@ -283,13 +312,29 @@ impl Line {
         answered(number, step)
     }
 
+    /// How many values were cut to 16 bits since the opening or the last reset: scaled sums and, where the FIR is on, its sums, of all samples taken so far. A sum of −32,768
+    /// or 32,767 is not cut. It holds at 2^32 − 1.
+    ///
+    /// ```
+    /// # use gauge_line::{Line, Settings};
+    /// let mut line = Line::open(Settings::default(), &[], &[])?;
+    /// line.feed(&[32_767, 32_768, -32_768, -32_769], &mut [0.0; 4])?;
+    /// assert_eq!(line.cuts(), 2);
+    /// line.reset()?;
+    /// assert_eq!(line.cuts(), 0);
+    /// # Ok::<(), gauge_line::Refusal>(())
+    /// ```
+    pub fn cuts(&self) -> u32 {
+        self.cuts
+    }
+
     /// Makes the line what its opening made it.
     ///
     /// Refused: `State`.
     ///
     /// ```
     /// # use gauge_line::{Line, Settings};
-    /// # let settings = Settings { stages: 1, r: 4, factor: 0, depth: 0, phases: 0, phase_taps: 0, step: 0.0 };
+    /// # let settings = Settings { stages: 1, r: 4, factor: 0, depth: 0, ..Settings::default() };
     /// let mut line = Line::open(settings, &[], &[])?;
     /// line.feed(&[1, 2, 3], &mut [0.0])?;
     /// line.reset()?;
@@ -329,6 +374,7 @@ mod tests {
         depth: 2,
         phases: 4,
         phase_taps: 1,
+        phase: Phase::Straight,
         step: 1.5,
     };
 
@@ -343,10 +389,28 @@ mod tests {
         assert_eq!((line.stages, line.r, line.sample_counter), (3, 5, 0));
         assert_eq!((line.tap_count, line.factor, line.wait), (2, 7, 2));
         assert_eq!((line.depth, line.phases, line.phase_taps), (2, 4, 1));
-        assert_eq!((line.mu, line.step), (1.0, 1.5));
+        assert_eq!((line.straight, line.mu, line.step), (1, 1.0, 1.5));
         assert_eq!(line.taps[..3], [11, 12, 0]);
         assert_eq!(line.fir_delay, [0; MOST_TAPS]);
         assert_eq!(line.prototype[..5], [0.1, 0.2, 0.3, 0.4, 0.0]);
+        assert_eq!(line.cuts, 0);
+    }
+
+    #[test]
+    fn scaled_sums_and_the_fir_count_together() {
+        // 40,000 is cut, and twice 32,767 of the FIR again.
+        let mut line = Line::open(Settings::default(), &[32_767; 2], &[]).unwrap();
+        line.feed(&[40_000, 32_767, 0], &mut [0.0; 3]).unwrap();
+        assert_eq!(line.cuts(), 2);
+    }
+
+    #[test]
+    fn the_count_holds_at_its_end() {
+        let mut line = Line::open(Settings::default(), &[], &[]).unwrap();
+        line.cuts = u32::MAX - 1;
+        let mut out = [0.0; 3];
+        line.feed(&[1 << 20; 3], &mut out).unwrap();
+        assert_eq!((line.cuts(), out), (u32::MAX, [32_767.0 / 32_768.0; 3]));
     }
 
     #[test]
@@ -365,10 +429,35 @@ mod tests {
         assert_eq!(line.sample_counter, 1);
     }
 
+    // Wrapped by default, and a reset keeps the setting.
+    #[test]
+    fn a_line_keeps_its_phase() {
+        let mut line = opened();
+        line.reset().unwrap();
+        assert_eq!(line, opened());
+        let settings = Settings {
+            phases: 4,
+            phase_taps: 1,
+            ..Settings::default()
+        };
+        let line = Line::open(settings, &[], &[0.1, 0.2, 0.3, 0.4]).unwrap();
+        assert_eq!(line.straight, 0);
+    }
+
+    // "not looked at" where there is no resampler: the line is the same.
+    #[test]
+    fn the_phase_of_no_resampler_is_not_kept() {
+        let off = Settings {
+            phases: 0,
+            ..SETTINGS
+        };
+        assert_eq!(Line::open(off, &[11], &[]).unwrap().straight, 0);
+    }
+
     #[test]
     fn a_damaged_line_is_refused_and_stays() {
         let mut line = opened();
-        line.wait = 0;
+        (line.wait, line.cuts) = (0, 7);
         let damaged = line.clone();
         let mut out = [9.0];
         assert_eq!(line.feed(&[1; 40], &mut out), Err(Refusal::State));

@@ -10,6 +10,16 @@
 //! | 3 | 8 | −16.6 dB | 0.130 | −1.5 dB |
 //! | 4 | 16 | −28.0 dB | 0.260 | −0.4 dB |
 //! | 5 | 32 | −143.0 dB | 0.400 | 0.0 dB |
+//!
+//! Of the 98 dB cascade, whose stages have M = 2, 3, 3, 6, 15 taps:
+//!
+//! | depth | rate divided by | worst alias into 0 to 0.4 | aliases below −98 dB up to | level at 0.4 |
+//! |---|---|---|---|---|
+//! | 1 | 2 | −11.2 dB | 0.036 | −2.8 dB |
+//! | 2 | 4 | −13.9 dB | 0.073 | −2.4 dB |
+//! | 3 | 8 | −13.8 dB | 0.123 | −2.2 dB |
+//! | 4 | 16 | −21.3 dB | 0.246 | −0.9 dB |
+//! | 5 | 32 | −98.8 dB | 0.400 | 0.0 dB |
 
 use crate::limits::MOST_DEPTH;
 
@@ -21,7 +31,7 @@ pub const STAGE_TAPS: [usize; MOST_DEPTH] = [3, 4, 5, 10, 23];
 pub struct Passband {
     /// Worst alias into 0 to 0.4, in dB.
     pub worst_alias: f64,
-    /// Aliases are below −140 dB up to here; rounded down.
+    /// Aliases are below −140 dB up to here, −98 dB of the 98 dB cascade; rounded down.
     pub held_to: f64,
     /// Level at 0.4, in dB.
     pub at_end: f64,
@@ -49,4 +59,22 @@ pub const PASSBANDS: [Passband; MOST_DEPTH] = [
     figures(-16.6, 0.130, -1.5),
     figures(-28.0, 0.260, -0.4),
     figures(-143.0, 0.400, 0.0),
+];
+
+/// Taps of the 98 dB stages, in the order in which a decimating cascade runs them. In [`hbf_tap_table_98`](crate::hbf_tap_table_98) they stand the other way round.
+pub const STAGE_TAPS_98: [usize; MOST_DEPTH] = [2, 3, 3, 6, 15];
+
+/// Of the [98 dB cascade](crate::HbfDecCascade98), for depth 1 to [`MOST_DEPTH`].
+///
+/// ```
+/// let figures = gauge_line::passband::PASSBANDS_98[5 - 1];
+/// assert_eq!(figures.worst_alias, -98.8);
+/// assert_eq!(figures.held_to, 0.400);
+/// ```
+pub const PASSBANDS_98: [Passband; MOST_DEPTH] = [
+    figures(-11.2, 0.036, -2.8),
+    figures(-13.9, 0.073, -2.4),
+    figures(-13.8, 0.123, -2.2),
+    figures(-21.3, 0.246, -0.9),
+    figures(-98.8, 0.400, 0.0),
 ];

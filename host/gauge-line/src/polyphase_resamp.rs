@@ -19,11 +19,12 @@ use crate::refusal::{Refusal, answered};
 /// ```
 ///
 /// Laid in its own order, h makes levels that jump. Phases wrap, as in the Rust original: an output with mu below 1 / phases is drawn between the last phase and phase 0 of the same
-/// samples, and one at mu = 0 is drawn on from phases 0 and 1.
+/// samples, and one at mu = 0 is drawn on from phases 0 and 1. Of [`from_taps_straight`](Self::from_taps_straight) all this does not hold: see [`Phase`](crate::Phase).
 #[derive(Clone, Debug, PartialEq)]
 pub struct PolyphaseResampF32 {
     phases: u64,
     taps: u64,
+    straight: u64,
     mu: f32,
     step: f32,
     delay: [f32; MOST_PHASE_TAPS],
@@ -37,6 +38,7 @@ macro_rules! on_resampler {
             $($before,)*
             &mut $state.phases,
             &mut $state.taps,
+            &mut $state.straight,
             &mut $state.mu,
             &mut $state.step,
             &mut $state.delay,
@@ -46,8 +48,18 @@ macro_rules! on_resampler {
     };
 }
 
+const ZEROS: PolyphaseResampF32 = PolyphaseResampF32 {
+    phases: 0,
+    taps: 0,
+    straight: 0,
+    mu: 0.0,
+    step: 0.0,
+    delay: [0.0; MOST_PHASE_TAPS],
+    prototype: [0.0; MOST_PROTOTYPE],
+};
+
 impl PolyphaseResampF32 {
-    /// Opens a resampler of 2 to 64 phases of 1 to 16 taps, with any finite step above zero. The prototype is laid as above and copied.
+    /// Opens a resampler of 2 to 64 phases of 1 to 16 taps, with any finite step above zero, in wrapped phase. The prototype is laid as above and copied.
     ///
     /// Refused: `Phases`, `Prototype`, `Step`.
     pub fn from_taps(
@@ -56,18 +68,54 @@ impl PolyphaseResampF32 {
         prototype: &[f32],
         step: f32,
     ) -> Result<PolyphaseResampF32, Refusal> {
-        let mut state = PolyphaseResampF32 {
-            phases: 0,
-            taps: 0,
-            mu: 0.0,
-            step: 0.0,
-            delay: [0.0; MOST_PHASE_TAPS],
-            prototype: [0.0; MOST_PROTOTYPE],
-        };
+        let mut state = ZEROS;
         // SAFETY: the pointer is lent with the length of its own slice, and the fields are this function's own.
         let number = unsafe {
             on_resampler!(
                 gauge_raw_polyphase_resamp_from_taps,
+                [
+                    phases as u64,
+                    taps as u64,
+                    prototype.as_ptr(),
+                    prototype.len() as u64,
+                    step
+                ],
+                state,
+                []
+            )
+        };
+        answered(number, state)
+    }
+
+    /// Opens a resampler in straight phase: [`Phase::Straight`](crate::Phase::Straight) says how it reads the prototype.
+    ///
+    /// Refused: `Phases`, `Prototype`, `Step`.
+    ///
+    /// ```
+    /// use gauge_line::PolyphaseResampF32;
+    ///
+    /// // At step 1 every level falls on a value. A prototype in natural order, its middle at place 2.
+    /// let prototype = [0.0, 0.25, 1.0, 0.25];
+    /// let mut straight = PolyphaseResampF32::from_taps_straight(2, 2, &prototype, 1.0)?;
+    /// let mut wrapped = PolyphaseResampF32::from_taps(2, 2, &prototype, 1.0)?;
+    /// let mut out = [0.0; 3];
+    /// straight.process_block(&[1.0, 1.0, 0.5], &mut out)?;
+    /// assert_eq!(out, [1.0, 1.0, 0.5]);
+    /// wrapped.process_block(&[1.0, 1.0, 0.5], &mut out)?;
+    /// assert_eq!(out.map(f32::to_bits), [0.5f32, 0.0, -0.25].map(f32::to_bits));
+    /// # Ok::<(), gauge_line::Refusal>(())
+    /// ```
+    pub fn from_taps_straight(
+        phases: usize,
+        taps: usize,
+        prototype: &[f32],
+        step: f32,
+    ) -> Result<PolyphaseResampF32, Refusal> {
+        let mut state = ZEROS;
+        // SAFETY: the pointer is lent with the length of its own slice, and the fields are this function's own.
+        let number = unsafe {
+            on_resampler!(
+                gauge_raw_polyphase_resamp_from_taps_straight,
                 [
                     phases as u64,
                     taps as u64,
@@ -136,7 +184,7 @@ impl PolyphaseResampF32 {
     /// let mut resampler = gauge_line::PolyphaseResampF32::from_taps(2, 1, &[1.0, 0.0], 0.5)?;
     /// let mut out = [0.0; 3];
     /// assert_eq!(resampler.push(0.5, &mut out)?, 2);
-    /// assert_eq!(out, [-0.5, 0.0, 0.0]);
+    /// assert_eq!(out.map(f32::to_bits), [-0.5f32, 0.0, 0.0].map(f32::to_bits));
     /// # Ok::<(), gauge_line::Refusal>(())
     /// ```
     #[inline]
@@ -169,6 +217,17 @@ mod tests {
         assert_eq!((state.phases, state.taps), (4, 1));
         assert_eq!((state.mu, state.step), (1.0, 1.5));
         assert_eq!(state.prototype[..5], [0.1, 0.2, 0.3, 0.4, 0.0]);
+    }
+
+    #[test]
+    fn a_reset_keeps_the_phase() {
+        let straight =
+            || PolyphaseResampF32::from_taps_straight(4, 1, &[0.1, 0.2, 0.3, 0.4], 1.5).unwrap();
+        assert_eq!((opened().straight, straight().straight), (0, 1));
+        let mut state = straight();
+        state.push(2.0, &mut []).unwrap();
+        state.reset().unwrap();
+        assert_eq!(state, straight());
     }
 
     #[test]

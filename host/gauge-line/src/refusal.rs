@@ -26,7 +26,7 @@ pub enum Refusal {
     Span = 4,
     /// FIR factor not 1 to 4,096.
     FirFactor = 5,
-    /// FIR taps: none, or over 65,536; over 64 one sample at a time; in the line only over 64.
+    /// FIR taps: none, or over 65,536; over 128 one sample at a time; in the line only over 128.
     Taps = 6,
     /// Samples of a block: none, or samples or span over 65,536.
     Samples = 7,

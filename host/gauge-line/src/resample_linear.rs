@@ -36,7 +36,7 @@ pub fn resample_linear_q15(src: &[i16], dst: &mut [i16], ratio_q16: i32) -> Resu
 /// ```
 /// let mut out = [0.0; 4];
 /// assert_eq!(gauge_line::resample_linear_f32(&[0.0, 1.0], &mut out, 0.5)?, 4);
-/// assert_eq!(out, [0.0, 0.5, 1.0, 1.0]);
+/// assert_eq!(out.map(f32::to_bits), [0.0f32, 0.5, 1.0, 1.0].map(f32::to_bits));
 /// # Ok::<(), gauge_line::Refusal>(())
 /// ```
 pub fn resample_linear_f32(src: &[f32], dst: &mut [f32], ratio: f32) -> Result<usize, Refusal> {

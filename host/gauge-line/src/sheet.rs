@@ -8,6 +8,9 @@ use crate::refusal::{Refusal, answered};
 /// A sheet is a 16-bit entry count, 0 to 32, then so many pairs of 32-bit offset and length, sorted by offset, then data; all numbers little-endian. Offsets count from the
 /// sheet's start. No byte belongs to two entries; gaps are allowed, and an entry may be empty.
 ///
+/// A new sheet has [`SHEET_MARK`](crate::limits::SHEET_MARK) in its count, which readers strip, and its empty entries come before full ones of equal offset. Sheets without it, made
+/// before that, are read as they were.
+///
 /// ```
 /// use gauge_line::{Refusal, Sheet};
 ///
@@ -30,7 +33,8 @@ pub struct Sheet<'a> {
 impl<'a> Sheet<'a> {
     /// The sheet that the bytes are.
     ///
-    /// Refused: `Directory` where the count is over 32 or the bytes end inside the directory; `Entries` where a pair is unsorted, overlaps or leaves the data.
+    /// Refused: `Directory` where the count is over 32 or the bytes end inside the directory; `Entries` where a pair is unsorted, overlaps or leaves the data, or in a new sheet an empty entry stands behind a full one
+    /// of equal offset.
     pub fn read(bytes: &'a [u8]) -> Result<Self, Refusal> {
         let mut count = 0;
         // SAFETY: the pointer is lent with the length of its slice.
@@ -69,7 +73,7 @@ impl<'a> Sheet<'a> {
         answered(number, &self.bytes[offset..offset + size])
     }
 
-    /// Writes the sheet of the entries whose bytes are joined and whose lengths are listed to the front of the span, without gaps, and answers its length; the places behind it
+    /// Writes the sheet of the entries whose bytes are joined and whose lengths are listed to the front of the span, without gaps and with the mark, and answers its length; the places behind it
     /// stay as they were. [`Sheet::read`] of it yields the entries again.
     ///
     /// Refused: `Directory` where there are over 32 lengths; `Entries` where they do not add up to the bytes, the sheet would pass 2^32 − 1 bytes or the span is too short.

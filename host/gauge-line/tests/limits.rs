@@ -10,6 +10,7 @@ const SETTINGS: Settings = Settings {
     depth: 0,
     phases: 0,
     phase_taps: 0,
+    phase: Phase::Wrapped,
     step: 0.0,
 };
 

@@ -1,10 +1,20 @@
 //! The smallest sheets on which a reader or a writer could go wrong, and what 02 answers of each.
 
+use gauge_line::limits::SHEET_MARK;
 use gauge_line::{Refusal, Sheet};
 
-/// A sheet with such pairs of offset and length, and so many bytes in all.
+/// A sheet with such pairs of offset and length, and so many bytes in all, as it was made before request 9: without the mark.
 fn sheet(pairs: &[(u32, u32)], length: usize) -> Vec<u8> {
-    let mut bytes = (pairs.len() as u16).to_le_bytes().to_vec();
+    counted(pairs.len(), pairs, length)
+}
+
+/// The same with the mark.
+fn new_sheet(pairs: &[(u32, u32)], length: usize) -> Vec<u8> {
+    counted(SHEET_MARK + pairs.len(), pairs, length)
+}
+
+fn counted(word: usize, pairs: &[(u32, u32)], length: usize) -> Vec<u8> {
+    let mut bytes = (word as u16).to_le_bytes().to_vec();
     for (offset, size) in pairs {
         bytes.extend(offset.to_le_bytes());
         bytes.extend(size.to_le_bytes());
@@ -22,7 +32,10 @@ fn the_directory() {
     assert_eq!(count(b""), Err(Refusal::Directory));
     assert_eq!(count(b"\0"), Err(Refusal::Directory));
     assert_eq!(count(b"\0\0"), Ok(0));
-    assert_eq!(count(b"\0\x80"), Err(Refusal::Directory));
+    assert_eq!(count(b"\0\x80"), Ok(0));
+    assert_eq!(count(b"\0\x40"), Err(Refusal::Directory));
+    let many = new_sheet(&[(266, 0); 33], 266);
+    assert_eq!(count(&many), Err(Refusal::Directory));
     assert_eq!(count(&sheet(&[(266, 0); 33], 266)), Err(Refusal::Directory));
     assert_eq!(count(&sheet(&[(258, 0); 32], 258)), Ok(32));
     assert_eq!(count(b"\x01\0\0\0\0\0\0\0\0"), Err(Refusal::Directory));
@@ -41,6 +54,8 @@ fn every_pair_is_compared() {
     assert_eq!(count(&sheet(&hidden, 36)), Err(Refusal::Entries));
     let clear = [(26, 10), (30, 0), (36, 1)];
     assert_eq!(count(&sheet(&clear, 37)), Ok(3));
+    assert_eq!(count(&new_sheet(&clear, 37)), Ok(3));
+    assert_eq!(count(&new_sheet(&hidden, 36)), Err(Refusal::Entries));
     assert_eq!(
         count(&sheet(&[(19, 0), (18, 1)], 19)),
         Err(Refusal::Entries)
@@ -51,6 +66,14 @@ fn every_pair_is_compared() {
 fn an_empty_entry_before_or_after_a_full_one_of_equal_offset() {
     assert_eq!(count(&sheet(&[(18, 1), (18, 0)], 19)), Ok(2));
     assert_eq!(count(&sheet(&[(18, 0), (18, 1)], 19)), Ok(2));
+    // With the mark the empty one comes first.
+    assert_eq!(
+        count(&new_sheet(&[(18, 1), (18, 0)], 19)),
+        Err(Refusal::Entries)
+    );
+    assert_eq!(count(&new_sheet(&[(18, 0), (18, 1)], 19)), Ok(2));
+    let apart = [(26, 1), (26, 0), (27, 1)];
+    assert_eq!(count(&new_sheet(&apart, 28)), Err(Refusal::Entries));
 }
 
 #[test]
@@ -102,7 +125,7 @@ fn a_writer_leaves_a_refused_span_alone() {
 fn places_behind_a_sheet_stay() {
     let mut span = [9; 8];
     assert_eq!(Sheet::write(b"", &[], &mut span), Ok(2));
-    assert_eq!(span, [0, 0, 9, 9, 9, 9, 9, 9]);
+    assert_eq!(span, [0, 128, 9, 9, 9, 9, 9, 9]);
 }
 
 /// No byte of these is touched, so no memory is taken.

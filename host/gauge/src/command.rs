@@ -1,8 +1,12 @@
 //! The commands by name.
 
+use crate::compare::compare;
 use crate::explain::explain;
 use crate::fault::{Fault, front};
+use crate::inspect::inspect;
 use crate::nearest::did_you_mean;
+use crate::phases_command::phases;
+use crate::plan::plan;
 use crate::plot::plot;
 use crate::run::run;
 use crate::sheet_command::sheet;
@@ -11,7 +15,9 @@ use std::ffi::OsString;
 
 const HELP: &str = include_str!("help.txt");
 const VERSION: &str = concat!("gauge ", env!("CARGO_PKG_VERSION"), "\n");
-const COMMANDS: [&str; 6] = ["run", "explain", "plot", "sheet", "help", "version"];
+const COMMANDS: [&str; 10] = [
+    "run", "explain", "plan", "plot", "sheet", "phases", "inspect", "compare", "help", "version",
+];
 
 /// Does what the arguments ask for.
 pub fn perform(arguments: &[OsString]) -> Result<(), Fault> {
@@ -29,8 +35,12 @@ pub fn perform(arguments: &[OsString]) -> Result<(), Fault> {
     match &*command {
         "run" => run(rest),
         "explain" => explain(rest),
+        "plan" => plan(rest),
         "plot" => plot(rest),
         "sheet" => sheet(rest),
+        "phases" => phases(rest),
+        "inspect" => inspect(rest),
+        "compare" => compare(rest),
         "help" => print(HELP),
         "version" => print(VERSION),
         _ => {

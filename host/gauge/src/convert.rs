@@ -23,6 +23,19 @@ pub fn feed_piece(
     }
 }
 
+/// The levels of a whole recording, and the samples, from 0, with which a value was cut to 16 bits.
+pub fn levels_and_cuts(line: &mut Line, samples: &[i32]) -> Result<(Vec<f32>, Vec<usize>), Fault> {
+    let (mut levels, mut cuts) = (Vec::new(), Vec::new());
+    for (at, sample) in samples.iter().enumerate() {
+        let before = line.cuts();
+        levels.extend(levels_of(line, &[*sample])?);
+        if line.cuts() > before {
+            cuts.push(at);
+        }
+    }
+    Ok((levels, cuts))
+}
+
 /// The levels of a whole recording.
 pub fn levels_of(line: &mut Line, samples: &[i32]) -> Result<Vec<f32>, Fault> {
     let mut all = Vec::new();

@@ -9,7 +9,7 @@ use std::os::unix::ffi::OsStrExt;
 use std::path::{Path, PathBuf};
 
 /// Every name that a settings file may set.
-pub const NAMES: [&str; 9] = [
+pub const NAMES: [&str; 11] = [
     "stages",
     "r",
     "factor",
@@ -17,8 +17,10 @@ pub const NAMES: [&str; 9] = [
     "depth",
     "phases",
     "phase_taps",
+    "phase",
     "step",
     "prototype",
+    "prototype_rows",
 ];
 
 /// A name that was set, its value and the line where it stands. The value is bytes: it may name a file, and names need not be UTF-8.
@@ -43,14 +45,22 @@ pub struct Entries {
 }
 
 impl Entries {
+    /// Of a file that has no such lines.
+    pub fn none(file: &Path) -> Entries {
+        Entries {
+            file: file.to_path_buf(),
+            entries: Vec::new(),
+            lines: 0,
+        }
+    }
+
     /// The entries of a text. A name that is unknown or set twice is a fault.
     pub fn parse(file: &Path, text: &[u8]) -> Result<Entries, Fault> {
         let lines = text.strip_suffix(b"\n").unwrap_or(text);
         let lines: Vec<&[u8]> = lines.split(|byte| *byte == b'\n').collect();
         let mut all = Entries {
-            file: file.to_path_buf(),
-            entries: Vec::new(),
             lines: lines.len(),
+            ..Entries::none(file)
         };
         for (at, line) in lines.into_iter().enumerate() {
             let line = setting(line);

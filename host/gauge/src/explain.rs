@@ -11,7 +11,7 @@ use crate::rate::Unit;
 use crate::section::{HALF_BAND, Section, first_level, sections, whole};
 use crate::target::Target;
 use gauge_line::passband::{PASSBANDS, STAGE_TAPS};
-use gauge_line::{CicDecimator, Line, Refusal, limits};
+use gauge_line::{CicDecimator, Line, Phase, Refusal, hbf_dec_reach, limits};
 use std::cmp::Ordering;
 use std::ffi::OsString;
 use std::fmt::Write;
@@ -48,6 +48,7 @@ pub fn explanation(name: &str, file: &LineFile, unit: Unit) -> Result<String, Fa
     add_table(&mut text, &sections, unit);
     add_start(&mut text, file, &sections, unit);
     add_ranges(&mut text, file, bits);
+    add_rounding(&mut text, file.taps.len());
     add_levels(&mut text, file)?;
     if file.settings.phases > 0 {
         add_ramp(&mut text, file).map_err(refused)?;
@@ -115,10 +116,11 @@ fn add_start(text: &mut String, file: &LineFile, sections: &[Section], unit: Uni
 // The samples that a line can take.
 fn add_ranges(text: &mut String, file: &LineFile, bits: u32) {
     let (stages, r) = (file.settings.stages, file.settings.r);
+    let uncut = range::uncut(stages, r, &file.taps);
     let ranges = [
         ("in any order: every sum is exact", range::exact(stages, r)),
         ("steady: the sum keeps to 32 bits", range::steady(stages, r)),
-        ("steady: and is not cut to 16 bits", range::uncut(stages, r)),
+        ("steady: and is not cut to 16 bits", uncut),
     ];
     add!(text, "");
     add!(text, "{:36}{:>12}{:>12}", "samples", "least", "greatest");
@@ -126,6 +128,8 @@ fn add_ranges(text: &mut String, file: &LineFile, bits: u32) {
         let (least, greatest) = range.unwrap_or_default();
         add!(text, "{what:36}{least:>12}{greatest:>12}");
     }
+    let steady = range::steady(stages, r).unwrap_or_default();
+    add!(text, "{}", cut_from(steady, uncut.unwrap_or_default()));
     if bits > FULL_SCALE_GAIN_BITS {
         add!(
             text,
@@ -135,9 +139,34 @@ fn add_ranges(text: &mut String, file: &LineFile, bits: u32) {
     }
 }
 
+// What rounding takes from a value: each product of the FIR is rounded down by itself, so T of them lose up to 32767 T of 32768 steps. The scaled sum loses less
+// than a step before that, whatever the settings.
+fn add_rounding(text: &mut String, taps: usize) {
+    if taps == 0 {
+        return;
+    }
+    let steps = taps as f64 * 32767.0 / 32768.0;
+    add!(
+        text,
+        "Rounding: the FIR's values are never above the exact ones, and below them by at most {steps:.4} steps of 16 bits, {:.6} of full scale.",
+        steps / 32768.0
+    );
+}
+
+// From which steady sample on values are cut, of those whose sum keeps to 32 bits.
+fn cut_from((least, greatest): Range, (low, high): Range) -> String {
+    let up = (high < greatest).then(|| format!("from {} up", high + 1));
+    let down = (low > least).then(|| format!("from {} down", low - 1));
+    let from: Vec<String> = [up, down].into_iter().flatten().collect();
+    match from.is_empty() {
+        true => "Values are cut of no steady sample whose sum keeps to 32 bits.".to_string(),
+        false => format!("Values are cut of steady samples {}.", from.join(" and ")),
+    }
+}
+
 // Levels of steady samples, as the line gives them.
 fn add_levels(text: &mut String, file: &LineFile) -> Result<(), Fault> {
-    let range = range::uncut(file.settings.stages, file.settings.r);
+    let range = range::uncut(file.settings.stages, file.settings.r, &file.taps);
     add!(text, "");
     add!(
         text,
@@ -173,12 +202,8 @@ fn told((least, greatest): Range) -> Vec<i64> {
 
 // How even the levels of a ramp are, and what is the matter where they are not.
 fn add_ramp(text: &mut String, file: &LineFile) -> Result<(), Refusal> {
-    let (phases, taps, step) = (
-        file.settings.phases,
-        file.settings.phase_taps,
-        file.settings.step,
-    );
-    let uneven = |prototype: &[f32]| unevenness(phases, taps, prototype, step);
+    let settings = &file.settings;
+    let uneven = |prototype: &[f32]| unevenness(settings, prototype);
     add!(text, "");
     let Some(off) = uneven(&file.prototype)? else {
         add!(
@@ -193,12 +218,27 @@ fn add_ramp(text: &mut String, file: &LineFile) -> Result<(), Refusal> {
         100.0 * off.worst,
         100.0 * off.mean
     );
-    let natural = uneven(&laid(&file.prototype, phases, taps))?;
     if off.worst > EVEN {
-        let whole = (f64::from(step) * phases as f64).fract() == 0.0;
-        add!(text, "Warning: {}", matter(off, natural, whole));
+        let matter = match settings.phase {
+            Phase::Wrapped => {
+                let natural = laid(&file.prototype, settings.phases, settings.phase_taps);
+                let whole = (f64::from(settings.step) * settings.phases as f64).fract() == 0.0;
+                matter(off, uneven(&natural)?, whole)
+            }
+            Phase::Straight => matter_of_straight(settings.step),
+        };
+        add!(text, "Warning: {matter}");
     }
     Ok(())
+}
+
+// In straight phase: the order of the prototype where the step is whole, else the step.
+fn matter_of_straight(step: f32) -> String {
+    if step.fract() == 0.0 {
+        "straight phase reads a prototype in its natural order, one place of each row at a whole step. One that is laid for wrapped phase has other taps there, or none.".to_string()
+    } else {
+        "straight phase reads each row forwards while time goes backwards, so only whole steps are even. Wrapped phase with a laid prototype is for the others.".to_string()
+    }
 }
 
 // What makes levels uneven: the order of the prototype, where it would be better as a natural one that is laid; else the phases that wrap.
@@ -248,6 +288,12 @@ fn add_passband(text: &mut String, file: &LineFile, sections: &[Section], unit: 
         "  level at 0.4                 {:.1} dB",
         figures.at_end
     );
+    if let Ok(reach) = hbf_dec_reach(depth) {
+        add!(
+            text,
+            "  an output follows from       {reach} values at the cascade's input"
+        );
+    }
     if depth < limits::MOST_DEPTH {
         add!(
             text,
@@ -283,11 +329,18 @@ mod tests {
     #[test]
     fn each_part_of_the_explanation_is_there() {
         let text = explained(FULL, Unit::Sample);
-        assert!(text.starts_with("f: a state of 6544 bytes, 6 gain bits of at most 31\n"));
+        assert!(text.starts_with("f: a state of 6808 bytes, 6 gain bits of at most 31\n"));
         assert!(text.contains("worst alias into 0 to 0.4    -15.0 dB"));
         assert!(explained(&FULL.replace("1.5", "0.1"), Unit::Sample).contains(" 3.2 "));
         assert!(!explained(PLAIN, Unit::Sample).contains("alias"));
         assert!(!explained(PLAIN, Unit::Sample).contains("Ramp"));
+    }
+
+    #[test]
+    fn what_rounding_takes_is_told() {
+        let text = explained(FULL, Unit::Sample);
+        assert!(text.contains("by at most 3.9999 steps of 16 bits, 0.000122 of full scale."));
+        assert!(!explained(PLAIN, Unit::Sample).contains("Rounding"));
     }
 
     #[test]

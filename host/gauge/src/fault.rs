@@ -10,6 +10,8 @@ use std::io::{self, ErrorKind, Write};
 pub enum Fault {
     /// What is wrong. It is shown as one line whatever stands in a file or an argument.
     Told(String),
+    /// Files that were compared differ, which is printed already.
+    Differ,
     /// The reader of a pipe has gone, so there is nothing to tell and nobody to tell it to.
     ReaderGone,
 }
@@ -46,6 +48,7 @@ impl fmt::Display for Fault {
     fn fmt(&self, f: &mut fmt::Formatter<'_>) -> fmt::Result {
         match self {
             Fault::Told(text) => f.write_str(&one_line(text)),
+            Fault::Differ => f.write_str("the files differ"),
             Fault::ReaderGone => f.write_str("nobody reads the output"),
         }
     }

@@ -1,9 +1,10 @@
 //! Levels, written as they come.
 
+use crate::begun::Begun;
 use crate::fault::Fault;
 use crate::format::Format;
 use crate::line_file::LineFile;
-use crate::section::{first_level, sections, whole};
+use crate::section::{sections, whole};
 use crate::target::Target;
 
 /// Levels on their way to a target.
@@ -24,12 +25,12 @@ pub struct Moments {
 }
 
 impl Moments {
-    /// Of the levels of a line: each at the sample that it tells of, its delay taken off, counted from 0; in seconds where samples a second are known.
-    pub fn of(file: &LineFile, rate: Option<f64>) -> Result<Moments, Fault> {
+    /// Of the levels of a line that is so far: each at the sample that it tells of, its delay taken off, counted from 0; in seconds where samples a second are known.
+    pub fn of(file: &LineFile, begun: &Begun, rate: Option<f64>) -> Result<Moments, Fault> {
         let sections = sections(file).map_err(|refusal| Fault::file("the line", refusal))?;
         let whole = whole(&sections);
         let delay = Some(whole.delay).filter(|delay| delay.is_finite());
-        let first = first_level(file) as f64 - 1.0 - delay.unwrap_or(0.0);
+        let first = begun.moment - delay.unwrap_or(0.0);
         let (name, unit) = rate.map_or(("sample", 1.0), |rate| ("seconds", rate));
         Ok(Moments {
             name,

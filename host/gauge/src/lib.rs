@@ -3,15 +3,17 @@
 #![warn(missing_docs)]
 
 mod axis;
+mod begun;
 pub mod command;
+mod compare;
 pub mod convert;
 mod csv;
-mod cuts;
 mod draft;
 mod entries;
 mod explain;
 pub mod fault;
 pub mod format;
+mod inspect;
 mod job;
 pub mod lay;
 pub mod levels;
@@ -19,6 +21,10 @@ pub mod line_file;
 mod nearest;
 mod numbers;
 mod options;
+mod parked;
+mod parked_fault;
+mod phases_command;
+mod plan;
 pub mod plot;
 mod progress;
 pub mod ramp;

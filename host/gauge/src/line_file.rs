@@ -3,10 +3,11 @@
 use crate::entries::{Entries, Entry};
 use crate::fault::Fault;
 use crate::lay::laid;
+use crate::nearest::did_you_mean;
 use crate::numbers::{List, Number, listed};
 use crate::reason::{name_of, range, reason};
 use crate::text::{read_small, strange, without_mark};
-use gauge_line::{Line, Settings};
+use gauge_line::{Line, Phase, Refusal, Settings, prototype_by_tap};
 use std::path::{Path, PathBuf};
 use std::str::FromStr;
 
@@ -17,6 +18,18 @@ pub enum Prototype {
     Laid,
     /// As filter design gives them: `prototype = natural ..`.
     Natural,
+    /// Phase by phase, tap t of phase p at p × phase_taps + t: `prototype_rows = ..`.
+    Rows,
+}
+
+impl Prototype {
+    /// The setting that has the numbers.
+    pub fn setting(self) -> &'static str {
+        match self {
+            Prototype::Laid | Prototype::Natural => "prototype",
+            Prototype::Rows => "prototype_rows",
+        }
+    }
 }
 
 /// What a settings file says. A setting that is missing is 0, which turns its part off or is refused.
@@ -54,26 +67,44 @@ impl LineFile {
             depth: number(&entries, "depth", "a whole number")?,
             phases: number(&entries, "phases", "a whole number")?,
             phase_taps: number(&entries, "phase_taps", "a whole number")?,
+            phase: phase(&entries)?,
             step: number(&entries, "step", "a number")?,
         };
-        let (order, prototype) = in_order(entries.get("prototype"));
+        let (order, prototype) = in_order(&entries)?;
         let taps = entries.get("taps").map(|entry| &entry.value[..]);
         let taps: List<i16> = list(&entries, "taps", taps)?;
-        let prototype: List<f32> = list(&entries, "prototype", prototype)?;
+        let prototype: List<f32> = list(&entries, order.setting(), prototype)?;
         let files = [Some(file.to_path_buf()), taps.file, prototype.file];
         Ok(LineFile {
-            prototype: match order {
-                Prototype::Laid => prototype.numbers,
-                Prototype::Natural => {
-                    laid(&prototype.numbers, settings.phases, settings.phase_taps)
-                }
-            },
+            prototype: as_read(prototype.numbers, order, &settings),
             settings,
             taps: taps.numbers,
             order,
             files: files.into_iter().flatten().collect(),
             entries,
         })
+    }
+
+    /// What a parked line was opened with.
+    pub fn parked(
+        file: &Path,
+        settings: Settings,
+        taps: Vec<i16>,
+        prototype: Vec<f32>,
+    ) -> LineFile {
+        LineFile {
+            settings,
+            taps,
+            prototype,
+            order: Prototype::Laid,
+            files: vec![file.to_path_buf()],
+            entries: Entries::none(file),
+        }
+    }
+
+    /// The refusal of the opening, where it is refused.
+    pub fn refusal(&self) -> Option<Refusal> {
+        Line::open(self.settings, &self.taps, &self.prototype).err()
     }
 
     /// Opens the line. A refusal is told at the setting that it is about.
@@ -91,23 +122,63 @@ impl LineFile {
             all.extend(self.entries.unseen(&["factor"], "taps"));
         }
         if self.settings.phases == 0 {
-            let names = ["phase_taps", "prototype", "step"];
+            let names = ["phase_taps", "phase", self.order.setting(), "step"];
             all.extend(self.entries.unseen(&names, "phases"));
         }
         all
     }
 }
 
-// The order of a prototype, and its numbers or the name of their file.
-fn in_order(entry: Option<&Entry>) -> (Prototype, Option<&[u8]>) {
-    let Some(entry) = entry else {
-        return (Prototype::Laid, None);
+// How the resampler reads its prototype, wrapped where it is not set.
+fn phase(entries: &Entries) -> Result<Phase, Fault> {
+    let Some(entry) = entries.get("phase") else {
+        return Ok(Phase::default());
     };
+    match &*entry.text() {
+        "wrapped" => Ok(Phase::Wrapped),
+        "straight" => Ok(Phase::Straight),
+        other => {
+            let hint = did_you_mean(other, &["wrapped", "straight"]);
+            let what = format!("not wrapped or straight{}{hint}", strange(other));
+            Err(entries.fault("phase", what))
+        }
+    }
+}
+
+// The order of a prototype, and its numbers or the name of their file. There is one prototype.
+fn in_order(entries: &Entries) -> Result<(Prototype, Option<&[u8]>), Fault> {
+    match (entries.get("prototype"), entries.get("prototype_rows")) {
+        (None, None) => Ok((Prototype::Laid, None)),
+        (None, Some(rows)) => Ok((Prototype::Rows, Some(&rows.value))),
+        (Some(prototype), None) => Ok(laid_or_natural(prototype)),
+        (Some(prototype), Some(_)) => {
+            let what = format!("prototype is set on line {} too", prototype.line);
+            Err(entries.fault("prototype_rows", what))
+        }
+    }
+}
+
+fn laid_or_natural(entry: &Entry) -> (Prototype, Option<&[u8]>) {
     match entry.value.strip_prefix(b"natural") {
         Some(rest) if rest.first().is_none_or(u8::is_ascii_whitespace) => {
             (Prototype::Natural, Some(rest.trim_ascii()))
         }
         _ => (Prototype::Laid, Some(&entry.value)),
+    }
+}
+
+// The numbers as the resampler reads them: tap t of phase p at t × phases + p, in straight phase as filter design gives them. Those of another length are left for the
+// opening to refuse.
+fn as_read(numbers: Vec<f32>, order: Prototype, settings: &Settings) -> Vec<f32> {
+    let (phases, taps) = (settings.phases, settings.phase_taps);
+    match order {
+        Prototype::Laid => numbers,
+        Prototype::Natural if settings.phase == Phase::Straight => numbers,
+        Prototype::Natural => laid(&numbers, phases, taps),
+        Prototype::Rows => {
+            let mut prototype = numbers.clone();
+            prototype_by_tap(phases, taps, &numbers, &mut prototype).map_or(numbers, |_| prototype)
+        }
     }
 }
 
@@ -148,7 +219,7 @@ mod tests {
 
     #[test]
     fn each_setting_reaches_its_member() {
-        let text = "# a line\nstages = 3\nr = 5 # factor\nfactor=7\ntaps = 11 12\n\ndepth = 2\nphases = 4\nphase_taps = 1\nstep = 1.5\nprototype = 0.1 0.2 0.3 0.4\n";
+        let text = "# a line\nstages = 3\nr = 5 # factor\nfactor=7\ntaps = 11 12\n\ndepth = 2\nphases = 4\nphase_taps = 1\nphase = straight\nstep = 1.5\nprototype = 0.1 0.2 0.3 0.4\n";
         let file = LineFile::parse("f", text).unwrap();
         let settings = Settings {
             stages: 3,
@@ -157,6 +228,7 @@ mod tests {
             depth: 2,
             phases: 4,
             phase_taps: 1,
+            phase: Phase::Straight,
             step: 1.5,
         };
         assert_eq!(file.settings, settings);
@@ -173,8 +245,32 @@ mod tests {
         let file = LineFile::parse("f", text).unwrap();
         assert_eq!(file.order, Prototype::Natural);
         assert_eq!(file.prototype, [1.0, 0.5, 0.0, 0.25]);
+        let straight = format!("{text}phase = straight\n");
+        let file = LineFile::parse("f", straight).unwrap();
+        assert_eq!(file.prototype, [0.0, 0.5, 1.0, 0.25]);
         let file = LineFile::parse("f", "prototype = naturally.taps");
         assert!(file.err().unwrap().to_string().contains("No such file"));
+    }
+
+    #[test]
+    fn a_prototype_in_rows_is_read_by_tap() {
+        let text =
+            "stages=1\nr=1\nphases=3\nphase_taps=2\nstep=1\nprototype_rows = 0 1  .1 1.1  .2 1.2\n";
+        let file = LineFile::parse("f", text).unwrap();
+        assert_eq!(file.order, Prototype::Rows);
+        assert_eq!(file.prototype, [0.0, 0.1, 0.2, 1.0, 1.1, 1.2]);
+        assert!(file.open().is_ok());
+        let short = text.replace(" 1.2", "");
+        assert_eq!(
+            fault(&short),
+            "f:6: prototype_rows = 0 1  .1 1.1  .2: refusal 13, Prototype: 5 given, 3 × 2 = 6 wanted"
+        );
+        let both = format!("{text}prototype = 1\n");
+        assert!(fault(&both).ends_with("prototype is set on line 7 too"));
+        let off = LineFile::parse("f", "stages=1\nr=1\nprototype_rows = 1").unwrap();
+        let told: Vec<String> = off.warnings().iter().map(Fault::to_string).collect();
+        let said = "f:3: warning: prototype_rows is not looked at without phases";
+        assert_eq!(told, [said]);
     }
 
     // Settings, and what is told of them. 4, 7 to 10 and 15 are refusals of other calls.
@@ -222,8 +318,8 @@ mod tests {
         for (text, said) in REFUSED {
             assert_eq!(fault(text), said);
         }
-        let many = format!("stages=1\nr=1\nfactor=1\ntaps={}", "1 ".repeat(65));
-        assert!(fault(&many).ends_with("refusal 6, Taps: 65 given, at most 64"));
+        let many = format!("stages=1\nr=1\nfactor=1\ntaps={}", "1 ".repeat(129));
+        assert!(fault(&many).ends_with("refusal 6, Taps: 129 given, at most 128"));
     }
 
     #[test]
@@ -236,6 +332,10 @@ mod tests {
             "f:1: r = -1: not a whole number; 1 to 4096"
         );
         assert_eq!(fault(""), "f:1: no stages: refusal 1, Stages: 1 to 8");
+        assert_eq!(
+            fault("phase = strait"),
+            "f:1: phase = strait: not wrapped or straight; did you mean straight?"
+        );
     }
 
     #[test]

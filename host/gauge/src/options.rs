@@ -15,10 +15,21 @@ impl Options {
         known: &[&'static str],
         bare: &'static str,
     ) -> Result<Options, Fault> {
+        Options::parse_bare(arguments, known, &[bare])
+    }
+
+    /// The same with a name for each argument that is no option, in their order; the last takes those that are too many.
+    pub fn parse_bare(
+        arguments: &[OsString],
+        known: &[&'static str],
+        bare: &[&'static str],
+    ) -> Result<Options, Fault> {
         let mut options = Options(Vec::new());
         let mut rest = arguments.iter();
         while let Some(argument) = rest.next() {
-            let (name, value) = pair(argument, known, bare)?;
+            let next = bare.iter().find(|name| options.get(name).is_none());
+            let next = next.or(bare.last()).copied().unwrap_or_default();
+            let (name, value) = pair(argument, known, next)?;
             let value = value
                 .or_else(|| rest.next().cloned())
                 .ok_or_else(|| Fault::usage(format!("{name} without a value")))?;

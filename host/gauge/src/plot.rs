@@ -1,7 +1,7 @@
 //! `gauge plot`: samples and levels as a drawing.
 
 use crate::axis::Span;
-use crate::convert::levels_of;
+use crate::convert::levels_and_cuts;
 use crate::fault::{Fault, front};
 use crate::job::{self, Job};
 use crate::line_file::LineFile;
@@ -35,9 +35,12 @@ pub fn plot(arguments: &[OsString]) -> Result<(), Fault> {
     let title = options.get("--title").unwrap_or(name).to_string_lossy();
     let mut job = Job::of(&options)?;
     let samples = job.samples.all()?;
-    let levels = levels_of(&mut job.line, &samples)?;
+    let (levels, cuts) = levels_and_cuts(&mut job.line, &samples)?;
     let across = Across::of(job.rate, range, samples.len());
-    let drawing = drawing(&job.file, &samples, &levels, &title, &across)?;
+    let drawing = Drawing {
+        cuts: cuts.iter().map(|at| *at as f64 / across.unit).collect(),
+        ..drawing(&job.file, &samples, &levels, &title, &across)?
+    };
     job.target.write(drawing.svg().as_bytes())?;
     job.target.finish()
 }
@@ -60,7 +63,7 @@ fn drawing<'a>(
         note: note(file, samples, levels, &drawn).or_else(|| across.note(&drawn)),
         ends: ends(&drawn.points, scale(file)?),
         series: vec![places.samples(samples), drawn],
-        mark: None,
+        ..Drawing::default()
     })
 }
 

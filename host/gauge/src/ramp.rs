@@ -1,6 +1,6 @@
 //! How even the levels of a ramp are: a ramp goes through the resampler alone, and every rise from level to level is compared with an even one.
 
-use gauge_line::{PolyphaseResampF32, Refusal};
+use gauge_line::{Phase, PolyphaseResampF32, Refusal, Settings};
 
 // So many levels are looked at: enough for a step that is no simple fraction to read near every phase.
 const LEVELS: usize = 20_000;
@@ -16,14 +16,14 @@ pub struct Unevenness {
     pub mean: f64,
 }
 
-/// How uneven the levels of a ramp are that rises by 1 a value; an even rise is step × gain. None where the gain is 0 or levels are past f32.
-pub fn unevenness(
-    phases: usize,
-    taps: usize,
-    prototype: &[f32],
-    step: f32,
-) -> Result<Option<Unevenness>, Refusal> {
-    let resampler = PolyphaseResampF32::from_taps(phases, taps, prototype, step)?;
+/// How uneven the levels of a ramp are that rises by 1 a value, through the resampler of these settings; an even rise is step × gain. None where the gain is 0 or levels are past f32.
+pub fn unevenness(settings: &Settings, prototype: &[f32]) -> Result<Option<Unevenness>, Refusal> {
+    let (phases, taps, step) = (settings.phases, settings.phase_taps, settings.step);
+    let open = match settings.phase {
+        Phase::Wrapped => PolyphaseResampF32::from_taps,
+        Phase::Straight => PolyphaseResampF32::from_taps_straight,
+    };
+    let resampler = open(phases, taps, prototype, step)?;
     let sum: f64 = prototype.iter().map(|tap| f64::from(*tap)).sum();
     let even = f64::from(step) * sum / phases as f64;
     let levels = ramp_levels(resampler, taps, step)?;
@@ -70,13 +70,45 @@ mod tests {
         up.chain(down).collect()
     }
 
+    fn settings(phases: usize, prototype: &[f32], step: f32) -> Settings {
+        Settings {
+            phases,
+            phase_taps: prototype.len() / phases,
+            step,
+            ..Settings::default()
+        }
+    }
+
     fn uneven(phases: usize, prototype: &[f32], step: f32) -> Unevenness {
-        let uneven = unevenness(phases, prototype.len() / phases, prototype, step);
+        let uneven = unevenness(&settings(phases, prototype, step), prototype);
         uneven.unwrap().unwrap()
     }
 
     fn worst(phases: usize, prototype: &[f32], step: f32) -> f64 {
         uneven(phases, prototype, step).worst
+    }
+
+    fn worst_in_straight_phase(phases: usize, prototype: &[f32], step: f32) -> f64 {
+        let settings = Settings {
+            phase: Phase::Straight,
+            ..settings(phases, prototype, step)
+        };
+        unevenness(&settings, prototype).unwrap().unwrap().worst
+    }
+
+    // docs/float.md has it: whole steps are even in natural order. Laid for wrapped phase, the taps of this prototype are past its end, and every level is 0.
+    #[test]
+    fn straight_phase_is_even_at_whole_steps_in_natural_order() {
+        for phases in [2, 16, 64] {
+            let natural = straight(phases);
+            for step in [1.0, 2.0, 64.0] {
+                let off = worst_in_straight_phase(phases, &natural, step);
+                assert!(off < 1e-6, "{phases} {step}: {off}");
+                let laid = laid(&natural, phases, 2);
+                assert_eq!(worst_in_straight_phase(phases, &laid, step), 1.0);
+            }
+            assert!(worst_in_straight_phase(phases, &natural, 0.9375) > 0.9);
+        }
     }
 
     // Rises of 93.75, 106.25 and 6.25 in hundredths of a value, where 93.75 is even.
@@ -108,8 +140,13 @@ mod tests {
 
     #[test]
     fn no_gain_has_no_even_rise() {
-        assert_eq!(unevenness(2, 1, &[1.0, -1.0], 1.0), Ok(None));
-        assert_eq!(unevenness(2, 1, &[3e38, 3e38], 1.0), Ok(None));
-        assert_eq!(unevenness(1, 1, &[1.0], 1.0), Err(Refusal::Phases));
+        for (phases, prototype, said) in [
+            (2, &[1.0, -1.0][..], Ok(None)),
+            (2, &[3e38, 3e38], Ok(None)),
+            (1, &[1.0], Err(Refusal::Phases)),
+        ] {
+            let settings = settings(phases, prototype, 1.0);
+            assert_eq!(unevenness(&settings, prototype), said);
+        }
     }
 }

@@ -13,11 +13,11 @@ const LEVELS: usize = 1024;
 /// Samples from the least to the greatest.
 pub type Range = (i64, i64);
 
-/// The samples of which every sum is exact, whatever their order: −2^(31−g) to 2^(31−g) − 1 with g gain bits. None where the line's opening refuses the CIC decimator.
+/// The samples of which every sum is exact, whatever their order, as the proved decimator tells them. None where the line's opening refuses the CIC decimator.
 pub fn exact(stages: usize, r: usize) -> Option<Range> {
-    let (_, bits) = gain(stages, r)?;
-    let reach = 1 << (31 - bits);
-    Some((-reach, reach - 1))
+    let cic = CicDecimator::new(stages, r).ok()?;
+    let range = cic.exact_range().ok()?;
+    Some((i64::from(*range.start()), i64::from(*range.end())))
 }
 
 /// The steady samples whose sum, r^stages times the sample, stays within 32 bits. Any other comes round modulo 2^32.
@@ -26,12 +26,26 @@ pub fn steady(stages: usize, r: usize) -> Option<Range> {
     Some((i64::from(i32::MIN) / gain, i64::from(i32::MAX) / gain))
 }
 
-/// The steady samples whose scaled sum, of a sum that stays within 32 bits, is not cut to 16 bits.
-pub fn uncut(stages: usize, r: usize) -> Option<Range> {
+/// The steady samples of which no value is cut to 16 bits, of those whose sum stays within 32 bits: neither the scaled sum nor the sum of a FIR with these taps.
+pub fn uncut(stages: usize, r: usize, taps: &[i16]) -> Option<Range> {
     let (gain, bits) = gain(stages, r)?;
     let (least, greatest) = steady(stages, r)?;
-    let full = 32768 << bits;
-    Some((least.max(-full / gain), greatest.min((full - 1) / gain)))
+    let (low, high) = uncut_values(taps);
+    let scaled = |value: i64| value << bits;
+    Some((
+        least.max(scaled(low) / gain),
+        greatest.min((scaled(high + 1) - 1) / gain),
+    ))
+}
+
+// The steady values of 16 bits, on both sides of 0, of which a FIR's sum is not cut; without taps all of them.
+fn uncut_values(taps: &[i16]) -> Range {
+    let floored = |value: i64, tap: &i16| (value * i64::from(*tap)) >> 15;
+    let sum = |value: i64| taps.iter().map(|tap| floored(value, tap)).sum::<i64>();
+    let inside = |value: &i64| i16::try_from(sum(*value)).is_ok();
+    let low = (-32768..=0).rev().take_while(inside).last();
+    let high = (0..=32767).take_while(inside).last();
+    (low.unwrap_or(0), high.unwrap_or(0))
 }
 
 // Gain and gain bits of a CIC decimator that a line can have.
@@ -106,8 +120,8 @@ mod tests {
             Some((i64::from(i32::MIN), i64::from(i32::MAX)))
         );
         assert_eq!(steady(2, 5), Some((-85_899_345, 85_899_345)));
-        assert_eq!(uncut(2, 5), Some((-41_943, 41_943)));
-        assert_eq!(uncut(3, 64), Some((-8192, 8191)));
+        assert_eq!(uncut(2, 5, &[]), Some((-41_943, 41_943)));
+        assert_eq!(uncut(3, 64, &[]), Some((-8192, 8191)));
         assert_eq!(exact(8, 14), Some((-1, 0)));
         for refused in [(0, 2), (9, 2), (1, 0), (1, 4097), (8, 15)] {
             assert_eq!(exact(refused.0, refused.1), None);
@@ -135,7 +149,7 @@ mod tests {
             for outside in [least - 1, greatest + 1] {
                 assert_ne!(settled(stages, r, outside), exact(outside));
             }
-            let (least, greatest) = uncut(stages, r).unwrap();
+            let (least, greatest) = uncut(stages, r, &[]).unwrap();
             let full = -32768..=32767;
             for (inside, outside) in [(least, least - 1), (greatest, greatest + 1)] {
                 assert!(full.contains(&exact(inside)));
@@ -144,6 +158,38 @@ mod tests {
             }
         }
     }
+
+    // Whether a line that the sample has filled goes on cutting.
+    fn is_cut(file: &LineFile, sample: i64) -> bool {
+        let mut line = Line::open(file.settings, &file.taps, &[]).unwrap();
+        let filled = (file.settings.stages + 1 + file.taps.len()) * file.settings.r;
+        let mut cuts = || {
+            levels_of(&mut line, &vec![sample as i32; filled]).unwrap();
+            line.cuts()
+        };
+        let before = cuts();
+        cuts() > before
+    }
+
+    #[test]
+    fn a_steady_sample_is_cut_just_past_its_range() {
+        for text in [
+            "stages=1\nr=1\n",
+            "stages=2\nr=5\n",
+            "stages=2\nr=5\nfactor=1\ntaps=32767 32767\n",
+            "stages=1\nr=3\nfactor=2\ntaps=-32768 -20000 7\n",
+            "stages=1\nr=1\nfactor=1\ntaps=-32768\n",
+        ] {
+            let file = LineFile::parse("f", text).unwrap();
+            let range = uncut(file.settings.stages, file.settings.r, &file.taps);
+            let (least, greatest) = range.unwrap();
+            for (inside, outside) in [(least, least - 1), (greatest, greatest + 1)] {
+                assert!(!is_cut(&file, inside), "{text}{inside}");
+                assert!(is_cut(&file, outside), "{text}{outside}");
+            }
+        }
+    }
+
     // Each of four products of 32767 and 8192 is floored by itself.
     #[test]
     fn the_scale_is_what_cut_values_come_to() {

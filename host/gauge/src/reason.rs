@@ -17,7 +17,7 @@ pub fn name_of(refusal: Refusal, file: &LineFile) -> &'static str {
         Refusal::Depth => "depth",
         Refusal::Phases if phases.contains(&file.settings.phases) => "phase_taps",
         Refusal::Phases => "phases",
-        Refusal::Prototype => "prototype",
+        Refusal::Prototype => file.order.setting(),
         Refusal::Step => "step",
         _ => "r",
     }
@@ -35,13 +35,23 @@ pub fn reason(refusal: Refusal, file: &LineFile) -> String {
         }
         Refusal::Taps => format!("{} given, at most {MOST_TAPS}", file.taps.len()),
         Refusal::Prototype => {
-            let (phases, taps) = (settings.phases, settings.phase_taps);
-            let (given, wanted) = (file.prototype.len(), phases * taps);
-            format!("{given} given, {phases} × {taps} = {wanted} wanted")
+            let given = file.prototype.len();
+            wanted(given, settings.phases, settings.phase_taps)
         }
         _ => range(name_of(refusal, file)),
     };
+    refused(refusal, &why)
+}
+
+/// A refusal with its number and name, and why.
+pub fn refused(refusal: Refusal, why: &str) -> String {
     format!("refusal {}, {}: {why}", refusal.number(), refusal.name())
+}
+
+/// A prototype of another length than its phases and taps ask for.
+pub fn wanted(given: usize, phases: usize, taps: usize) -> String {
+    let wanted = phases * taps;
+    format!("{given} given, {phases} × {taps} = {wanted} wanted")
 }
 
 /// The range of a setting that is one number.

@@ -9,10 +9,11 @@ use crate::options::Options;
 use crate::progress::Progress;
 use crate::samples::Samples;
 use crate::tally::Tally;
+use crate::target::Target;
 use gauge_line::Line;
 use std::ffi::OsString;
 
-const OWN: [&str; 3] = ["--out-format", "--piece", "--span"];
+const OWN: [&str; 5] = ["--out-format", "--piece", "--span", "--resume", "--park"];
 
 // Samples of a piece and places of a span where none are asked for.
 const DEFAULT: usize = 4096;
@@ -27,18 +28,32 @@ pub fn run(arguments: &[OsString]) -> Result<(), Fault> {
         .transpose()?;
     let piece = options.count("--piece", DEFAULT)?;
     let span = options.count("--span", DEFAULT)?;
-    let job = Job::of(&options)?;
-    let mut tally = Tally::of(&job.file)?;
-    let moments = Moments::of(&job.file, job.rate)?;
+    let mut job = Job::of(&options)?;
+    let park = job::park_target(&options, &job.file)?;
+    let mut tally = Tally::of(&job.file, &job.begun)?;
+    let moments = Moments::of(&job.file, &job.begun, job.rate)?;
     let format = format.unwrap_or(job.samples.format.levels());
     let levels = Levels::to(job.target, format).at(moments);
-    convert(job.line, job.samples, levels, (piece, span), &mut tally)?;
+    let lengths = (piece, span);
+    convert(&mut job.line, job.samples, levels, lengths, &mut tally)?;
+    if let Some(target) = park {
+        write_parked(&job.line, target)?;
+    }
     tally.tell();
     Ok(())
 }
 
+fn write_parked(line: &Line, mut target: Target) -> Result<(), Fault> {
+    let mut sheet = [0; Line::MOST_PARKED];
+    let length = line
+        .park(&mut sheet)
+        .map_err(|refusal| Fault::file("the line", refusal))?;
+    target.write(&sheet[..length])?;
+    target.finish()
+}
+
 fn convert(
-    mut line: Line,
+    line: &mut Line,
     mut samples: Samples,
     mut levels: Levels,
     (most, places): (usize, usize),
@@ -52,12 +67,12 @@ fn convert(
         if piece.is_empty() {
             return levels.finish();
         }
-        feed_piece(&mut line, &piece, &mut span, |written| {
+        feed_piece(line, &piece, &mut span, |written| {
             tally.write(written);
             levels.write(written)
         })?;
         levels.pass_on()?;
-        tally.take(&piece)?;
+        tally.take(&piece, line.cuts());
         progress.tell(tally.samples(), samples.part_read());
     }
 }

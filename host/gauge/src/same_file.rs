@@ -7,8 +7,8 @@ use std::io;
 use std::os::fd::{AsFd, OwnedFd};
 use std::os::unix::fs::MetadataExt;
 
-/// A fault where `out` is the file of one of these, by whatever name or link; each comes with what it is.
-pub fn refuse_same(out: &OsStr, inputs: &[(&str, &OsStr)]) -> Result<(), Fault> {
+/// A fault where an option's file for output is the file of one of these, by whatever name or link; each comes with what it is.
+pub fn refuse_same(option: &str, out: &OsStr, inputs: &[(&str, &OsStr)]) -> Result<(), Fault> {
     let out_file = if out == "-" {
         of_stream(io::stdout())
     } else {
@@ -28,7 +28,7 @@ pub fn refuse_same(out: &OsStr, inputs: &[(&str, &OsStr)]) -> Result<(), Fault> 
     inputs.iter().find(same).map_or(Ok(()), |(what, input)| {
         let (out, input) = (out.to_string_lossy(), input.to_string_lossy());
         Err(Fault::usage(format!(
-            "--out {out} is the file of {what}, {input}; it stays as it is"
+            "{option} {out} is the file of {what}, {input}; it stays as it is"
         )))
     })
 }

@@ -2,7 +2,7 @@
 
 use crate::line_file::LineFile;
 use gauge_line::passband::STAGE_TAPS;
-use gauge_line::{CicDecimator, Refusal, hbf_tap_table};
+use gauge_line::{CicDecimator, Phase, Refusal, hbf_tap_table};
 
 /// The name of the section that a depth turns on.
 pub const HALF_BAND: &str = "half-band cascade";
@@ -112,11 +112,15 @@ fn half_band(file: &LineFile, rate: f64) -> Section {
     }
 }
 
-// Phase p is due 1 - p / P behind the newest value, so tap t of it weighs a value t + 1 - p / P old.
+// Phase p is due 1 - p / P behind the newest value, so tap t of it weighs a value t + 1 - p / P old. Straight phase reads places 1 to P of a row, of which the last is the next row's first.
 fn resampler(file: &LineFile, rate: f64) -> Section {
     let phases = file.settings.phases;
     let weights = file.prototype.iter().enumerate().map(|(at, tap)| {
-        let (t, p) = (at / phases, at % phases);
+        let (t, p) = match file.settings.phase {
+            Phase::Wrapped => (at / phases, at % phases),
+            Phase::Straight if at == 0 => return (0.0, 0.0),
+            Phase::Straight => ((at - 1) / phases, (at - 1) % phases + 1),
+        };
         let age = t as f64 + 1.0 - p as f64 / phases as f64;
         (age, f64::from(*tap) / phases as f64)
     });

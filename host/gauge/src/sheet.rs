@@ -2,7 +2,7 @@
 
 use crate::fault::Fault;
 use crate::text::read_bytes;
-use gauge_line::limits::MOST_ENTRIES;
+use gauge_line::limits::{MOST_ENTRIES, SHEET_MARK};
 use gauge_line::{Refusal, Sheet};
 use std::path::{Path, PathBuf};
 
@@ -58,13 +58,22 @@ pub fn entries(count: usize) -> String {
     }
 }
 
+/// The entry count as it stands, with the mark, if there is one.
+fn count_word(bytes: &[u8]) -> Option<usize> {
+    let two = bytes.get(..2)?;
+    Some(usize::from(u16::from_le_bytes([two[0], two[1]])))
+}
+
+/// Whether the sheet is of the new form, in which empty entries come first.
+pub fn is_new(bytes: &[u8]) -> bool {
+    count_word(bytes).is_some_and(|word| word >= SHEET_MARK)
+}
+
 /// Offsets and lengths as the directory has them, as many as stand there.
 pub fn pairs(bytes: &[u8]) -> Vec<(u64, u64)> {
     let number = |at: usize| u32::from_le_bytes([0, 1, 2, 3].map(|i| bytes[at + i])).into();
-    let count = bytes
-        .get(..2)
-        .map_or(0, |two| u16::from_le_bytes([two[0], two[1]]));
-    (0..usize::from(count))
+    let count = count_word(bytes).unwrap_or(0) % SHEET_MARK;
+    (0..count)
         .take_while(|k| 10 + 8 * k <= bytes.len())
         .map(|k| (number(2 + 8 * k), number(6 + 8 * k)))
         .collect()
@@ -72,10 +81,10 @@ pub fn pairs(bytes: &[u8]) -> Vec<(u64, u64)> {
 
 // Why a directory is refused.
 fn directory(bytes: &[u8]) -> String {
-    let Some(two) = bytes.get(..2) else {
+    let Some(word) = count_word(bytes) else {
         return format!("{} bytes, too few for an entry count", bytes.len());
     };
-    let count = usize::from(u16::from_le_bytes([two[0], two[1]]));
+    let count = word % SHEET_MARK;
     if count > MOST_ENTRIES {
         return format!("{count} entries, at most {MOST_ENTRIES}");
     }
@@ -98,7 +107,9 @@ fn bad_pair(bytes: &[u8]) -> String {
         if end > past {
             return format!("entry {j} at {offset} ends at {end}, past the sheet's end at {past}");
         }
-        if let Some(why) = behind(&pairs[..j], j, offset, size) {
+        let why = behind(&pairs[..j], j, offset, size);
+        let why = why.or_else(|| empty_behind(bytes, &pairs[..j], j, offset, size));
+        if let Some(why) = why {
             return why;
         }
     }
@@ -120,17 +131,59 @@ fn behind(before: &[(u64, u64)], j: usize, offset: u64, size: u64) -> Option<Str
     before.iter().enumerate().find_map(why)
 }
 
+// In the new form an empty entry comes before a full one of equal offset.
+fn empty_behind(
+    bytes: &[u8],
+    before: &[(u64, u64)],
+    j: usize,
+    offset: u64,
+    size: u64,
+) -> Option<String> {
+    let full = |(from, length): &(u64, u64)| *from == offset && *length > 0;
+    let i = before.iter().position(full)?;
+    let is_wrong = is_new(bytes) && size == 0;
+    is_wrong.then(|| {
+        format!("entry {j} at {offset} is empty and stands behind entry {i}, which is not")
+    })
+}
+
+/// A sheet in the new form: the same entries at the same places, each empty one before a full one of equal offset; and the former number of each entry.
+pub fn converted(bytes: &[u8]) -> (Vec<u8>, Vec<usize>) {
+    let pairs = pairs(bytes);
+    let mut order: Vec<usize> = (0..pairs.len()).collect();
+    // The order of all others stays: they are sorted by offset already.
+    order.sort_by_key(|&k| (pairs[k].0, pairs[k].1 > 0));
+    let mut new = ((SHEET_MARK + pairs.len()) as u16).to_le_bytes().to_vec();
+    for &k in &order {
+        new.extend(&bytes[2 + 8 * k..][..8]);
+    }
+    new.extend(&bytes[2 + 8 * pairs.len()..]);
+    (new, order)
+}
+
 #[cfg(test)]
 mod tests {
     use super::*;
 
-    fn told(pairs: &[(u32, u32)], length: usize) -> String {
-        let mut bytes = (pairs.len() as u16).to_le_bytes().to_vec();
+    fn bytes(word: usize, pairs: &[(u32, u32)], length: usize) -> Vec<u8> {
+        let mut bytes = (word as u16).to_le_bytes().to_vec();
         for (offset, size) in pairs {
             bytes.extend(offset.to_le_bytes());
             bytes.extend(size.to_le_bytes());
         }
         bytes.resize(length, 0);
+        bytes
+    }
+
+    fn told(pairs: &[(u32, u32)], length: usize) -> String {
+        told_of(bytes(pairs.len(), pairs, length))
+    }
+
+    fn told_new(pairs: &[(u32, u32)], length: usize) -> String {
+        told_of(bytes(SHEET_MARK + pairs.len(), pairs, length))
+    }
+
+    fn told_of(bytes: Vec<u8>) -> String {
         let file = PathBuf::from("works.sheet");
         let read = SheetFile { file, bytes };
         read.sheet()
@@ -174,6 +227,39 @@ mod tests {
                 (n(17, 14) + 24, n(21, 5)),
             ];
             assert!(!told(&pairs, 38).contains("no pair"));
+            assert!(!told_new(&pairs, 38).contains("no pair"));
+        }
+    }
+
+    #[test]
+    fn an_empty_entry_behind_a_full_one_is_told() {
+        let pairs = [(18, 1), (18, 0)];
+        assert_eq!(told(&pairs, 19), "");
+        let said = "entry 1 at 18 is empty and stands behind entry 0, which is not";
+        assert!(told_new(&pairs, 19).ends_with(said));
+        assert_eq!(told_new(&[(18, 0), (18, 1)], 19), "");
+    }
+
+    // Every old sheet has a new one, with the same entries.
+    #[test]
+    fn what_is_read_is_converted() {
+        for k in 0..200_000_u32 {
+            let n = |shift: u32, below: u32| (k.wrapping_mul(2_654_435_761) >> shift) % below;
+            let pairs = [
+                (n(1, 6) + 26, n(5, 3)),
+                (n(9, 8) + 26, n(13, 3)),
+                (n(17, 10) + 26, n(21, 3)),
+            ];
+            let old = bytes(3, &pairs, 40);
+            let Ok(read) = Sheet::read(&old) else {
+                continue;
+            };
+            let (new, order) = converted(&old);
+            let there = Sheet::read(&new).expect("a new sheet");
+            for (at, former) in order.into_iter().enumerate() {
+                assert_eq!(there.entry(at), read.entry(former));
+            }
+            assert_eq!(converted(&new).0, new);
         }
     }
 }

@@ -1,11 +1,11 @@
-//! `gauge sheet`: lists a tap sheet, puts one together, takes an entry out.
+//! `gauge sheet`: lists a tap sheet, puts one together, takes an entry out, turns an old one into a new one.
 
-use crate::fault::{Fault, front};
+use crate::fault::{Fault, front, tell};
 use crate::nearest::did_you_mean;
 use crate::numbers::{Number, in_sheet, in_text};
 use crate::options::Options;
 use crate::same_file::refuse_same;
-use crate::sheet::{SheetFile, entries, pairs};
+use crate::sheet::{SheetFile, converted, entries, is_new, pairs};
 use crate::target::Target;
 use crate::text::{read_bytes, read_small};
 use gauge_line::Sheet;
@@ -13,18 +13,19 @@ use std::ffi::{OsStr, OsString};
 use std::fmt::Write;
 use std::path::Path;
 
-const COMMANDS: [&str; 3] = ["list", "pack", "unpack"];
+const COMMANDS: [&str; 4] = ["list", "pack", "unpack", "convert"];
 
 /// Does what the arguments behind `sheet` ask for.
 pub fn sheet(arguments: &[OsString]) -> Result<(), Fault> {
     let (command, rest) = arguments
         .split_first()
-        .ok_or_else(|| Fault::usage("sheet without list, pack or unpack"))?;
+        .ok_or_else(|| Fault::usage("sheet without list, pack, unpack or convert"))?;
     let command = command.to_string_lossy();
     match &*command {
         "list" => list(rest),
         "pack" => pack(rest),
         "unpack" => unpack(rest),
+        "convert" => convert(rest),
         _ => {
             let hint = did_you_mean(&command, &COMMANDS);
             let command = front(&command);
@@ -48,7 +49,12 @@ fn list(arguments: &[OsString]) -> Result<(), Fault> {
 // A line for each entry: where it stands, and how many numbers it is.
 fn table(file: &SheetFile) -> Result<String, Fault> {
     let sheet = file.sheet()?;
-    let mut text = format!("{} in {} bytes\n", entries(sheet.len()), file.bytes.len());
+    let form = match is_new(&file.bytes) {
+        true => "new form",
+        false => "old form",
+    };
+    let (count, bytes) = (entries(sheet.len()), file.bytes.len());
+    let mut text = format!("{count} in {bytes} bytes, {form}\n");
     if !sheet.is_empty() {
         text += "entry  offset   bytes    taps  prototype\n";
     }
@@ -80,7 +86,7 @@ fn pack(arguments: &[OsString]) -> Result<(), Fault> {
     let (given, rest) = given(arguments)?;
     let options = Options::parse(&rest, &["--out"], "--out")?;
     let out = options.needed("--out")?;
-    refuse_same(out, &given)?;
+    refuse_same("--out", out, &given)?;
     let mut joined = Vec::new();
     let mut lengths = Vec::new();
     for (kind, file) in &given {
@@ -137,7 +143,7 @@ fn unpack(arguments: &[OsString]) -> Result<(), Fault> {
     options.needed("--entry")?;
     let k = options.whole("--entry", 0, usize::MAX)?.unwrap_or(0);
     let out = options.get("--out").unwrap_or("-".as_ref());
-    refuse_same(out, &[("the sheet", file.as_os_str())])?;
+    refuse_same("--out", out, &[("the sheet", file.as_os_str())])?;
     let bytes = match options.text("--as")?.unwrap_or("bytes") {
         "bytes" => SheetFile::read(file)?.entry(k)?.to_vec(),
         "taps" => text_of::<i16>(&in_sheet(file, k)?),
@@ -155,4 +161,23 @@ fn unpack(arguments: &[OsString]) -> Result<(), Fault> {
 fn text_of<T: Number>(numbers: &[T]) -> Vec<u8> {
     let line = |number: &T| format!("{number}\n");
     numbers.iter().map(line).collect::<String>().into_bytes()
+}
+
+// Entries that get another number are told, one line each.
+fn convert(arguments: &[OsString]) -> Result<(), Fault> {
+    let [from, out] = arguments else {
+        let why = "sheet convert takes a sheet and the file for the new one";
+        return Err(Fault::usage(why));
+    };
+    refuse_same("the new sheet", out, &[("the sheet", from.as_os_str())])?;
+    let file = SheetFile::read(Path::new(from))?;
+    file.sheet()?;
+    let (bytes, order) = converted(&file.bytes);
+    print(out, &bytes)?;
+    for (now, former) in order.into_iter().enumerate() {
+        if now != former {
+            tell(format_args!("gauge: entry {former} is entry {now} now"));
+        }
+    }
+    Ok(())
 }

@@ -19,6 +19,7 @@ const TITLE_LETTER: f64 = 11.5;
 // So few points are marked one by one.
 const FEW: usize = 60;
 const END_COLOUR: &str = "#d62728";
+const CUT_COLOUR: &str = "#e08214";
 // A text that stands on lines keeps them off by a white rim.
 const CLEAR: &str = "paint-order=\"stroke\" stroke=\"white\" stroke-width=\"5\"";
 
@@ -66,6 +67,8 @@ pub struct Drawing<'a> {
     pub series: Vec<Series<'a>>,
     /// Where values were at an end of their scale, from left to right.
     pub ends: Vec<Stretch>,
+    /// Where values were cut to 16 bits, from left to right.
+    pub cuts: Vec<f64>,
 }
 
 // Where the axes stand and what they span.
@@ -144,6 +147,7 @@ impl Drawing<'_> {
         self.add_lines(&mut svg, &frame);
         self.add_frame(&mut svg, &frame);
         add_ends(&mut svg, &frame, &self.ends);
+        add_cuts(&mut svg, &frame, &self.cuts);
         if let Some((x, name)) = self.mark {
             add_mark(&mut svg, &frame, x, name);
         }
@@ -197,9 +201,10 @@ impl Drawing<'_> {
         let lines = self.series.iter();
         let lines = lines.map(|series| (series.colour, series.width.max(3.0), series.name));
         let ends = (!self.ends.is_empty()).then_some((END_COLOUR, 5.0, "at the end of the scale"));
+        let cuts = (!self.cuts.is_empty()).then_some((CUT_COLOUR, 4.0, "a value was cut"));
         let (mut right, mut row) = (0.0, 0);
         let mut legend = Vec::new();
-        for (colour, width, name) in lines.chain(ends) {
+        for (colour, width, name) in lines.chain(ends).chain(cuts) {
             let room = 60.0 + LETTER * name.chars().count() as f64;
             if right > 0.0 && right + room > RIGHT - 80.0 {
                 (right, row) = (0.0, row + 1);
@@ -325,23 +330,43 @@ fn add_dots(svg: &mut String, frame: &Frame, series: &Series) {
     }
 }
 
-// Bars at the upper and the lower edge of the frame, wide enough to be seen.
+// Bars at the upper and the lower edge of the frame.
 fn add_ends(svg: &mut String, frame: &Frame, ends: &[Stretch]) {
     for (upper, edge) in [(true, frame.top), (false, frame.bottom() - 6.0)] {
-        let inside = |x: f64| frame.place((x, 0.0)).0.clamp(frame.left, RIGHT);
-        let bars: Vec<(f64, f64)> = ends
-            .iter()
-            .filter(|end| end.upper == upper && end.to >= frame.x.0 && end.from <= frame.x.1)
-            .map(|end| (inside(end.from) - 1.0, inside(end.to) + 1.0))
-            .collect();
-        add_bars(svg, &joined(&bars), edge);
+        let ends = ends.iter().filter(|end| end.upper == upper);
+        let stretches = ends.map(|end| (end.from, end.to));
+        add_bars(svg, frame, stretches, (edge, 6.0), END_COLOUR);
     }
 }
 
-fn add_bars(svg: &mut String, bars: &[(f64, f64)], edge: f64) {
-    for (from, to) in bars {
+// Bars below the frame.
+fn add_cuts(svg: &mut String, frame: &Frame, cuts: &[f64]) {
+    let stretches = cuts.iter().map(|at| (*at, *at));
+    add_bars(
+        svg,
+        frame,
+        stretches,
+        (frame.bottom() + 1.0, 4.0),
+        CUT_COLOUR,
+    );
+}
+
+// Bars over stretches of the axis across, so far down and so high, wide enough to be seen.
+fn add_bars(
+    svg: &mut String,
+    frame: &Frame,
+    stretches: impl Iterator<Item = Span>,
+    (down, height): (f64, f64),
+    colour: &str,
+) {
+    let inside = |x: f64| frame.place((x, 0.0)).0.clamp(frame.left, RIGHT);
+    let bars: Vec<Span> = stretches
+        .filter(|(from, to)| *to >= frame.x.0 && *from <= frame.x.1)
+        .map(|(from, to)| (inside(from) - 1.0, inside(to) + 1.0))
+        .collect();
+    for (from, to) in joined(&bars) {
         svg.push_str(&format!(
-            "<rect x=\"{from:.1}\" y=\"{edge:.1}\" width=\"{:.1}\" height=\"6\" fill=\"{END_COLOUR}\"/>\n",
+            "<rect x=\"{from:.1}\" y=\"{down:.1}\" width=\"{:.1}\" height=\"{height}\" fill=\"{colour}\"/>\n",
             to - from
         ));
     }
@@ -434,6 +459,18 @@ mod tests {
         };
         let svg = drawing.svg();
         assert_eq!(svg.matches("height=\"6\"").count(), 2);
-        assert!(svg.contains("at the end of the scale"));
+        assert!(svg.contains("at the end of the scale") && !svg.contains("a value was cut"));
+    }
+
+    #[test]
+    fn cut_values_are_bars_below_the_frame() {
+        let drawing = Drawing {
+            series: vec![series("a", vec![(0.0, 0.0), (100.0, 1.0)])],
+            cuts: vec![10.0, 10.1, 50.0, 101.0],
+            ..Drawing::default()
+        };
+        let svg = drawing.svg();
+        assert_eq!(svg.matches("height=\"4\"").count(), 2);
+        assert!(svg.contains("a value was cut"));
     }
 }

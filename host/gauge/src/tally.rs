@@ -1,15 +1,16 @@
 //! What a run took and made, for the line at its end.
 
-use crate::cuts::Cuts;
+use crate::begun::Begun;
 use crate::fault::{Fault, tell};
 use crate::line_file::LineFile;
 use crate::range::{self, Range};
-use crate::section::first_level;
 use gauge_line::Refusal;
 
 /// Counts what a run takes and makes.
 pub struct Tally {
-    cuts: Cuts,
+    // The line's count of cut values when the run began, and now.
+    cuts_before: u32,
+    cuts: u32,
     // The samples of which every sum is exact.
     exact: Range,
     first_level: usize,
@@ -26,14 +27,15 @@ pub struct Tally {
 }
 
 impl Tally {
-    /// For the line of a settings file.
-    pub fn of(file: &LineFile) -> Result<Tally, Fault> {
+    /// For a line that is so far.
+    pub fn of(file: &LineFile, begun: &Begun) -> Result<Tally, Fault> {
         let (stages, r) = (file.settings.stages, file.settings.r);
         Ok(Tally {
             exact: range::exact(stages, r)
                 .ok_or_else(|| Fault::file("the line", Refusal::GainBits))?,
-            cuts: Cuts::of(file).map_err(|refusal| Fault::file("the line", refusal))?,
-            first_level: first_level(file),
+            cuts_before: begun.cuts,
+            cuts: begun.cuts,
+            first_level: begun.first_level,
             samples: 0,
             reach: (i32::MAX, i32::MIN),
             outside: 0,
@@ -50,8 +52,8 @@ impl Tally {
         self.samples
     }
 
-    /// Counts samples that the line takes.
-    pub fn take(&mut self, samples: &[i32]) -> Result<(), Fault> {
+    /// Counts samples that the line took, after which it has cut so many values.
+    pub fn take(&mut self, samples: &[i32], cuts: u32) {
         let (least, greatest) = reach(samples);
         self.reach = (self.reach.0.min(least), self.reach.1.max(greatest));
         let (low, high) = self.exact;
@@ -59,8 +61,7 @@ impl Tally {
             self.take_outside(samples);
         }
         self.samples += samples.len() as u64;
-        let counted = self.cuts.take(samples);
-        counted.map_err(|refusal| Fault::file("the line", refusal))
+        self.cuts = cuts;
     }
 
     fn take_outside(&mut self, samples: &[i32]) {
@@ -97,15 +98,24 @@ impl Tally {
             return format!("{samples}, no levels; the first comes with sample {first}");
         }
         let levels = counted(self.levels, "level");
-        let cut = counted(self.cuts.count(), "value");
+        let cut = self.cut_values();
         let (least, greatest) = (self.least, self.greatest);
         format!("{samples}, {levels} from {least} to {greatest}, {cut} cut to 16 bits")
     }
 
+    // Those of this run. The line's count holds at its end.
+    fn cut_values(&self) -> String {
+        let cut = self.cuts - self.cuts_before;
+        match self.cuts {
+            u32::MAX => format!("{cut} values or more"),
+            _ => counted(cut.into(), "value"),
+        }
+    }
+
     fn warnings(&self) -> Vec<String> {
         let mut all = Vec::new();
-        if self.cuts.count() > 0 {
-            let cut = counted(self.cuts.count(), "value");
+        if self.cuts > self.cuts_before {
+            let cut = self.cut_values();
             let hint = shift_hint(self.reach);
             all.push(format!(
                 "{cut} past the ends of 16 bits, held at -32768 and 32767{hint}"
@@ -161,38 +171,45 @@ fn shift_hint((least, greatest): (i32, i32)) -> String {
 mod tests {
     use super::*;
 
-    fn tally(settings: &str, samples: &[i32], levels: &[f32]) -> Tally {
+    fn tally(settings: &str, samples: &[i32], cuts: u32, levels: &[f32]) -> Tally {
         let file = LineFile::parse("f", settings).unwrap();
-        let mut tally = Tally::of(&file).unwrap();
-        tally.take(samples).unwrap();
+        let mut tally = Tally::of(&file, &Begun::opened(&file)).unwrap();
+        tally.take(samples, cuts);
         tally.write(levels);
         tally
     }
 
     #[test]
     fn a_quiet_run_has_one_line() {
-        let tally = tally("stages=1\nr=2", &[1, 2, 3], &[0.5]);
+        let tally = tally("stages=1\nr=2", &[1, 2, 3], 0, &[0.5]);
         let said = "3 samples, 1 level from 0.5 to 0.5, no values cut to 16 bits";
         assert_eq!(tally.summary(), said);
         assert!(tally.warnings().is_empty());
     }
 
     #[test]
+    fn a_count_that_holds_is_told_as_such() {
+        let tally = tally("stages=1\nr=1", &[1], u32::MAX, &[0.5]);
+        let end = ", 4294967295 values or more cut to 16 bits";
+        assert!(tally.summary().ends_with(end));
+    }
+
+    #[test]
     fn no_levels_are_told() {
-        let tally = tally("stages=1\nr=20\ndepth=1", &[1, 2, 3], &[]);
+        let tally = tally("stages=1\nr=20\ndepth=1", &[1, 2, 3], 0, &[]);
         let said = "3 samples, no levels; the first comes with sample 40";
         assert_eq!(tally.summary(), said);
     }
 
     #[test]
     fn what_to_beware_of_is_told() {
-        let cut = tally("stages=1\nr=1", &[8_388_607], &[1.0]).warnings();
+        let cut = tally("stages=1\nr=1", &[8_388_607], 1, &[1.0]).warnings();
         assert_eq!(cut.len(), 1);
         assert!(cut[0].starts_with("1 value past") && cut[0].contains("--shift 8 "));
-        let outside = tally("stages=3\nr=64", &[8191, -8193, 9000], &[0.0]).warnings();
+        let outside = tally("stages=3\nr=64", &[8191, -8193, 9000], 0, &[0.0]).warnings();
         assert_eq!(outside.len(), 1);
         assert!(outside[0].starts_with("2 samples outside -8192 to 8191, the first at 2: -8193;"));
-        let infinite = tally("stages=1\nr=1", &[1], &[f32::NAN]).warnings();
+        let infinite = tally("stages=1\nr=1", &[1], 0, &[f32::NAN]).warnings();
         assert!(infinite[0].starts_with("1 level not finite"));
     }
 }

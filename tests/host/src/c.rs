@@ -1,4 +1,4 @@
-//! The C programs, those of docs/c.md too: compiled as C99, run and run under valgrind, the others also as C++11; each must print what is stored.
+//! The C programs, those of the pages too: compiled as C99, run and run under valgrind, the others also as C++11; each must print what is stored.
 
 use crate::support::page::{examples, indented};
 use crate::support::{archive, command, have, printed, read, root, same, scratch};
@@ -105,16 +105,25 @@ fn another_environment_of_floats_is_noticed() {
     }
 }
 
-#[test]
-fn programs_of_the_page() {
-    let folder = scratch("c_page");
-    let programs = examples("docs/c.md", |info| info == "c");
+fn programs_of(page: &str, name: &str) {
+    let folder = scratch(name);
+    let programs = examples(page, |info| info == "c");
     assert!(!programs.is_empty());
     for (place, program) in programs.iter().enumerate() {
         let source = folder.join(format!("{}.c", place + 1));
         fs::write(&source, &program.text).unwrap();
         as_c(&source, &program.prints, &source);
     }
+}
+
+#[test]
+fn programs_of_the_page() {
+    programs_of("docs/c.md", "c_page");
+}
+
+#[test]
+fn programs_of_the_linear_phase_page() {
+    programs_of("docs/linear-phase.md", "c_linear_phase");
 }
 
 // The page's own command, with its first program and files where it looks for them.

@@ -1,6 +1,7 @@
 //! The archive has the functions that crates/gauge_line/src exports and no others, wants three functions of the C library at most, and has no data that can be written.
 
-use crate::support::{archive, command, printed, root};
+use crate::support::{archive, command, printed, root, scratch};
+use std::fs;
 
 /// The functions that the archive defines, in order.
 pub fn archived() -> Vec<String> {
@@ -32,5 +33,32 @@ fn the_archive_has_no_state() {
         };
         let known = matches!(kind, "T" | "t" | "R" | "r") || kind == "U" && wanted.contains(&name);
         assert!(known, "{line}");
+    }
+}
+
+// A header from before request 7 has shorter structs, and its openings call these: a program that was compiled with it is not linked.
+#[test]
+fn an_older_header_does_not_link() {
+    let folder = scratch("older_header");
+    let program = folder.join("older.c");
+    for name in [
+        "gauge_raw_line_open",
+        "gauge_raw_line_take_up",
+        "gauge_raw_fir_decimator_new",
+    ] {
+        let calls = format!("int {name}(void);\nint main(void) {{ return {name}(); }}\n");
+        fs::write(&program, calls).expect("a program can be written");
+        let mut link = command("gcc");
+        link.arg(&program)
+            .arg(archive())
+            .arg("-o")
+            .arg(folder.join("older"));
+        let linked = link.output().expect("gcc runs");
+        let said = String::from_utf8_lossy(&linked.stderr);
+        assert!(!linked.status.success(), "{name} is linked");
+        assert!(
+            said.contains("undefined reference") && said.contains(name),
+            "{said}"
+        );
     }
 }

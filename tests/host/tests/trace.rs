@@ -11,13 +11,17 @@ const EDITS: [&str; 2] = ["must-fail", "edits"];
 const MOST_MUST_FAIL: usize = 90;
 
 /// The crates whose functions callers see; the others are programs.
-const LAYERS: [&str; 8] = [
+const LAYERS: [&str; 12] = [
     "refusal",
     "integer",
     "q15",
     "float",
     "half_band",
+    "sheet",
+    "words",
     "line",
+    "parking",
+    "taking_up",
     "client",
     "gauge_line",
 ];

@@ -108,7 +108,7 @@ impl State {
         refusals::cic_scaled(self.stages, self.r, self.sample_counter)
     }
 
-    fn sample(&mut self, input: i32) -> Option<i32> {
+    pub fn sample(&mut self, input: i32) -> Option<i32> {
         with_stages!(self.stages, sample(self, input))
     }
 
@@ -260,6 +260,15 @@ fn gain_edge(rng: &mut Rng) -> State {
     state.r = cic_settings::gain_edge(rng, state.stages);
     state.sample_counter = rng.pick(&[0, state.r - 1]);
     state
+}
+
+/// A state of any kind: valid, damaged, around the gains whose bits matter.
+pub fn any(rng: &mut Rng) -> State {
+    match rng.below(4) {
+        0 => damaged(rng),
+        1 => midway(rng),
+        _ => gain_edge(rng),
+    }
 }
 
 /// From an opening: calls of every kind, each on the state that the one before left.

@@ -1,21 +1,21 @@
 //! Cases of the streaming `FirDecimator`, which the Rust does not have: its outputs are those of the Rust's `polyphase_decimate_q15` on the whole list.
 
 use crate::archive::q15;
-use crate::calls::{Free, Made, Sample, Single};
+use crate::calls::{Free, Sample, Single};
 use crate::case::{Case, Cases, Operation};
-use crate::field::{Fields, fields};
+use crate::field::{Field, Fields, Member, fields};
 use crate::lent::{LONGEST, Lent, Slice};
 use crate::polyphase_q15;
 use crate::q15_samples;
 use crate::refusals;
 use crate::rng::Rng;
 use crate::settings;
-use crate::stream::{Lists, Stream};
+use crate::stream::Lists;
 
 pub type New = Free<Settings, State>;
-pub type Step = Single<State, Sample<i16>, Made<i16>>;
+pub type Step = Single<State, Sample<i16>, Filtered>;
 pub type Reset = Single<State, (), ()>;
-type Run = Stream<Settings, State, i16>;
+type Run = Free<Lists<Settings, i16>, Left>;
 
 const NEW: Operation<New> = Operation {
     code: 0x41,
@@ -29,7 +29,7 @@ const PROCESS_SAMPLE: Operation<Step> = Operation {
     code: 0x42,
     name: "FirDecimator::process_sample",
     refusal: Some(|call| call.state.refusal()),
-    rust: |call| call.answer = call.state.sample(call.lent.sample).into(),
+    rust: |call| call.answer = Filtered::of(call.state.sample(call.lent.sample)),
     archive: q15::fir_decimator_process_sample,
 };
 
@@ -46,10 +46,11 @@ const RUN: Operation<Run> = Operation {
     name: "FirDecimator::new, then process_sample for each sample",
     refusal: Some(|call| call.lent.opening.refusal()),
     rust: run,
-    archive: |call| call.run(q15::fir_decimator_new, q15::fir_decimator_process_sample),
+    archive: run_archive,
 };
 
-const MOST_TAPS: u64 = 64;
+/// 02, request 7: "The line's FIR limit goes from 64 to 128".
+pub const MOST_TAPS: u64 = 128;
 
 fields! {
     /// What a decimator is opened with.
@@ -78,8 +79,55 @@ fields! {
         tap_count: u64,
         factor: u64,
         wait: u64,
-        taps: [i16; 64],
-        delay: [i16; 64],
+        taps: [i16; MOST_TAPS as usize],
+        delay: [i16; MOST_TAPS as usize],
+    }
+}
+
+fields! {
+    /// One output or none, and whether it was cut.
+    pub struct Filtered {
+        made: u32,
+        output: i16,
+        cut: u32,
+    }
+}
+
+impl Filtered {
+    fn of(made: Option<(i16, bool)>) -> Self {
+        let (output, cut) = made.unwrap_or_default();
+        Filtered {
+            made: made.is_some().into(),
+            output,
+            cut: cut.into(),
+        }
+    }
+}
+
+/// Every output, how many of them were cut, and the state that is left.
+#[derive(Clone)]
+pub struct Left {
+    outputs: Vec<i16>,
+    cuts: u64,
+    state: State,
+}
+
+impl Fields for Left {
+    fn fields(&mut self) -> Vec<Field<'_>> {
+        let mut fields = vec![
+            self.outputs.field().named("outputs"),
+            self.cuts.field().named("cuts"),
+        ];
+        fields.extend(self.state.fields());
+        fields
+    }
+
+    fn zeros() -> Self {
+        Left {
+            outputs: Vec::new(),
+            cuts: 0,
+            state: State::zeros(),
+        }
     }
 }
 
@@ -104,10 +152,10 @@ impl State {
         &self.taps[..self.tap_count as usize]
     }
 
-    /// The output that the sample makes: the Rust's, of the list that begins with that output's first sample.
-    pub fn sample(&mut self, sample: i16) -> Option<i16> {
+    /// The output that the sample makes, and whether it was cut: the Rust's, of the list that begins with that output's first sample.
+    pub fn sample(&mut self, sample: i16) -> Option<(i16, bool)> {
         if self.tap_count == 0 {
-            return Some(sample);
+            return Some((sample, false));
         }
         let mut list = match self.tap_count.checked_sub(self.wait) {
             Some(come) => self.delay[..come as usize].to_vec(),
@@ -117,8 +165,10 @@ impl State {
             list.push(sample);
         }
         self.keep(sample);
-        let outputs = polyphase_q15::decimated(self.own_taps(), self.factor, &list);
-        outputs.first().copied()
+        let (taps, factor) = (self.own_taps(), self.factor);
+        let outputs = polyphase_q15::decimated(taps, factor, &list);
+        let cuts = polyphase_q15::decimated_cuts(taps, factor, &list);
+        outputs.first().map(|&output| (output, cuts > 0))
     }
 
     /// "wait is the number of samples up to and with the one that makes the next output .. D after each output". The next output's samples stand at the
@@ -144,13 +194,43 @@ pub fn outputs(taps: &[i16], factor: u64, list: &[i16]) -> Vec<i16> {
     }
 }
 
+/// How many of them were cut.
+pub fn cuts(taps: &[i16], factor: u64, list: &[i16]) -> u64 {
+    match taps.is_empty() {
+        true => 0,
+        false => polyphase_q15::decimated_cuts(taps, factor, list),
+    }
+}
+
 fn run(call: &mut Run) {
     let (taps, factor) = (&call.lent.opening.taps.elements, call.lent.opening.factor);
     let list = &call.lent.samples.elements;
     call.answer.outputs = outputs(taps, factor, list);
+    call.answer.cuts = cuts(taps, factor, list);
     call.answer.state = State::opened(taps, factor);
     list.iter()
         .for_each(|&sample| call.answer.state.keep(sample));
+}
+
+/// Through the archive's opening and its call for one sample: the first refusal's number.
+fn run_archive(call: &mut Run) -> u64 {
+    let mut opening: New = Single::of((), call.lent.opening.clone());
+    let mut refusal = q15::fir_decimator_new(&mut opening);
+    let mut step: Step = Single::of(opening.answer, Sample::zeros());
+    call.answer = Left::zeros();
+    for &sample in &call.lent.samples.elements {
+        if refusal != 0 {
+            break;
+        }
+        step.lent.sample = sample;
+        refusal = q15::fir_decimator_process_sample(&mut step);
+        if step.answer.made != 0 {
+            call.answer.outputs.push(step.answer.output);
+        }
+        call.answer.cuts += u64::from(step.answer.cut);
+    }
+    call.answer.state = step.state;
+    refusal
 }
 
 fn some_sample(rng: &mut Rng, state: &mut State) -> Box<dyn Case> {

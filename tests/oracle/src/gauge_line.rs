@@ -2,14 +2,14 @@
 
 use crate::calls::{Buffers, Counts};
 use crate::cic_decimator;
-use crate::field::{Field, Fields};
+use crate::field::{Field, Fields, Member};
 use crate::fir_decimator;
 use crate::hbf_stream;
 use crate::line_calls::Stepped;
 use crate::line_settings::Settings;
 use crate::polyphase_resamp;
 use crate::refusals;
-use crate::values::cut;
+use crate::values::{cut, is_cut};
 
 #[derive(Clone)]
 pub struct Line {
@@ -17,6 +17,7 @@ pub struct Line {
     pub fir: fir_decimator::State,
     pub half_band: hbf_stream::State,
     pub resampler: polyphase_resamp::State,
+    pub cuts: u32,
 }
 
 impl Line {
@@ -28,13 +29,17 @@ impl Line {
             half_band: hbf_stream::State::opened(settings.depth),
             resampler: match settings.phases {
                 0 => polyphase_resamp::State::zeros(),
-                phases => polyphase_resamp::State::opened(&polyphase_resamp::Settings {
-                    phases,
-                    taps: settings.taps,
-                    step: settings.step,
-                    prototype: settings.prototype.clone(),
-                }),
+                phases => polyphase_resamp::State::opened(
+                    u64::from(settings.straight != 0),
+                    &polyphase_resamp::Settings {
+                        phases,
+                        taps: settings.taps,
+                        step: settings.step,
+                        prototype: settings.prototype.clone(),
+                    },
+                ),
             },
+            cuts: 0,
         }
     }
 
@@ -47,6 +52,7 @@ impl Line {
             depth: self.half_band.depth,
             phases: self.resampler.phases,
             taps: self.resampler.taps,
+            straight: self.resampler.straight,
             step: self.resampler.step,
             fir: self.fir.own_taps().to_vec().into(),
             prototype: match self.resampler.phases {
@@ -62,6 +68,7 @@ impl Line {
             fir,
             half_band,
             resampler,
+            ..
         } = self;
         refusals::first([
             refusals::line_cic_state(cic.stages, cic.r, cic.sample_counter),
@@ -81,10 +88,17 @@ impl Line {
         self.resampler.phases != 0 && self.resampler.mu < 1.0
     }
 
+    /// 02, request 4: "a count of cut values .. holding at 2^32−1".
+    fn count(&mut self, is_cut: bool) {
+        self.cuts = self.cuts.saturating_add(is_cut.into());
+    }
+
     /// A sample through sections 1 to 4.
     fn value(&mut self, sample: i32) -> Option<f32> {
-        let sum = self.cic.scaled(sample)?;
-        let thinned = self.fir.sample(cut(sum.into()))?;
+        let sum = self.cic.scaled(sample)?.into();
+        self.count(is_cut(sum));
+        let (thinned, is_cut) = self.fir.sample(cut(sum))?;
+        self.count(is_cut);
         self.half_band.sample(f32::from(thinned) / 32768.0)
     }
 
@@ -144,7 +158,8 @@ impl Fields for Line {
         let named = |(part, fields): (_, Vec<_>)| {
             fields.into_iter().map(move |field| Field { part, ..field })
         };
-        parts.into_iter().flat_map(named).collect()
+        let cuts = self.cuts.field().named("cuts");
+        parts.into_iter().flat_map(named).chain([cuts]).collect()
     }
 
     fn zeros() -> Self {
@@ -153,6 +168,7 @@ impl Fields for Line {
             fir: Fields::zeros(),
             half_band: Fields::zeros(),
             resampler: Fields::zeros(),
+            cuts: 0,
         }
     }
 }

@@ -83,7 +83,7 @@ impl<const DELAY: usize> Block<DELAY> {
     }
 }
 
-fn some_taps(rng: &mut Rng) -> u64 {
+pub fn some_taps(rng: &mut Rng) -> u64 {
     match rng.below(4) {
         0 => rng.pick(&[1, 2, 22, 23]),
         1 => rng.within(1, MOST_TAPS),
@@ -91,7 +91,7 @@ fn some_taps(rng: &mut Rng) -> u64 {
     }
 }
 
-fn bad_taps(rng: &mut Rng) -> u64 {
+pub fn bad_taps(rng: &mut Rng) -> u64 {
     rng.pick(&[0, 24, 25, 1 << 32, (1 << 32) + 1, u64::MAX])
 }
 

@@ -1,12 +1,12 @@
-//! `HBF_TAPS` as the Rust's source prints it, each decimal rounded to the nearest f32 by integers alone.
+//! `HBF_TAPS` and `HBF_TAPS_98` as the Rust's source prints them, each decimal rounded to the nearest f32 by integers alone.
 
-use embedded_dsp::resampling::HBF_TAPS;
+use embedded_dsp::resampling::{HBF_TAPS, HBF_TAPS_98};
 
 const SOURCE: &str = include_str!("../rust/resampling.rs");
 
-/// The decimals of the table, in the order of the source.
-fn decimals() -> impl Iterator<Item = &'static str> {
-    let start = SOURCE.find("pub const HBF_TAPS:").unwrap();
+/// The decimals of a table, in the order of the source.
+fn decimals(name: &str) -> impl Iterator<Item = &'static str> {
+    let start = SOURCE.find(&format!("pub const {name}:")).unwrap();
     let table = &SOURCE[start..];
     let values = &table[table.find(") = (").unwrap()..table.find(");\n").unwrap()];
     values
@@ -40,15 +40,19 @@ fn nearest(decimal: &str) -> f32 {
     f32::from_bits((sign << 31) | ((((exponent + 149) as u32) << 23) + significand))
 }
 
-pub fn rounded() -> Vec<f32> {
-    let taps: Vec<f32> = decimals().map(nearest).collect();
-    let rust = [
-        &HBF_TAPS.0.0[..],
-        &HBF_TAPS.1.0,
-        &HBF_TAPS.2.0,
-        &HBF_TAPS.3.0,
-        &HBF_TAPS.4.0,
-    ];
+/// A table's decimals, which have to be what the compiler makes of them.
+fn nearest_all(name: &str, rust: [&[f32]; 5]) -> Vec<f32> {
+    let taps: Vec<f32> = decimals(name).map(nearest).collect();
     assert_eq!(taps, rust.concat(), "the compiler rounds otherwise");
     taps
+}
+
+pub fn rounded() -> Vec<f32> {
+    let (a, b, c, d, e) = HBF_TAPS;
+    nearest_all("HBF_TAPS", [&a.0, &b.0, &c.0, &d.0, &e.0])
+}
+
+pub fn rounded_98() -> Vec<f32> {
+    let (a, b, c, d, e) = HBF_TAPS_98;
+    nearest_all("HBF_TAPS_98", [&a.0, &b.0, &c.0, &d.0, &e.0])
 }

@@ -51,24 +51,58 @@ fn wide_factor(taps: u64, low: u64) -> Cases {
     ]
 }
 
+/// A count of cut values that is lent shortly before its end, and a history that takes it there and on: feeds of samples that sections 2 and 3 cut, a step, a reset.
+fn held_count(left: u32) -> Cases {
+    let mut line = Line::opened(&line_settings::fir_alone(4, 1));
+    line.cuts = u32::MAX - left;
+    let samples = || Lent::pattern(3, 1 << 20, 0);
+    let mut cases: Cases = (0..4)
+        .map(|_| FEED.on(&mut line, Buffers::of(samples(), Lent::pattern(3, 0, 0))))
+        .collect();
+    let next = Next {
+        samples: samples().into(),
+        at: 0,
+        places: 1,
+    };
+    cases.extend([STEP.on(&mut line, next), RESET.on(&mut line, ())]);
+    cases
+}
+
+/// What chance would leave out.
+pub fn fixed() -> Cases {
+    let mut cases = fir_factors();
+    cases.extend((0..20).flat_map(held_count));
+    cases
+}
+
 /// Factors of 2^32 and more with taps, which a factor of 32 bits would take for small ones.
-pub fn fir_factors() -> Cases {
-    let lows = [1, 2, 3, 63, 64, 65, 4095, 4096];
-    [1, 2, 64]
+fn fir_factors() -> Cases {
+    let lows = [1, 2, 3, 127, 128, 129, 4095, 4096];
+    [1, 2, fir_decimator::MOST_TAPS]
         .into_iter()
         .flat_map(|taps| lows.map(|low| wide_factor(taps, low)))
         .flatten()
         .collect()
 }
 
+/// None, any count, one that is about to hold, and one that holds.
+fn some_cuts(rng: &mut Rng) -> u32 {
+    match rng.below(4) {
+        0 => 0,
+        1 => rng.next() as u32,
+        _ => u32::MAX - rng.below(4) as u32,
+    }
+}
+
 /// A valid line with anything in its arrays, and in what belongs to parts that are off.
-fn midway(rng: &mut Rng) -> Line {
+pub fn midway(rng: &mut Rng) -> Line {
     let (stages, r) = line_settings::cic(rng);
     let mut line = Line {
         cic: cic_decimator::midway(rng),
         fir: fir_decimator::midway(rng),
         half_band: hbf_stream::midway(rng),
         resampler: polyphase_resamp::midway_any(rng),
+        cuts: some_cuts(rng),
     };
     line.cic.stages = stages;
     line.cic.r = r;
@@ -90,7 +124,7 @@ fn midway(rng: &mut Rng) -> Line {
 }
 
 /// A line that row 15 names, with anything in its arrays; or what a refused opening leaves.
-fn damaged(rng: &mut Rng) -> Line {
+pub fn damaged(rng: &mut Rng) -> Line {
     if rng.one_in(16) {
         return Line::zeros();
     }

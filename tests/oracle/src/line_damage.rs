@@ -16,7 +16,7 @@ use crate::settings;
 
 const DAMAGED: u32 = 0xc3;
 
-/// The numbers that row 15 looks at.
+/// The numbers that row 15 looks at, and the count of cut values, which it does not.
 fn numbers(line: &mut Line) -> Vec<Field<'_>> {
     vec![
         line.cic.stages.field().named("stages"),
@@ -31,6 +31,7 @@ fn numbers(line: &mut Line) -> Vec<Field<'_>> {
         line.resampler.taps.field().named("taps"),
         line.resampler.step.field().named("step"),
         line.resampler.mu.field().named("mu"),
+        line.cuts.field().named("cuts"),
     ]
 }
 
@@ -114,6 +115,7 @@ fn damaged(rng: &mut Rng) -> (Settings, Line) {
         let settings = line_settings::good(rng);
         let mut line = fresh(&settings);
         damage(rng, &mut line);
+        line.cuts = rng.pick(&[0, 1, u32::MAX]);
         if line.refusal() != 0 {
             return (settings, line);
         }
@@ -155,10 +157,11 @@ impl Case for Damaged {
         }
         let refusal = refusals::STATE;
         record.refusal(refusal);
-        // Nothing taken, nothing written, no place of the span changed.
-        for _ in 0..5 {
+        // Nothing taken, nothing written, the count of cut values as lent, no place of the span changed.
+        for _ in 0..4 {
             record.word(0);
         }
+        record.word(self.line.cuts).word(0);
         record.refusal(refusal).refusal(refusal);
         record
     }

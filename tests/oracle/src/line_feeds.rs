@@ -34,22 +34,24 @@ fields! {
         refusal: u32,
         taken: u64,
         written: u64,
+        cuts: u32,
     }
 }
 
 impl Fed {
-    fn of(samples: Slice<i32>, span: Lent) -> Self {
+    pub fn of(samples: Slice<i32>, span: Lent) -> Self {
         Fed {
             samples,
             span: Slice::span(span),
             refusal: 0,
             taken: 0,
             written: 0,
+            cuts: 0,
         }
     }
 
     /// Through the archive, on the line that is handed back.
-    fn run(&mut self, line: Line) -> Line {
+    pub fn run(&mut self, line: Line) -> Line {
         let buffers = Buffers {
             samples: self.samples.clone(),
             span: self.span.clone(),
@@ -59,11 +61,12 @@ impl Fed {
         self.span = call.lent.span;
         self.taken = call.answer.taken;
         self.written = call.answer.written;
+        self.cuts = call.state.cuts;
         call.state
     }
 
     /// The first two are lent.
-    fn fields_and_answers(&mut self) -> Vec<Field<'_>> {
+    pub fn fields_and_answers(&mut self) -> Vec<Field<'_>> {
         let mut fields = self.fields();
         for answer in &mut fields[2..] {
             answer.role = Role::Answer;
@@ -93,7 +96,7 @@ impl Feeds {
         let refusal = line::open(&mut opening);
         let mut line = opening.answer.0;
         for fed in &mut self.feeds {
-            (fed.refusal, fed.taken, fed.written) = (0, 0, 0);
+            (fed.refusal, fed.taken, fed.written, fed.cuts) = (0, 0, 0, 0);
             if refusal == 0 {
                 line = fed.run(line);
             }
@@ -175,6 +178,7 @@ impl Past {
         self.written += written;
         fed.taken = taken as u64;
         fed.written = written as u64;
+        fed.cuts = settings.cuts(&self.list);
     }
 }
 

@@ -2,6 +2,7 @@
 
 use crate::cic_settings;
 use crate::field::fields;
+use crate::fir_decimator::MOST_TAPS;
 use crate::float_samples;
 use crate::lent::{Lent, Slice};
 use crate::q15_samples;
@@ -45,6 +46,7 @@ fields! {
         depth: u64,
         phases: u64,
         taps: u64,
+        straight: u64,
         step: f32,
         fir: Slice<i16>,
         prototype: Slice<f32>,
@@ -95,8 +97,8 @@ pub fn cic(rng: &mut Rng) -> (u64, u64) {
 fn fir(rng: &mut Rng) -> (Lent, u64) {
     let length = match rng.below(8) {
         0..=2 => 0,
-        3 => 64,
-        4 => rng.within(1, 64),
+        3 => rng.pick(&[MOST_TAPS, 64, 65]),
+        4 => rng.within(1, MOST_TAPS),
         _ => rng.within(1, 6),
     };
     let factor = match length {
@@ -125,6 +127,7 @@ pub fn fir_alone(taps: u64, factor: u64) -> Settings {
         depth: 0,
         phases: 0,
         taps: 0,
+        straight: 0,
         step: 0.0,
         fir: Lent::pattern(taps, 1 << 14, 0).into(),
         prototype: Lent::pattern(0, 0, 0).into(),
@@ -152,6 +155,7 @@ pub fn good(rng: &mut Rng) -> Settings {
         depth,
         phases,
         taps,
+        straight: rng.below(2) * rng.pick(&[1, 1, 2, 1 << 32, u64::MAX]),
         step,
         fir: fir.into(),
         prototype: float_samples::list(rng, length).into(),
@@ -208,7 +212,7 @@ pub fn spoilt(rng: &mut Rng) -> Settings {
         opening.depth = settings::bad_depth(rng);
     }
     if faults & 256 != 0 {
-        let length = rng.pick(&[1, 64, 65, 66, 65_536]);
+        let length = rng.pick(&[1, 64, 65, MOST_TAPS, MOST_TAPS + 1, MOST_TAPS + 2, 65_536]);
         opening.fir = q15_samples::list(rng, length).into();
         opening.factor = rng.pick(&[0, 1, 4096, 4097, (1 << 32) + 1, opening.factor]);
     }

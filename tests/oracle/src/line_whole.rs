@@ -5,7 +5,7 @@ use crate::hbf_stream;
 use crate::line_settings::Settings;
 use crate::polyphase_resamp;
 use crate::sizes::with_stages;
-use crate::values::cut;
+use crate::values::{self, cut};
 use embedded_dsp::resampling::CicDecimator;
 
 fn scaled<const N: usize>(r: u64, list: &[i32]) -> Vec<i32> {
@@ -16,11 +16,24 @@ fn scaled<const N: usize>(r: u64, list: &[i32]) -> Vec<i32> {
 }
 
 impl Settings {
+    fn scaled(&self, list: &[i32]) -> Vec<i64> {
+        let sums = with_stages!(self.stages, scaled(self.r, list));
+        sums.into_iter().map(i64::from).collect()
+    }
+
+    /// 02, request 4: "the number of cuts that the definitions make for W, held likewise", at sections 2 and 3.
+    pub fn cuts(&self, list: &[i32]) -> u32 {
+        let sums = self.scaled(list);
+        let held: Vec<i16> = sums.iter().map(|&sum| cut(sum)).collect();
+        let cuts = values::cuts(sums);
+        let more = fir_decimator::cuts(&self.fir.elements, self.factor, &held);
+        u32::try_from(cuts + more).unwrap_or(u32::MAX)
+    }
+
     /// "each section run on the whole list of the section before", up to the resampler.
     pub fn values(&self, list: &[i32]) -> Vec<f32> {
-        let sums = with_stages!(self.stages, scaled(self.r, list));
-        let cuts: Vec<i16> = sums.iter().map(|&sum| cut(sum.into())).collect();
-        let thinned = fir_decimator::outputs(&self.fir.elements, self.factor, &cuts);
+        let held: Vec<i16> = self.scaled(list).into_iter().map(cut).collect();
+        let thinned = fir_decimator::outputs(&self.fir.elements, self.factor, &held);
         let floats: Vec<f32> = thinned.iter().map(|&x| f32::from(x) / 32768.0).collect();
         hbf_stream::outputs(self.depth, &floats)
     }
@@ -43,7 +56,8 @@ impl Settings {
             return values.to_vec();
         }
         let prototype = &self.prototype.elements;
-        let mut rust = polyphase_resamp::opened(self.phases, self.taps, prototype, self.step);
+        let mut rust =
+            polyphase_resamp::opened(self.straight, self.phases, self.taps, prototype, self.step);
         let mut outputs = vec![0.0; 65 * values.len() + 1];
         let made = rust.process_block(values, &mut outputs);
         assert!(made < outputs.len());

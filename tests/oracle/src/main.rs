@@ -10,6 +10,8 @@ mod cic_settings;
 mod compare;
 mod differences;
 mod element;
+mod exact_sums;
+mod feeding_plan;
 mod field;
 mod fir_decimator;
 mod float_samples;
@@ -17,6 +19,7 @@ mod gauge_line;
 mod half_band;
 mod hbf_dec;
 mod hbf_dec_cascade;
+mod hbf_dec_cascade_98;
 mod hbf_int;
 mod hbf_int_cascade;
 mod hbf_stream;
@@ -31,8 +34,14 @@ mod line_settings;
 mod line_whole;
 mod linear;
 mod linear_f32;
+mod linear_phase;
 mod linear_q15;
 mod list;
+mod nonrecursive_decimator;
+mod parked_cases;
+mod parked_histories;
+mod parked_line;
+mod phase_rows;
 mod places;
 mod polyphase_q15;
 mod polyphase_resamp;
@@ -48,6 +57,7 @@ mod settings;
 mod shrink;
 mod simpler;
 mod sizes;
+mod straight;
 mod stream;
 mod tap_sheet;
 mod values;
@@ -64,10 +74,19 @@ use std::process::ExitCode;
 const fn listed(name: &'static str, cases: Draw) -> Converter {
     Converter {
         name,
+        is_listed: true,
         fixed: Vec::new,
         cases,
         more: cases,
         long: cases,
+    }
+}
+
+/// A converter of which no list has a case.
+const fn compared(name: &'static str, cases: Draw) -> Converter {
+    Converter {
+        is_listed: false,
+        ..listed(name, cases)
     }
 }
 
@@ -88,10 +107,14 @@ impl Converter {
     }
 }
 
-const CONVERTERS: [Converter; 15] = [
+const CONVERTERS: [Converter; 23] = [
     listed("cic_decimator", cic_decimator::cases)
         .fixed(cic_decimator::every_gain)
         .long(cic_decimator::long),
+    compared("exact_sums", exact_sums::cases).fixed(exact_sums::every_range),
+    compared("nonrecursive_decimator", nonrecursive_decimator::cases)
+        .fixed(nonrecursive_decimator::every_setting)
+        .long(nonrecursive_decimator::long),
     listed("cic_interpolator", cic_interpolator::cases).fixed(cic_interpolator::every_gain),
     listed("polyphase_q15", polyphase_q15::cases).long(polyphase_q15::long),
     listed("linear_q15", linear_q15::cases)
@@ -117,10 +140,20 @@ const CONVERTERS: [Converter; 15] = [
         .more(polyphase_resamp::more)
         .long(polyphase_resamp::long),
     listed("gauge_line", line_cases::cases)
-        .fixed(line_cases::fir_factors)
+        .fixed(line_cases::fixed)
         .more(line_cases::more)
         .long(line_cases::long),
     listed("tap_sheet", tap_sheet::cases),
+    listed("linear_phase", linear_phase::cases)
+        .more(linear_phase::more)
+        .long(linear_phase::long),
+    compared("parked_line", parked_cases::cases).fixed(parked_cases::stored),
+    compared("hbf_dec_cascade_98", hbf_dec_cascade_98::cases)
+        .fixed(hbf_dec_cascade_98::fixed)
+        .long(hbf_dec_cascade_98::Decimators::long),
+    compared("phase_rows", phase_rows::cases).fixed(phase_rows::every_size),
+    compared("parked_history", parked_histories::cases),
+    compared("feeding_plan", feeding_plan::cases),
 ];
 
 /// Writes what a comparison found, and answers whether that is no difference.

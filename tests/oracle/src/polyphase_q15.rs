@@ -1,7 +1,7 @@
 //! Cases of `polyphase_decimate_q15` and `polyphase_interpolate_q15`.
 
 use crate::archive::q15 as archive;
-use crate::calls::{Free, Written};
+use crate::calls::Free;
 use crate::case::{Case, Cases, Operation};
 use crate::field::fields;
 use crate::lent::{Lent, Slice};
@@ -10,16 +10,17 @@ use crate::refusals;
 use crate::rng::Rng;
 use crate::samples;
 use crate::settings::{self, MOST};
+use crate::values;
 use embedded_dsp::resampling::{polyphase_decimate_q15, polyphase_interpolate_q15};
 use embedded_dsp::types::q15;
 
-pub type Block = Free<Buffers, Written>;
+pub type Block = Free<Buffers, Filtered>;
 
 const DECIMATE: Operation<Block> = Operation {
     code: 0x31,
     name: "polyphase_decimate_q15",
     refusal: Some(|call| call.lent.refusal(refusals::q15_block)),
-    rust: |call| call.answer.written = call.lent.run(polyphase_decimate_q15),
+    rust: |call| call.answer = call.lent.run(polyphase_decimate_q15, decimated_sum),
     archive: archive::polyphase_decimate_q15,
 };
 
@@ -27,11 +28,41 @@ const INTERPOLATE: Operation<Block> = Operation {
     code: 0x32,
     name: "polyphase_interpolate_q15",
     refusal: Some(|call| call.lent.refusal(refusals::q15_up)),
-    rust: |call| call.answer.written = call.lent.run(polyphase_interpolate_q15),
+    rust: |call| call.answer = call.lent.run(polyphase_interpolate_q15, interpolated_sum),
     archive: archive::polyphase_interpolate_q15,
 };
 
 type Rust = fn(&[q15], &[q15], usize, &mut [q15]) -> usize;
+
+/// What output `i` is cut from, by samples, taps and factor.
+type Sum = fn(&[i16], &[i16], usize, usize) -> i64;
+
+/// "Each product is floored by itself."
+fn floored(sample: i16, tap: i16) -> i64 {
+    (i64::from(sample) * i64::from(tap)).div_euclid(32_768)
+}
+
+/// 01, section 3: "the sum over t of floor(s[iD+t] × c[t] / 32768)".
+fn decimated_sum(samples: &[i16], taps: &[i16], factor: usize, i: usize) -> i64 {
+    let window = &samples[i * factor..];
+    window.iter().zip(taps).map(|(&s, &c)| floored(s, c)).sum()
+}
+
+/// 01, section 7: output iL+p is cut from "L × sum over t<K of floor(s[i+t] × c[tL+p] / 32768)".
+fn interpolated_sum(samples: &[i16], taps: &[i16], factor: usize, j: usize) -> i64 {
+    let phase = taps[j % factor..].iter().step_by(factor);
+    let window = &samples[j / factor..];
+    let sum: i64 = window.iter().zip(phase).map(|(&s, &c)| floored(s, c)).sum();
+    factor as i64 * sum
+}
+
+/// How many of the Rust's outputs were cut. The Rust does not tell it: by the sums that they are cut from, which have to be theirs.
+fn cuts(outputs: &[i16], sum: impl Fn(usize) -> i64) -> u64 {
+    let sums: Vec<i64> = (0..outputs.len()).map(sum).collect();
+    let held = sums.iter().map(|&sum| values::cut(sum));
+    assert!(held.eq(outputs.iter().copied()), "not the Rust's sums");
+    values::cuts(sums)
+}
 
 fields! {
     /// What a call is lent.
@@ -40,6 +71,14 @@ fields! {
         samples: Slice<i16>,
         taps: Slice<i16>,
         span: Slice<i16>,
+    }
+}
+
+fields! {
+    /// How many outputs were written, and how many of them were cut.
+    pub struct Filtered {
+        written: u64,
+        cuts: u64,
     }
 }
 
@@ -53,7 +92,7 @@ impl Buffers {
         )
     }
 
-    fn run(&mut self, rust: Rust) -> u64 {
+    fn run(&mut self, rust: Rust, sum: Sum) -> Filtered {
         let mut places = q15_samples::rust(&self.span.elements);
         let written = rust(
             &q15_samples::rust(&self.samples.elements),
@@ -62,7 +101,14 @@ impl Buffers {
             &mut places,
         );
         self.span.elements = q15_samples::bits(&places);
-        written as u64
+        let (samples, taps) = (&self.samples.elements, &self.taps.elements);
+        let factor = self.factor as usize;
+        Filtered {
+            written: written as u64,
+            cuts: cuts(&self.span.elements[..written], |i| {
+                sum(samples, taps, factor, i)
+            }),
+        }
     }
 }
 
@@ -72,6 +118,12 @@ pub fn decimated(taps: &[i16], factor: u64, list: &[i16]) -> Vec<i16> {
     let mut outputs = list.clone();
     let made = polyphase_decimate_q15(&list, &taps, factor as usize, &mut outputs);
     q15_samples::bits(&outputs[..made])
+}
+
+/// How many of them were cut.
+pub fn decimated_cuts(taps: &[i16], factor: u64, list: &[i16]) -> u64 {
+    let sum = |i| decimated_sum(list, taps, factor as usize, i);
+    cuts(&decimated(taps, factor, list), sum)
 }
 
 /// The same as it is drawn.

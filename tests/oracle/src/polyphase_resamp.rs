@@ -12,6 +12,7 @@ use crate::samples;
 use crate::search;
 use crate::settings;
 use crate::sizes::RESAMPLERS;
+use crate::straight::Straight;
 use resamplers::Resampler;
 
 pub type New = Free<Settings, State>;
@@ -23,8 +24,16 @@ const FROM_TAPS: Operation<New> = Operation {
     code: 0xb1,
     name: "PolyphaseResampF32::from_taps",
     refusal: Some(|call| call.lent.refusal()),
-    rust: |call| call.answer = State::opened(&call.lent),
+    rust: |call| call.answer = State::opened(0, &call.lent),
     archive: float::polyphase_resamp_from_taps,
+};
+
+const FROM_TAPS_STRAIGHT: Operation<New> = Operation {
+    code: 0xb5,
+    name: "PolyphaseResampF32::from_taps_straight",
+    refusal: Some(|call| call.lent.refusal()),
+    rust: |call| call.answer = State::opened(1, &call.lent),
+    archive: float::polyphase_resamp_from_taps_straight,
 };
 
 const PROCESS_BLOCK: Operation<Block> = Operation {
@@ -74,10 +83,11 @@ impl Settings {
 }
 
 fields! {
-    /// The port's state: the Rust has P and T as constants, and a row of taps for each phase.
+    /// The port's state: the Rust has P and T as constants, and a row of taps for each phase. `straight` is 0 in wrapped phase.
     pub struct State {
         phases: u64,
         taps: u64,
+        straight: u64,
         mu: f32,
         step: f32,
         delay: [f32; 16],
@@ -86,11 +96,13 @@ fields! {
 }
 
 impl State {
-    pub fn opened(settings: &Settings) -> Self {
+    pub fn opened(straight: u64, settings: &Settings) -> Self {
         let mut state = State::zeros();
         state.phases = settings.phases;
         state.taps = settings.taps;
+        state.straight = straight;
         state.keep(&*opened(
+            straight,
             settings.phases,
             settings.taps,
             &settings.prototype.elements,
@@ -105,7 +117,13 @@ impl State {
     }
 
     fn rust(&self) -> Box<dyn Resampler> {
-        let mut rust = opened(self.phases, self.taps, self.own_prototype(), self.step);
+        let mut rust = opened(
+            self.straight,
+            self.phases,
+            self.taps,
+            self.own_prototype(),
+            self.step,
+        );
         rust.set_parts(&self.delay[..self.taps as usize], self.mu);
         rust
     }
@@ -147,6 +165,7 @@ impl State {
         *self = State {
             phases: self.phases,
             taps: self.taps,
+            straight: self.straight,
             ..State::zeros()
         };
         self.keep(&*rust);
@@ -174,9 +193,18 @@ impl State {
     }
 }
 
-/// The Rust's, with settings that are not refused.
-pub fn opened(phases: u64, taps: u64, prototype: &[f32], step: f32) -> Box<dyn Resampler> {
-    resamplers::from_taps(phases, taps, prototype, step).expect("the refusals come first")
+/// The Rust's in wrapped phase, else 02's, with settings that are not refused.
+pub fn opened(
+    straight: u64,
+    phases: u64,
+    taps: u64,
+    prototype: &[f32],
+    step: f32,
+) -> Box<dyn Resampler> {
+    match straight {
+        0 => resamplers::from_taps(phases, taps, prototype, step).expect("the refusals come first"),
+        _ => Straight::opened(phases, taps, prototype, step),
+    }
 }
 
 /// A step from the least positive f32 to the largest.
@@ -225,6 +253,7 @@ fn midway(rng: &mut Rng) -> State {
     State {
         phases,
         taps,
+        straight: rng.below(2),
         mu: some_mu(rng, step),
         step,
         delay: float_samples::places(rng),
@@ -258,6 +287,13 @@ fn damaged(rng: &mut Rng) -> State {
     state
 }
 
+fn some_phase(rng: &mut Rng) -> Operation<New> {
+    match rng.below(2) {
+        0 => FROM_TAPS,
+        _ => FROM_TAPS_STRAIGHT,
+    }
+}
+
 /// One fault, several at once, or none.
 fn some_opening(rng: &mut Rng) -> Box<dyn Case> {
     let (mut phases, mut taps) = rng.pick(&RESAMPLERS);
@@ -282,7 +318,7 @@ fn some_opening(rng: &mut Rng) -> Box<dyn Case> {
         step,
         prototype: float_samples::list(rng, length).into(),
     };
-    FROM_TAPS.of(settings).0
+    some_phase(rng).of(settings).0
 }
 
 /// Samples and a span around each other; neither has a limit.
@@ -334,12 +370,13 @@ fn any_call(rng: &mut Rng, state: &mut State) -> Box<dyn Case> {
 
 /// From an opening: calls of every kind, each on the state that the one before left.
 fn stream(rng: &mut Rng, (phases, taps): (u64, u64)) -> Cases {
-    let (opening, mut state) = FROM_TAPS.of(Settings {
+    let settings = Settings {
         phases,
         taps,
         step: some_step(rng),
         prototype: float_samples::list(rng, phases * taps).into(),
-    });
+    };
+    let (opening, mut state) = some_phase(rng).of(settings);
     let mut cases = vec![opening];
     cases.extend((0..rng.within(3, 12)).map(|_| any_call(rng, &mut state)));
     cases

@@ -1,5 +1,6 @@
 //! Q15 samples and taps: the ends of the range, the numbers around 0, anything.
 
+use crate::fir_decimator::MOST_TAPS;
 use crate::lent::{Lent, Slice};
 use crate::rng::Rng;
 use embedded_dsp::types::q15;
@@ -47,8 +48,8 @@ pub fn noise(rng: &mut Rng, length: u64) -> Lent {
     Lent::listed((0..length).map(|_| u32::from(one(rng) as u16)).collect())
 }
 
-/// The 64 places of a state's array.
-pub fn places(rng: &mut Rng) -> [i16; 64] {
-    let slice: Slice<i16> = list(rng, 64).into();
+/// The places of a state's array.
+pub fn places(rng: &mut Rng) -> [i16; MOST_TAPS as usize] {
+    let slice: Slice<i16> = list(rng, MOST_TAPS).into();
     std::array::from_fn(|i| slice.elements[i])
 }

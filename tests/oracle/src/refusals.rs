@@ -1,4 +1,6 @@
-//! 01, "Where each call is turned back", written from its text: the number of the first row that applies, or 0.
+//! 01, "Where each call is turned back", and 02, written from their text: the number of the first row that applies, or 0.
+
+use crate::fir_decimator::MOST_TAPS;
 
 const STAGES: u32 = 1;
 const FACTOR: u32 = 2;
@@ -15,6 +17,9 @@ const PHASES: u32 = 12;
 const PROTOTYPE: u32 = 13;
 const STEP: u32 = 14;
 pub const STATE: u32 = 15;
+const PHASE_TAPS: u32 = 19;
+const LENGTHS: u32 = 20;
+const POWER_OF_TWO: u32 = 23;
 
 /// The most samples, taps and places of a block.
 const MOST: usize = 65_536;
@@ -38,6 +43,23 @@ pub fn cic_opening(stages: u64, r: u64) -> u32 {
 /// "any call on a state": settings that its opening refuses; `sample_counter` not below r.
 pub fn cic_decimator(stages: u64, r: u64, sample_counter: u64) -> u32 {
     if cic_opening(stages, r) != 0 || sample_counter >= r {
+        STATE
+    } else {
+        0
+    }
+}
+
+/// "23 when the factor is not a power of two, right after 2".
+pub fn nonrecursive_opening(stages: u64, r: u64) -> u32 {
+    match cic_opening(stages, r) {
+        0 if !r.is_power_of_two() => POWER_OF_TWO,
+        number => number,
+    }
+}
+
+/// "Its place among the factor's samples, when not below the factor, is 15".
+pub fn nonrecursive_decimator(stages: u64, r: u64, place: u64) -> u32 {
+    if nonrecursive_opening(stages, r) != 0 || place >= r {
         STATE
     } else {
         0
@@ -118,11 +140,11 @@ pub fn linear(samples: usize, span: usize, ratio_is_good: bool) -> u32 {
     }
 }
 
-/// The streaming FIR beside the line: 5 where the factor is not 1..4,096, 6 where the taps are none or over 64.
+/// The streaming FIR beside the line: 5 where the factor is not 1..4,096, 6 where the taps are none or over 128.
 pub fn fir_opening(taps: u64, factor: u64) -> u32 {
     if !(1..=4096).contains(&factor) {
         FIR_FACTOR
-    } else if !(1..=64).contains(&taps) {
+    } else if !(1..=MOST_TAPS).contains(&taps) {
         TAPS
     } else {
         0
@@ -238,6 +260,14 @@ pub fn resampler_opening(phases: u64, taps: u64, prototype: usize, step: f32) ->
     }
 }
 
+/// 02, request 12: 12 where P or T is outside its limits, 13 where the prototype is not P × T long or the span of another length.
+pub fn phase_rows(phases: u64, taps: u64, prototype: usize, span: usize) -> u32 {
+    match resampler_opening(phases, taps, prototype, 1.0) {
+        0 if span != prototype => PROTOTYPE,
+        number => number,
+    }
+}
+
 /// "line": the same, and 14 where the step is outside 1/64..64; no phases means off, and nothing else is looked at.
 pub fn line_resampler(phases: u64, taps: u64, prototype: usize, step: f32) -> u32 {
     if phases == 0 {
@@ -277,5 +307,31 @@ pub fn resampler(phases: u64, taps: u64, step: f32, mu: f32) -> u32 {
         STATE
     } else {
         0
+    }
+}
+
+/// 02, request 2: 19 where M is not 1..23.
+pub fn linear_phase_opening(taps: u64) -> u32 {
+    if (1..=23).contains(&taps) {
+        0
+    } else {
+        PHASE_TAPS
+    }
+}
+
+/// "any call on a state": settings that its opening refuses.
+pub fn linear_phase(taps: u64) -> u32 {
+    if linear_phase_opening(taps) != 0 {
+        STATE
+    } else {
+        0
+    }
+}
+
+/// A block: 15, then 20 where source and span differ in length.
+pub fn linear_phase_block(taps: u64, samples: usize, span: usize) -> u32 {
+    match linear_phase(taps) {
+        0 if samples != span => LENGTHS,
+        number => number,
     }
 }

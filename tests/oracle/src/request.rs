@@ -18,6 +18,8 @@ pub type Draw = fn(&mut Rng) -> Cases;
 #[derive(Clone, Copy)]
 pub struct Converter {
     pub name: &'static str,
+    /// Whether a list has cases of it.
+    pub is_listed: bool,
     /// Those that every comparison begins with.
     pub fixed: fn() -> Cases,
     /// Those that a list has.
@@ -57,7 +59,8 @@ impl Request {
                 _ => return None,
             }
         }
-        let converters = wanted(converters, only.as_deref())?;
+        let lists = matches!(command, Command::List);
+        let converters = wanted(converters, only.as_deref(), lists)?;
         Some(Request {
             command,
             seed: seed?,
@@ -69,9 +72,12 @@ impl Request {
     }
 }
 
-/// The one of that name, or all.
-fn wanted(converters: &[Converter], only: Option<&str>) -> Option<Vec<Converter>> {
-    let is_wanted = |converter: &&Converter| only.is_none_or(|only| only == converter.name);
+/// The one of that name, or all; for a list those that are listed.
+fn wanted(converters: &[Converter], only: Option<&str>, lists: bool) -> Option<Vec<Converter>> {
+    let is_wanted = |converter: &&Converter| {
+        let is_named = only.is_none_or(|only| only == converter.name);
+        is_named && (converter.is_listed || !lists)
+    };
     let wanted: Vec<Converter> = converters.iter().filter(is_wanted).copied().collect();
     (!wanted.is_empty()).then_some(wanted)
 }

@@ -1,4 +1,4 @@
-//! Cases of tap sheets. What is expected is written from 02, request 1, and shares nothing with the port: each byte of a sheet gets an owner.
+//! Cases of tap sheets. What is expected is written from 02, requests 1 and 9, and shares nothing with the port: each byte of a sheet gets an owner.
 
 use crate::archive::sheet as archive;
 use crate::calls::{Free, Written};
@@ -13,6 +13,16 @@ use crate::simpler;
 
 /// "an entry count, 0 to 32"
 const MOST_ENTRIES: usize = 32;
+
+/// "the top bit in the entry count (32,768)"
+pub const MARK: u16 = 32_768;
+
+/// The rule that a reader knows: request 1's, or request 9's, which has the mark.
+#[derive(Clone, Copy, PartialEq)]
+pub enum Rule {
+    Former,
+    Present,
+}
 
 pub type Counting = Free<Sheet, Entries>;
 pub type Reading = Free<Reader, Place>;
@@ -131,15 +141,39 @@ fn number(directory: &mut &[u8], bytes: usize) -> Result<u64, u32> {
         .fold(0, |n, byte| n << 8 | u64::from(*byte)))
 }
 
-/// Offsets and lengths as the directory has them.
-fn directory(sheet: &[u8]) -> Result<Vec<(u64, u64)>, u32> {
-    let mut rest = sheet;
-    let count = number(&mut rest, 2)?;
-    if count > MOST_ENTRIES as u64 {
-        return Err(16);
+/// Offsets and lengths, and whether the mark is set, which "readers strip".
+struct Directory {
+    is_marked: bool,
+    pairs: Vec<(u64, u64)>,
+}
+
+impl Directory {
+    fn read(rule: Rule, sheet: &[u8]) -> Result<Self, u32> {
+        let mut rest = sheet;
+        let word = number(&mut rest, 2)?;
+        let is_marked = rule == Rule::Present && word & u64::from(MARK) != 0;
+        let count = if is_marked {
+            word - u64::from(MARK)
+        } else {
+            word
+        };
+        if count > MOST_ENTRIES as u64 {
+            return Err(16);
+        }
+        let pair = |_| Ok((number(&mut rest, 4)?, number(&mut rest, 4)?));
+        let pairs = (0..count).map(pair).collect::<Result<_, u32>>()?;
+        Ok(Directory { is_marked, pairs })
     }
-    let pair = |_| Ok((number(&mut rest, 4)?, number(&mut rest, 4)?));
-    (0..count).map(pair).collect()
+
+    /// "the empty one comes first": no empty entry behind a full one of equal offset.
+    fn has_empty_first(&self) -> bool {
+        let full_before = |j: usize| {
+            let full = |&(offset, size): &(u64, u64)| offset == self.pairs[j].0 && size > 0;
+            self.pairs[..j].iter().any(full)
+        };
+        let empty = |j: &usize| self.pairs[*j].1 == 0;
+        !(0..self.pairs.len()).filter(empty).any(full_before)
+    }
 }
 
 /// Whether the entries are sorted, lie in the data, and have each byte for themselves.
@@ -163,10 +197,17 @@ fn sound(sheet: &[u8], entries: &[(u64, u64)]) -> bool {
     true
 }
 
-fn entries(sheet: &[u8]) -> Result<Vec<(u64, u64)>, u32> {
-    let found = directory(sheet)?;
-    if sound(sheet, &found) {
-        Ok(found)
+/// The entries of a sheet, or 16, 17.
+pub fn entries(sheet: &[u8]) -> Result<Vec<(u64, u64)>, u32> {
+    entries_by(Rule::Present, sheet)
+}
+
+/// The same for a reader that knows this rule: "sheets made before this are checked under the former rule, marked by the lack of the top bit".
+pub fn entries_by(rule: Rule, sheet: &[u8]) -> Result<Vec<(u64, u64)>, u32> {
+    let found = Directory::read(rule, sheet)?;
+    let is_ordered = !found.is_marked || found.has_empty_first();
+    if sound(sheet, &found.pairs) && is_ordered {
+        Ok(found.pairs)
     } else {
         Err(17)
     }
@@ -175,7 +216,8 @@ fn entries(sheet: &[u8]) -> Result<Vec<(u64, u64)>, u32> {
 impl Reader {
     fn place(&self) -> Result<(u64, u64), u32> {
         let sheet = &self.sheet.elements;
-        if directory(sheet)?.len() as u64 != self.count {
+        let own = Directory::read(Rule::Present, sheet)?.pairs.len();
+        if own as u64 != self.count {
             return Err(16);
         }
         let found = entries(sheet)?;
@@ -196,7 +238,7 @@ impl Joined {
         if total != joined.len() as u128 || long > most || long > self.span.len() as u128 {
             return Err(17);
         }
-        let mut sheet = (lengths.len() as u16).to_le_bytes().to_vec();
+        let mut sheet = (MARK | lengths.len() as u16).to_le_bytes().to_vec();
         let mut offset = 2 + 8 * lengths.len() as u32;
         for length in lengths {
             sheet.extend(offset.to_le_bytes());
@@ -211,9 +253,10 @@ impl Joined {
 /// Entries that reach further are far out of any sheet.
 const FAR: u64 = 4096;
 
-/// The bytes of a sheet with such entries, `behind` of them past the furthest end.
+/// The bytes of a sheet with such entries, `behind` of them past the furthest end, with the mark or without.
 fn laid(rng: &mut Rng, entries: &[(u64, u64)], behind: u64) -> Vec<u8> {
-    let mut sheet = (entries.len() as u16).to_le_bytes().to_vec();
+    let mark = rng.pick(&[0, MARK, MARK]);
+    let mut sheet = (mark | entries.len() as u16).to_le_bytes().to_vec();
     for &(offset, size) in entries {
         sheet.extend((offset as u32).to_le_bytes());
         sheet.extend((size as u32).to_le_bytes());
@@ -274,7 +317,7 @@ fn spoil(rng: &mut Rng, entries: &mut [(u64, u64)]) {
 }
 
 /// One fault in the bytes: a byte of the directory, or fewer bytes.
-fn damage(rng: &mut Rng, sheet: &mut Vec<u8>, entries: usize) {
+pub fn damage(rng: &mut Rng, sheet: &mut Vec<u8>, entries: usize) {
     match rng.below(3) {
         0 => sheet[rng.below(2) as usize] = rng.next() as u8,
         1 => sheet[rng.below(2 + 8 * entries as u64) as usize] = rng.next() as u8,
@@ -299,7 +342,7 @@ fn some_sheet(rng: &mut Rng) -> Slice<u8> {
 /// The sheet's own count as a rule, and an entry around it.
 fn some_reader(rng: &mut Rng) -> Reader {
     let sheet = some_sheet(rng);
-    let own = number(&mut &sheet.elements[..], 2).unwrap_or(0);
+    let own = number(&mut &sheet.elements[..], 2).unwrap_or(0) % u64::from(MARK);
     let count = match rng.below(8) {
         0 => rng.pick(&[0, own + 1, own.saturating_sub(1), own + 32768, u64::MAX]),
         _ => own,

@@ -12,7 +12,7 @@ use crate::settings;
 use embedded_dsp::resampling::{hbf_dec_response_length, hbf_int_response_length};
 use embedded_dsp::types::q15;
 
-pub type Cut = Free<Sample<i64>, Value<i16>>;
+pub type Cut = Free<Sample<i64>, Held>;
 pub type ToF32 = Free<Sample<i16>, Value<f32>>;
 pub type Length = Free<Depth, Value<u64>>;
 pub type TapTable = Free<(), Table>;
@@ -21,7 +21,7 @@ const CUT: Operation<Cut> = Operation {
     code: 0x34,
     name: "cut_q15",
     refusal: None,
-    rust: |call| call.answer.value = cut(call.lent.sample),
+    rust: |call| call.answer = Held::of(call.lent.sample),
     archive: archive::cut_q15,
 };
 
@@ -72,9 +72,36 @@ fields! {
     }
 }
 
+fields! {
+    /// A sum cut to 16 bits, and whether that changed it.
+    pub struct Held {
+        value: i16,
+        cut: u32,
+    }
+}
+
+impl Held {
+    fn of(sum: i64) -> Self {
+        Held {
+            value: cut(sum),
+            cut: is_cut(sum).into(),
+        }
+    }
+}
+
 /// 01, section 2: "The line (not the Rust) cuts the scaled sum to −32,768..32,767."
 pub fn cut(sum: i64) -> i16 {
     sum.clamp(-32_768, 32_767) as i16
+}
+
+/// 02, request 4: "A value already inside the range is not cut."
+pub fn is_cut(sum: i64) -> bool {
+    i16::try_from(sum).is_err()
+}
+
+/// How many of a list are.
+pub fn cuts(sums: impl IntoIterator<Item = i64>) -> u64 {
+    sums.into_iter().filter(|&sum| is_cut(sum)).count() as u64
 }
 
 /// Around the ends of 16, 32 and 64 bits, and anything.

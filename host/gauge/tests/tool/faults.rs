@@ -24,7 +24,7 @@ const SETTINGS: [(&str, &str); 35] = [
     ),
     (
         "stages=1\nr=1\nfactor=1\ntaps=many.taps\n",
-        "bad.settings:4: taps = many.taps: refusal 6, Taps: 65 given, at most 64\n",
+        "bad.settings:4: taps = many.taps: refusal 6, Taps: 129 given, at most 128\n",
     ),
     (
         "stages=1\nr=1\ndepth=7\n",
@@ -230,7 +230,7 @@ fn faulty(scratch: &Scratch, arguments: &str, said: &str) {
 fn each_bad_setting_is_told_at_its_line() {
     let scratch = Scratch::new("settings");
     scratch.write("samples.txt", as_text(&samples()));
-    scratch.write("many.taps", "1 ".repeat(65));
+    scratch.write("many.taps", "1 ".repeat(129));
     scratch.write("bad.taps", "1\n40000\n");
     scratch.write("empty.taps", "# none\n");
     scratch.write("wide.taps", b"\xff\xfe1\0");

@@ -1,11 +1,15 @@
 //! The tool as a fitter runs it.
 
+mod compare;
 mod drawing;
 mod faults;
 mod formats;
 mod help;
 mod layout;
+mod parking;
+mod phases;
 mod pieces;
+mod plan;
 mod random;
 mod range;
 mod scratch;

@@ -64,7 +64,7 @@ const VALUES: [&str; 32] = [
     "3e38 3e38 3e38 3e38",
 ];
 
-const NAMES: [&str; 11] = [
+const NAMES: [&str; 12] = [
     "stages",
     "r",
     "factor",
@@ -72,6 +72,7 @@ const NAMES: [&str; 11] = [
     "depth",
     "phases",
     "phase_taps",
+    "phase",
     "step",
     "prototype",
     "x",

@@ -66,5 +66,6 @@ fn a_sum_that_comes_round_is_promised_no_level() {
     for row in &ranges[..3] {
         assert_eq!(row[row.len() - 2..], ["-8192", "8191"]);
     }
-    assert_eq!(ranges[3][..3], ["Warning:", "18", "gain"]);
+    assert_eq!(ranges[3][..5], ["Values", "are", "cut", "of", "no"]);
+    assert_eq!(ranges[4][..3], ["Warning:", "18", "gain"]);
 }

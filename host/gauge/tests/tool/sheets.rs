@@ -17,7 +17,7 @@ fn with_sheet(test: &str) -> Scratch {
 #[test]
 fn what_is_packed_is_listed_and_comes_out_again() {
     let scratch = with_sheet("sheet-pack");
-    let listed = "3 entries in 50 bytes\nentry  offset   bytes    taps  prototype\n    0      26       8       4          2\n    1      34       0       0          0\n    2      34      16       8          4\n";
+    let listed = "3 entries in 50 bytes, new form\nentry  offset   bytes    taps  prototype\n    0      26       8       4          2\n    1      34       0       0          0\n    2      34      16       8          4\n";
     assert_eq!(printed(&scratch.gauge("sheet list works.sheet")), listed);
     let taps = scratch.gauge("sheet unpack works.sheet --entry 0 --as taps");
     assert_eq!(printed(&taps), "8192\n8192\n8192\n8192\n");
@@ -28,7 +28,30 @@ fn what_is_packed_is_listed_and_comes_out_again() {
     assert_eq!(scratch.read("taps.bin"), [0, 32].repeat(4));
     let none = scratch.gauge("sheet pack --out none.sheet");
     assert!(none.status.success());
-    assert_eq!(scratch.read("none.sheet"), [0, 0]);
+    assert_eq!(scratch.read("none.sheet"), [0, 128]);
+}
+
+// A sheet from before request 9, whose empty entry stands behind the full one of equal offset: both keep their bytes, and change their numbers.
+#[test]
+fn an_old_sheet_is_converted() {
+    let scratch = Scratch::new("sheet-convert");
+    let old = b"\x03\0\x1a\0\0\0\x02\0\0\0\x1a\0\0\0\0\0\0\0\x1c\0\0\0\x02\0\0\0abcd";
+    scratch.write("old.sheet", old);
+    let listed = printed(&scratch.gauge("sheet list old.sheet"));
+    assert!(listed.starts_with("3 entries in 30 bytes, old form\n"));
+    let converted = scratch.gauge("sheet convert old.sheet new.sheet");
+    assert!(converted.status.success(), "{}", told(&converted));
+    let said = "gauge: entry 1 is entry 0 now\ngauge: entry 0 is entry 1 now\n";
+    assert_eq!(told(&converted), said);
+    let new = b"\x03\x80\x1a\0\0\0\0\0\0\0\x1a\0\0\0\x02\0\0\0\x1c\0\0\0\x02\0\0\0abcd";
+    assert_eq!(scratch.read("new.sheet"), new);
+    let listed = printed(&scratch.gauge("sheet list new.sheet"));
+    assert!(listed.starts_with("3 entries in 30 bytes, new form\n"));
+    let again = scratch.gauge("sheet convert new.sheet again.sheet");
+    assert_eq!(
+        (told(&again), scratch.read("again.sheet")),
+        (String::new(), new.to_vec())
+    );
 }
 
 #[test]
@@ -81,7 +104,22 @@ fn what_is_wrong_is_told() {
             "gauge: --out smooth.taps is the file of --taps, smooth.taps; it stays as it is",
         ),
         ("sheet pick", "gauge: no command sheet pick"),
-        ("sheet", "gauge: sheet without list, pack or unpack"),
+        (
+            "sheet convert works.sheet",
+            "gauge: sheet convert takes a sheet and the file for the new one",
+        ),
+        (
+            "sheet convert works.sheet works.sheet",
+            "gauge: the new sheet works.sheet is the file of the sheet, works.sheet; it stays as it is",
+        ),
+        (
+            "sheet convert bad.sheet new.sheet",
+            "bad.sheet: refusal 17: entry 2 at 33 begins inside entry 0 (26 to 34)",
+        ),
+        (
+            "sheet",
+            "gauge: sheet without list, pack, unpack or convert",
+        ),
     ] {
         let run = scratch.gauge(arguments);
         assert_eq!(run.status.code(), Some(2), "{arguments}");

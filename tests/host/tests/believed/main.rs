@@ -16,8 +16,13 @@ use tree::{read, top};
 use uses::{Module, module};
 
 /// The tables of definitions: the heading, and the file and name that the table begins with.
-const REACHED: [(&str, &str, &str); 2] = [
+const REACHED: [(&str, &str, &str); 3] = [
     ("The outputs, by definitions", "line/Outputs", "Outputs"),
+    (
+        "The count of cut values, by definitions",
+        "line/Outputs",
+        "heldCuts",
+    ),
     (
         "The openings, by definitions",
         "line/Line",

@@ -1,8 +1,8 @@
 //! The float layer of the archive.
 
 use super::{with_buffers, with_fields, word};
-use crate::{cascade, half_band, hbf_dec, hbf_int, hbf_stream};
-use crate::{linear, polyphase_resamp, values};
+use crate::{cascade, half_band, hbf_dec, hbf_dec_cascade_98, hbf_int, hbf_stream};
+use crate::{linear, phase_rows, polyphase_resamp, values};
 use gauge_raw::*;
 
 pub fn q15_to_f32(call: &mut values::ToF32) -> u64 {
@@ -23,8 +23,46 @@ pub fn hbf_tap_table(call: &mut values::TapTable) -> u64 {
     0
 }
 
+pub fn hbf_dec_reach(call: &mut hbf_dec_cascade_98::Reach) -> u64 {
+    unsafe { gauge_raw_hbf_dec_reach(call.lent.depth, &mut call.answer.value) }
+}
+
+pub fn hbf_dec_reach_98(call: &mut hbf_dec_cascade_98::Reach) -> u64 {
+    unsafe { gauge_raw_hbf_dec_reach_98(call.lent.depth, &mut call.answer.value) }
+}
+
+pub fn hbf_tap_table_98(call: &mut hbf_dec_cascade_98::TapTable) -> u64 {
+    unsafe { gauge_raw_hbf_tap_table_98(&mut call.answer.taps) }
+    0
+}
+
 pub fn resample_linear_f32(call: &mut linear::Block<f32, f32>) -> u64 {
     super::linear(gauge_raw_resample_linear_f32, call)
+}
+
+macro_rules! rearranging {
+    ($function:expr, $call:expr) => {{
+        let (values, span) = (&$call.lent.values.elements, &mut $call.lent.span.elements);
+        unsafe {
+            $function(
+                $call.lent.phases,
+                $call.lent.taps,
+                values.as_ptr(),
+                values.len() as u64,
+                span.as_mut_ptr(),
+                span.len() as u64,
+                &mut $call.answer.written,
+            )
+        }
+    }};
+}
+
+pub fn prototype_by_phase(call: &mut phase_rows::Rearranging) -> u64 {
+    rearranging!(gauge_raw_prototype_by_phase, call)
+}
+
+pub fn prototype_by_tap(call: &mut phase_rows::Rearranging) -> u64 {
+    rearranging!(gauge_raw_prototype_by_tap, call)
 }
 
 macro_rules! with_half_band {
@@ -122,6 +160,24 @@ pub fn hbf_dec_cascade_reset(call: &mut cascade::Reset<480>) -> u64 {
     with_cascade!(gauge_raw_hbf_dec_cascade_reset, [], call.state, [])
 }
 
+pub fn hbf_dec_cascade_98_new(call: &mut cascade::New<480>) -> u64 {
+    let depth = call.lent.depth;
+    with_cascade!(gauge_raw_hbf_dec_cascade_98_new, [depth], call.answer, [])
+}
+
+pub fn hbf_dec_cascade_98_process(call: &mut cascade::Block<480>) -> u64 {
+    with_buffers!(
+        with_cascade,
+        gauge_raw_hbf_dec_cascade_98_process,
+        call,
+        [written]
+    )
+}
+
+pub fn hbf_dec_cascade_98_reset(call: &mut cascade::Reset<480>) -> u64 {
+    with_cascade!(gauge_raw_hbf_dec_cascade_98_reset, [], call.state, [])
+}
+
 pub fn hbf_int_cascade_reset(call: &mut cascade::Reset<240>) -> u64 {
     with_cascade!(gauge_raw_hbf_int_cascade_reset, [], call.state, [])
 }
@@ -165,26 +221,36 @@ macro_rules! with_resampler {
             $function,
             $before,
             $state,
-            [phases, taps, mu, step, delay, prototype],
+            [phases, taps, straight, mu, step, delay, prototype],
             $after
         )
     };
 }
 
+macro_rules! resampler_opening {
+    ($function:expr, $call:expr) => {{
+        let (lent, state) = (&$call.lent, &mut $call.answer);
+        with_resampler!(
+            $function,
+            [
+                lent.phases,
+                lent.taps,
+                lent.prototype.elements.as_ptr(),
+                lent.prototype.len() as u64,
+                lent.step
+            ],
+            state,
+            []
+        )
+    }};
+}
+
 pub fn polyphase_resamp_from_taps(call: &mut polyphase_resamp::New) -> u64 {
-    let (lent, state) = (&call.lent, &mut call.answer);
-    with_resampler!(
-        gauge_raw_polyphase_resamp_from_taps,
-        [
-            lent.phases,
-            lent.taps,
-            lent.prototype.elements.as_ptr(),
-            lent.prototype.len() as u64,
-            lent.step
-        ],
-        state,
-        []
-    )
+    resampler_opening!(gauge_raw_polyphase_resamp_from_taps, call)
+}
+
+pub fn polyphase_resamp_from_taps_straight(call: &mut polyphase_resamp::New) -> u64 {
+    resampler_opening!(gauge_raw_polyphase_resamp_from_taps_straight, call)
 }
 
 pub fn polyphase_resamp_process_block(call: &mut polyphase_resamp::Block) -> u64 {

@@ -1,7 +1,9 @@
 //! The gauge line of the archive.
 
 use super::{with_buffers, with_fields};
+use crate::feeding_plan::Plan;
 use crate::line_calls::{Feed, Open, Reset, Step};
+use crate::parked_cases::{Park, ParkedLen, TakeUp};
 use gauge_raw::*;
 
 macro_rules! with_line {
@@ -27,10 +29,12 @@ macro_rules! with_line {
                 half_band.counts,
                 resampler.phases,
                 resampler.taps,
+                resampler.straight,
                 resampler.mu,
                 resampler.step,
                 resampler.delay,
-                resampler.prototype
+                resampler.prototype,
+                cuts
             ],
             $after
         )
@@ -40,7 +44,7 @@ macro_rules! with_line {
 pub fn open(call: &mut Open) -> u64 {
     let (settings, line) = (&call.lent, &mut call.answer.0);
     with_line!(
-        gauge_raw_line_open,
+        gauge_raw_line_open_2,
         [
             settings.stages,
             settings.r,
@@ -48,6 +52,7 @@ pub fn open(call: &mut Open) -> u64 {
             settings.depth,
             settings.phases,
             settings.taps,
+            settings.straight,
             settings.step,
             settings.fir.elements.as_ptr(),
             settings.fir.len() as u64,
@@ -83,4 +88,100 @@ pub fn step(call: &mut Step) -> u64 {
 
 pub fn reset(call: &mut Reset) -> u64 {
     with_line!(gauge_raw_line_reset, [], call.state, [])
+}
+
+/// A line that is only read: its numbers by value, its arrays lent.
+macro_rules! reading_line {
+    ($function:expr, $line:expr, [$($after:expr),*]) => {{
+        let crate::gauge_line::Line { cic, fir, half_band, resampler, cuts } = &$line;
+        unsafe {
+            $function(
+                cic.stages,
+                cic.r,
+                &cic.integrators,
+                &cic.combs,
+                cic.sample_counter,
+                &fir.taps,
+                fir.tap_count,
+                fir.factor,
+                &fir.delay,
+                fir.wait,
+                half_band.depth,
+                &half_band.delays,
+                &half_band.held,
+                &half_band.counts,
+                resampler.phases,
+                resampler.taps,
+                resampler.straight,
+                resampler.mu,
+                resampler.step,
+                &resampler.delay,
+                &resampler.prototype,
+                *cuts,
+                $($after),*
+            )
+        }
+    }};
+}
+
+pub fn park(call: &mut Park) -> u64 {
+    let span = &mut call.lent.span.elements;
+    reading_line!(
+        gauge_raw_line_park,
+        call.state,
+        [
+            span.as_mut_ptr(),
+            span.len() as u64,
+            &mut call.answer.written
+        ]
+    )
+}
+
+pub fn parked_len(call: &mut ParkedLen) -> u64 {
+    reading_line!(
+        gauge_raw_line_parked_len,
+        call.state,
+        [&mut call.answer.bytes]
+    )
+}
+
+pub fn take_up(call: &mut TakeUp) -> u64 {
+    let (sheet, line) = (&call.lent.sheet.elements, &mut call.answer.0);
+    with_line!(
+        gauge_raw_line_take_up_2,
+        [sheet.as_ptr(), sheet.len() as u64],
+        line,
+        []
+    )
+}
+
+pub fn plan(call: &mut Plan) -> u64 {
+    let settings = &call.settings;
+    let (pieces, spans) = (&call.pieces.elements, &call.spans.elements);
+    let (taken, written) = (&mut call.taken.elements, &mut call.written.elements);
+    // SAFETY: each pointer is lent with the length of its own list.
+    unsafe {
+        gauge_raw_plan(
+            settings.stages,
+            settings.r,
+            settings.factor,
+            settings.depth,
+            settings.phases,
+            settings.taps,
+            settings.straight,
+            settings.step,
+            settings.fir.elements.as_ptr(),
+            settings.fir.len() as u64,
+            settings.prototype.elements.as_ptr(),
+            settings.prototype.len() as u64,
+            pieces.as_ptr(),
+            pieces.len() as u64,
+            spans.as_ptr(),
+            spans.len() as u64,
+            taken.as_mut_ptr(),
+            taken.len() as u64,
+            written.as_mut_ptr(),
+            written.len() as u64,
+        )
+    }
 }

@@ -4,6 +4,7 @@
 pub mod float;
 pub mod integer;
 pub mod line;
+pub mod phase;
 pub mod q15;
 pub mod sheet;
 

@@ -20,7 +20,7 @@ pub fn fir_decimator_new(call: &mut fir_decimator::New) -> u64 {
     let (lent, state) = (&call.lent, &mut call.answer);
     let taps = &lent.taps.elements;
     with_fir!(
-        gauge_raw_fir_decimator_new,
+        gauge_raw_fir_decimator_new_2,
         [taps.as_ptr(), taps.len() as u64, lent.factor],
         state,
         []
@@ -32,19 +32,34 @@ pub fn fir_decimator_reset(call: &mut fir_decimator::Reset) -> u64 {
 }
 
 pub fn fir_decimator_process_sample(call: &mut fir_decimator::Step) -> u64 {
-    let mut made = u64::MAX;
+    let (mut made, mut cut) = (u64::MAX, u64::MAX);
     let refusal = with_fir!(
         gauge_raw_fir_decimator_process_sample,
         [],
         call.state,
-        [call.lent.sample, &mut made, &mut call.answer.output]
+        [
+            call.lent.sample,
+            &mut made,
+            &mut call.answer.output,
+            &mut cut
+        ]
     );
     call.answer.made = word(made);
+    call.answer.cut = word(cut);
     refusal
 }
 
-type Block =
-    unsafe extern "C" fn(*const i16, u64, *const i16, u64, u64, *mut i16, u64, &mut u64) -> u64;
+type Block = unsafe extern "C" fn(
+    *const i16,
+    u64,
+    *const i16,
+    u64,
+    u64,
+    *mut i16,
+    u64,
+    &mut u64,
+    &mut u64,
+) -> u64;
 
 fn block(function: Block, call: &mut polyphase_q15::Block) -> u64 {
     let polyphase_q15::Buffers {
@@ -63,6 +78,7 @@ fn block(function: Block, call: &mut polyphase_q15::Block) -> u64 {
             span.elements.as_mut_ptr(),
             span.len() as u64,
             &mut call.answer.written,
+            &mut call.answer.cuts,
         )
     }
 }
@@ -80,6 +96,8 @@ pub fn resample_linear_q15(call: &mut linear::Block<i16, i32>) -> u64 {
 }
 
 pub fn cut_q15(call: &mut values::Cut) -> u64 {
-    unsafe { gauge_raw_cut_q15(call.lent.sample, &mut call.answer.value) }
+    let mut cut = u64::MAX;
+    unsafe { gauge_raw_cut_q15(call.lent.sample, &mut call.answer.value, &mut cut) }
+    call.answer.cut = word(cut);
     0
 }

@@ -1,103 +1,22 @@
--- `blended` meets its contract: the loop holds the sums of both phases over the taps passed.
-use mathlib.Core.Path.{_≡_, refl}
-use Prim.Native.Nat.{ℕ, _+_, _-_, _*_, _≤_, _<_}
-use native.Mathlib.Numerals.{add-one}
+-- `blended` meets its contract: both phases are below P, so every place that `summed` reads lies in the prototype.
+use mathlib.Core.Path.{_∙_}
 use native.Mathlib.Omega.{arith}
 use borrow.Author.Needs.{needs}
-use Rattle.float.specs.PolyphaseOutput.{tap, phaseSum}
-use Rattle.float.proofs.PolyphaseOutput.{Limits, limits-say, cell, last-tap}
+use Rattle.float.proofs.PolyphaseOutput.{limits-say, phase-inside}
 use Rattle.float.proofs.polyphase_resamp.blended.Statement.{statement}
 use Rattle.float.proofs.polyphase_resamp.blended.Tie as tie
 
-abbrev Inv-loop : tie.InvT-loop
-Inv-loop prototype delay phases taps p0 p1 f y0₀ y1₀ t₀ y0 y1 t =
-    (t ≤ taps) × (y0 ≡ phaseSum prototype delay phases p0 t) × (y1 ≡ phaseSum prototype delay phases p1 t)
+summed-requires : tie.Need-summed-requires
+summed-requires c κs =
+    let s = c .before in
+    let l = limits-say _ _ (s .pre .0) in
+    (l .few-taps, s .pre .1, phase-inside _ _ _ l (s .pre .2), phase-inside _ _ _ l (s .pre .3))
 
-abbrev μ-loop : tie.MeasureT-loop
-μ-loop prototype delay phases taps p0 p1 f y0₀ y1₀ t₀ y0 y1 t = taps - t
+blend-of-requires : tie.Need-blend-of-requires
+blend-of-requires c κs = search needs
 
-loop-holds : tie.Need-loop-holds Inv-loop μ-loop
-unfolding phaseSum
-loop-holds c = (omega arith, refl, refl)
-
-limits : (c : tie.In-loop Inv-loop μ-loop) → Limits (c .before .before .args .phases) (c .before .before .args .taps)
-limits c = limits-say _ _ (c .before .before .pre .0)
-
-mul-x : tie.Need-mul-x Inv-loop μ-loop
-mul-x c = record { fits = omega (arith, limits c .few-taps) }
-
-shared-slice-read-x : tie.Need-shared-slice-read-x Inv-loop μ-loop
-shared-slice-read-x c = search needs
-
--- tap t of either phase lies in the prototype
-cell-lent : (c : tie.In-loop Inv-loop μ-loop) (p : ℕ) → p < c .before .before .args .phases → c .before .loop .t * c .before .before .args .phases + p < 1024
-cell-lent c p h = cell _ _ p _ (c .loop-test .taken) (limits c .few-taps) (limits c .few-phases) h
-
-lent0 : (c : tie.In-loop Inv-loop μ-loop) → c .before .loop .t * c .before .before .args .phases + c .before .before .args .p0 < 1024
-lent0 c = cell-lent c _ (c .before .before .pre .2)
-
-lent1 : (c : tie.In-loop Inv-loop μ-loop) → c .before .loop .t * c .before .before .args .phases + c .before .before .args .p1 < 1024
-lent1 c = cell-lent c _ (c .before .before .pre .3)
-
-mul-y0 : tie.Need-mul-y0 Inv-loop μ-loop
-mul-y0 c = record { fits = omega (arith, lent0 (c .before)) }
-
-add-y0 : tie.Need-add-y0 Inv-loop μ-loop
-add-y0 c = record { fits = omega (arith, lent0 (c .before)) }
-
-mul-y0-2 : tie.Need-mul-y0-2 Inv-loop μ-loop
-mul-y0-2 c = record { fits = omega (arith, lent0 (c .before)) }
-
-element-copy-out-y0 : tie.Need-element-copy-out-y0 Inv-loop μ-loop
-element-copy-out-y0 c = lent0 (c .before)
-
-mul-y1 : tie.Need-mul-y1 Inv-loop μ-loop
-mul-y1 c = record { fits = omega (arith, lent1 (c .before .before)) }
-
-add-y1 : tie.Need-add-y1 Inv-loop μ-loop
-add-y1 c = record { fits = omega (arith, lent1 (c .before .before)) }
-
-mul-y1-2 : tie.Need-mul-y1-2 Inv-loop μ-loop
-mul-y1-2 c = record { fits = omega (arith, lent1 (c .before .before)) }
-
-element-copy-out-y1 : tie.Need-element-copy-out-y1 Inv-loop μ-loop
-element-copy-out-y1 c = lent1 (c .before .before)
-
-add-t : tie.Need-add-t Inv-loop μ-loop
-add-t c = search needs
-
-loop-less : tie.Need-loop-less Inv-loop μ-loop
-loop-less c = search needs
-
-loop-again : tie.Need-loop-again Inv-loop μ-loop
-unfolding phaseSum tap
-loop-again c =
-    let l = c .before .before .before .before .loop in
-    (search needs, rw (add-one, l .inv .1), rw (add-one, l .inv .2))
-
-returns : tie.Need-returns Inv-loop μ-loop
-returns c =
-    let i = c .before .loop .inv in
-    rw (← last-tap _ _ _ _ _ _ _ (i .0) (c .loop-test .left) (i .1), ← last-tap _ _ _ _ _ _ _ (i .0) (c .loop-test .left) (i .2))
+returns : tie.Need-returns
+returns c = let s = c .before .summed .ensures in c .blend-of .ensures ∙ rw (s .0, s .1)
 
 pub blended-spec : {M : Type 1} → statement M
-blended-spec =
-    tie.close
-    (tie.spec
-    Inv-loop
-    μ-loop
-    loop-holds
-    mul-x
-    shared-slice-read-x
-    mul-y0
-    add-y0
-    mul-y0-2
-    element-copy-out-y0
-    mul-y1
-    add-y1
-    mul-y1-2
-    element-copy-out-y1
-    add-t
-    loop-less
-    loop-again
-    returns)
+blended-spec = tie.close (tie.spec summed-requires blend-of-requires returns)

@@ -1,32 +1,32 @@
--- `run` meets its contract: the loop keeps `Between` of the state put together from its locals, whose delay is the one on the tape (`Tape`), and each turn
--- is one of its laws.
+-- `run` meets its contract: the loop keeps `Between` of the state put together from its locals, whose delay is the one on the tape (`Tape`); the outputs that
+-- are due carry it on (`due-between`), and so does a sample.
 use mathlib.Core.Path.{_≡_, refl, sym, _∙_}
 use mathlib.Core.Logic.{inl, inr}
+use mathlib.Core.Bool.{false}
+use mathlib.Core.List.{List}
 use Prim.Native.Nat.{_+_, _-_, _≤_, _<_}
 use native.Mathlib.Omega.{arith}
 use borrow.Author.Needs.{needs}
 use denote.Ref.{now}
 use lib.ListN.{length, take, drop, replicate, length-take, length-drop}
 use lib.Seq.{length-take-le}
-use lib.Ieee.{nan}
-use Rattle.theory.proofs.FeedRules.{Between, between-start, after-output, after-input, Ended, ended-full, ended-dry}
-use Rattle.float.specs.F32.{zero32}
-use Rattle.float.specs.PolyphaseOutput.{output}
-use Rattle.float.specs.PolyphaseResamp.{consumed, outputOf, passed, resampler, together}
-use Rattle.float.proofs.PolyphaseCalls.{finished}
+use lib.Ieee.{Float, nan, lt}
+use Rattle.theory.proofs.FeedRules.{Between, between-start, after-input, Ended, ended-full, ended-dry}
+use Rattle.float.specs.F32.{zero32, one32}
+use Rattle.float.specs.PolyphaseResamp.{consumed, resampler, together, toldDue}
+use Rattle.float.proofs.PolyphaseCalls.{finished, due-between}
 use Rattle.float.proofs.PolyphaseOutput.{Limits, limits-say, outputs-alike}
 use Rattle.float.proofs.Tape.{ends-in, wound, wound-start, wound-in, wound-at, wound-off}
 use Rattle.float.proofs.polyphase_resamp.run.Statement.{statement}
 use Rattle.float.proofs.polyphase_resamp.run.Tie as tie
 
 abbrev Inv-loop : tie.InvT-loop
-Inv-loop prototype delay phases taps step mu src dst₀ held tape₀ newest₀ at₀ taken₀ written₀ dst tape newest at taken written =
-    (Between resampler (together phases taps mu step delay prototype) src dst₀ dst (together phases taps at step (wound taps tape newest delay) prototype) taken written)
+Inv-loop prototype delay straight phases taps step mu src dst₀ held tape₀ newest₀ at₀ taken₀ written₀ dst tape newest at taken written =
+    (Between resampler (together straight phases taps mu step delay prototype) src dst₀ dst (together straight phases taps at step (wound taps tape newest delay) prototype) taken written)
     × (newest + taps ≤ 80) × (length tape ≡ 80)
 
 abbrev μ-loop : tie.MeasureT-loop
-μ-loop prototype delay phases taps step mu src dst₀ held tape₀ newest₀ at₀ taken₀ written₀ dst tape newest at taken written =
-    length src - taken + (length dst₀ - written)
+μ-loop prototype delay straight phases taps step mu src dst₀ held tape₀ newest₀ at₀ taken₀ written₀ dst tape newest at taken written = length src - taken
 
 limits : (c : tie.Start Inv-loop μ-loop) → Limits (c .args .phases) (c .args .taps)
 limits c = limits-say _ _ (c .pre .0)
@@ -58,71 +58,82 @@ loop-holds c =
     let fits : length (take (a .taps) (now (a .delay))) ≤ 80 = omega (arith, taps-long s, few) in
     let start : wound (a .taps) (c .before .put-at-end .last .0) (80 - a .taps) (now (a .delay)) ≡ now (a .delay) =
     rw (c .before .put-at-end .ensures, ends-in (take (a .taps) (now (a .delay))) (replicate 80 zero32) fits, taps-long s) (wound-start (a .taps) (now (a .delay)) (replicate 80 zero32) (omega arith)) in
-    (rw start (between-start resampler (together (a .phases) (a .taps) (a .mu) (a .step) (now (a .delay)) (now (a .prototype))) (now (a .src)) (now (a .dst))), omega arith, c .before .put-at-end .kept .0)
+    (rw start (between-start resampler (together (a .straight) (a .phases) (a .taps) (a .mu) (a .step) (now (a .delay)) (now (a .prototype))) (now (a .src)) (now (a .dst))), omega arith, c .before .put-at-end .kept .0)
 
-mul-interpolate-within : tie.Need-mul-interpolate-within Inv-loop μ-loop
-mul-interpolate-within c = search needs
+mul-window : tie.Need-mul-window Inv-loop μ-loop
+mul-window c = search needs
 
-sub-interpolate-within : tie.Need-sub-interpolate-within Inv-loop μ-loop
-sub-interpolate-within c = search needs
+sub-window : tie.Need-sub-window Inv-loop μ-loop
+sub-window c = search needs
 
-part-interpolate-within-start : tie.Need-part-interpolate-within-start Inv-loop μ-loop
-part-interpolate-within-start c = search needs
+part-window-start : tie.Need-part-window-start Inv-loop μ-loop
+part-window-start c = search needs
 
-part-interpolate-within-end : tie.Need-part-interpolate-within-end Inv-loop μ-loop
-part-interpolate-within-end c = search needs
+part-window-end : tie.Need-part-window-end Inv-loop μ-loop
+part-window-end c = search needs
 
-interpolate-within-requires : tie.Need-interpolate-within-requires Inv-loop μ-loop
-interpolate-within-requires c κs =
-    let i = c .before .before .before .before .loop .inv in
-    (c .before .before .before .before .before .before .before .before .before .before .before .before .pre .0, simp (length-take, length-drop) (omega (arith, i)))
+-- the places that the facts below come from: each path is counted once
+abbrev begun : tie.At-loop Inv-loop μ-loop → tie.Start Inv-loop μ-loop
+begun c = c .before .before .before .before .before .before .before .before
 
-mul-dst : tie.Need-mul-dst Inv-loop μ-loop
-mul-dst c = search needs
+abbrev entered : tie.After-due-within Inv-loop μ-loop → tie.At-loop Inv-loop μ-loop
+entered c = c .before .before .before .before
 
-slice-write-dst : tie.Need-slice-write-dst Inv-loop μ-loop
-slice-write-dst c = search needs
+due-within-requires : tie.Need-due-within-requires Inv-loop μ-loop
+due-within-requires c κs =
+    let l = c .before .before .before in
+    (begun l .pre .0, simp (length-take, length-drop) (omega (arith, l .loop .inv)))
 
-add-written : tie.Need-add-written Inv-loop μ-loop
-add-written c = search needs
+-- the span after the outputs that were due, and the state
+abbrev spanned : tie.After-due-within Inv-loop μ-loop → List Float
+spanned c = c .due-within .last .1 .1 .1 .1 .1 .1 .1 .0
 
-loop-less : tie.Need-loop-less Inv-loop μ-loop
-loop-less c = search needs
+abbrev Drained : tie.After-due-within Inv-loop μ-loop → Type 0
+Drained c =
+    let a = begun (entered c) .args in
+    let l = entered c .loop in
+    let r = c .due-within .result in
+    Between resampler (together (a .straight) (a .phases) (a .taps) (a .mu) (a .step) (now (a .delay)) (now (a .prototype))) (now (a .src)) (now (a .dst)) (spanned c) (together (a .straight) (a .phases) (a .taps) (r .mu) (a .step) (wound (a .taps) (l .tape) (l .newest) (now (a .delay))) (now (a .prototype))) (l .taken) (r .written)
+    × (r .written < length (spanned c) → lt (r .mu) one32 ≡ false)
 
-loop-again : tie.Need-loop-again Inv-loop μ-loop
-unfolding resampler outputOf passed
-loop-again c =
-    let l = c .before .before .before .before .before .loop in
-    let s = c .before .before .before .before .before .before .before .before .before .before .before .before .before in
+drained : (c : tie.After-due-within Inv-loop μ-loop) → Drained c
+drained c =
+    let s = begun (entered c) in
     let a = s .args in
+    let l = entered c .loop in
     let some : 0 < a .phases = let g = limits s .some-phases in omega arith in
-    let y : c .interpolate-within .result ≡ output (a .phases) (a .taps) (l .at) (wound (a .taps) (l .tape) (l .newest) (now (a .delay))) (now (a .prototype)) =
-    c .interpolate-within .ensures ∙ outputs-alike (a .phases) (a .taps) (now (a .prototype)) (now (a .prototype)) _ _ some (λ p t b u. refl) (λ t u. wound-at (a .taps) (now (a .delay)) (l .tape) (l .newest) (80 - l .newest) t (omega (arith, l .inv)) (omega (arith, l .inv)) u) (l .at) in
-    (rw y (after-output resampler _ _ _ _ _ _ _ (l .inv .0) (c .before .before .before .if1 .taken) (c .before .before .before .before .loop-test .taken)), l .inv .1, l .inv .2)
+    due-between (a .straight) (a .phases) (a .taps) (a .step) _ (wound (a .taps) (l .tape) (l .newest) (now (a .delay))) (now (a .prototype)) (together (a .straight) (a .phases) (a .taps) (a .mu) (a .step) (now (a .delay)) (now (a .prototype))) (now (a .src)) (now (a .dst)) (l .taken)
+    (λ mu. outputs-alike (a .phases) (a .taps) (now (a .prototype)) (now (a .prototype)) _ _ some (λ i u. refl) (λ t u. wound-at (a .taps) (now (a .delay)) (l .tape) (l .newest) (80 - l .newest) t (omega (arith, l .inv)) (omega (arith, l .inv)) u) (a .straight) mu)
+    (l .at) (l .written) (l .dst) (l .inv .0) (toldDue (c .due-within .result) (spanned c)) (c .due-within .ensures)
 
 mul-take-in : tie.Need-mul-take-in Inv-loop μ-loop
 mul-take-in c = search needs
 
 shared-slice-read-take-in : tie.Need-shared-slice-read-take-in Inv-loop μ-loop
-shared-slice-read-take-in c = search needs
+shared-slice-read-take-in c = omega (arith, c .before .before .if2 .left)
 
 take-in-requires : tie.Need-take-in-requires Inv-loop μ-loop
-take-in-requires c κs = let i = c .before .before .before .before .before .loop .inv in let l = limits (c .before .before .before .before .before .before .before .before .before .before .before .before .before) in (i .2, l .some-taps, l .few-taps, i .1)
+take-in-requires c κs =
+    let e = entered (c .before .before .before .before .before .before) in
+    let l = limits (begun e) in
+    (e .loop .inv .2, l .some-taps, l .few-taps, e .loop .inv .1)
 
 add-taken : tie.Need-add-taken Inv-loop μ-loop
 add-taken c = search needs
 
-loop-less-2 : tie.Need-loop-less-2 Inv-loop μ-loop
-loop-less-2 c = search needs
+loop-less : tie.Need-loop-less Inv-loop μ-loop
+loop-less c = omega (arith, c .before .before .before .if2 .left)
 
-loop-again-2 : tie.Need-loop-again-2 Inv-loop μ-loop
+loop-again : tie.Need-loop-again Inv-loop μ-loop
 unfolding resampler consumed
-loop-again-2 c =
-    let l = c .before .before .before .before .before .before .loop in
-    let s = c .before .before .before .before .before .before .before .before .before .before .before .before .before .before in
+loop-again c =
+    let d = c .before .before .before .before .before .before .before in
+    let l = entered d .loop in
+    let s = begun (entered d) in
     let a = s .args in
+    let place = c .before .before .before .before .if1 .left in
     let moved = wound-in (a .taps) (now (a .delay)) (l .tape) (c .take-in .last .0) (l .newest) (c .take-in .result) _ (limits s .few-taps) (omega (arith, l .inv)) (c .take-in .ensures .2) in (
-      rw moved (after-input resampler _ _ _ _ _ _ _ (l .inv .0) nan (c .before .before .before .before .if1 .left) refl (c .before .before .before .before .before .loop-test .taken) (c .before .before .before .if2 .left)),
+      rw moved (after-input resampler _ _ _ _ _ _ _ (drained d .0) nan (drained d .1 place) refl place (c .before .before .before .if2 .left)),
       c .take-in .ensures .1,
       c .take-in .ensures .0,
     )
@@ -131,10 +142,10 @@ add-past : tie.Need-add-past Inv-loop μ-loop
 add-past c = search needs
 
 array-borrow-prefix-held : tie.Need-array-borrow-prefix-held Inv-loop μ-loop
-array-borrow-prefix-held c = let s = c .before .before .before .before .before .before .before .before .before in omega (arith, limits s .few-taps, s .pre .1)
+array-borrow-prefix-held c = let s = begun (entered (c .before .before .before)) in omega (arith, limits s .few-taps, s .pre .1)
 
 slice-aggregate-put-at-end-3 : tie.Need-slice-aggregate-put-at-end-3 Inv-loop μ-loop
-slice-aggregate-put-at-end-3 c = sym (taps-long (c .before .before .before .before .before .before .before .before .before .before))
+slice-aggregate-put-at-end-3 c = sym (taps-long (begun (entered (c .before .before .before .before))))
 
 mul-put-at-end : tie.Need-mul-put-at-end Inv-loop μ-loop
 mul-put-at-end c = search needs
@@ -152,25 +163,27 @@ put-at-end-requires-2 : tie.Need-put-at-end-requires-2 Inv-loop μ-loop
 put-at-end-requires-2 c κs = search needs
 
 same-length : tie.Need-same-length Inv-loop μ-loop
-same-length c = c .before .before .before .before .before .before .loop .inv .0 .same
+same-length c = drained (c .before .before .before .before .before .before .before .before) .0 .same
 
 -- both ways out of the loop
-ended : (c : tie.Left-loop Inv-loop μ-loop) → Ended resampler _ _ _ _ _ _ _ (c .before .loop .inv .0)
+ended : (c : tie.Joined1 Inv-loop μ-loop) → Ended resampler _ _ _ _ _ _ _ (drained (c .before .before .before) .0)
 unfolding resampler
 ended c =
-    elim (c .loop-test .came) [
-      | inl w ↦ ended-full resampler _ _ _ _ _ _ _ (c .before .loop .inv .0) (w .left)
-      | inr w ↦ ended-dry resampler _ _ _ _ _ _ _ (c .before .loop .inv .0) (w .1 .left) (w .2 .taken)
+    let d = c .before .before .before in
+    elim (c .if1 .came) [
+      | inl w ↦ ended-full resampler _ _ _ _ _ _ _ (drained d .0) (w .taken)
+      | inr w ↦ ended-dry resampler _ _ _ _ _ _ _ (drained d .0) (drained d .1 (w .0 .left)) (w .1 .taken)
     ]
 
 returns : tie.Need-returns Inv-loop μ-loop
 returns c =
-    let l = c .before .before .before .before .before .before .loop in
-    let s = c .before .before .before .before .before .before .before .before .before .before .before .before .before .before in
+    let d = c .before .before .before .before .before .before .before .before in
+    let l = entered d .loop in
+    let s = begun (entered d) in
     let a = s .args in
     let fits : length (take (l .newest + a .taps - l .newest) (drop (l .newest) (l .tape))) ≤ length (take (a .taps) (now (a .delay))) = omega (arith, taps-long s, length-take (l .newest + a .taps - l .newest) (drop (l .newest) (l .tape))) in
     let off = wound-off (a .taps) (now (a .delay)) (l .tape) (c .before .put-at-end2 .last .0) (l .newest) (l .newest + a .taps - l .newest) (omega arith) (omega (arith, l .inv)) (omega (arith, limits s .few-taps, s .pre .1)) (c .before .put-at-end2 .ensures ∙ ends-in _ _ fits) in
-    rw off (finished _ _ _ _ _ _ _ _ _ _ _ (l .inv .0) (ended (c .before .before .before .before .before)))
+    rw off (finished _ _ _ _ _ _ _ _ _ _ _ _ (drained d .0) (ended (c .before .before .before .before .before)))
 
 pub run-spec : {M : Type 1} → statement M
 run-spec =
@@ -184,22 +197,17 @@ run-spec =
     put-at-end-requires
     sub-newest
     loop-holds
-    mul-interpolate-within
-    sub-interpolate-within
-    part-interpolate-within-start
-    part-interpolate-within-end
-    interpolate-within-requires
-    mul-dst
-    slice-write-dst
-    add-written
-    loop-less
-    loop-again
+    mul-window
+    sub-window
+    part-window-start
+    part-window-end
+    due-within-requires
     mul-take-in
     shared-slice-read-take-in
     take-in-requires
     add-taken
-    loop-less-2
-    loop-again-2
+    loop-less
+    loop-again
     add-past
     array-borrow-prefix-held
     slice-aggregate-put-at-end-3

@@ -1,7 +1,6 @@
 -- `gauge_raw_fir_decimator_process_sample` meets its contract: it hands over what the layer's `process_sample` answers, field by field.
 use mathlib.Core.Path.{_≡_, ap}
-use lib.IntN.{pos}
-use Rattle.gauge_line.specs.Crossing.{crossed}
+use Rattle.gauge_line.specs.Crossing.{crossedFir}
 use borrow.Author.Needs.{needs}
 use mir.Syntax.{w16}
 use mir.Val.{SFits}
@@ -26,17 +25,23 @@ fir-made-requires c κs = search needs
 fir-value-requires : tie.Need-fir-value-requires
 fir-value-requires c κs = search needs
 
+flag-requires : tie.Need-flag-requires
+flag-requires c κs = search needs
+
 fir-number-requires : tie.Need-fir-number-requires
 fir-number-requires c κs = search needs
 
 returns : tie.Need-returns
 returns c =
-    let f : SFits w16 (c .before .fir-value .result) = record { sfits = c .before .fir-value .ok } in
-    let put = c .before .before .before in
+    let flag = c .before in
+    let value = flag .before in
+    let made = value .before in
+    let f : SFits w16 (value .fir-value .result) = record { sfits = value .fir-value .ok } in
+    let put = made .before in
     let done = put .before .before .before .before .before .before .before in
     let built = done .before in
-    rw (toZ-ofZ f, c .fir-number .ensures, c .before .fir-value .ensures, c .before .before .fir-made .ensures, put .put-fir .ensures)
-    (ap (crossed (pos 0)) (rw (toZ-ofZ (built .before .before .before .before .before .before .fits .sample), built .fir .ensures) at (done .process-sample .ensures)))
+    rw (toZ-ofZ f, c .fir-number .ensures, flag .flag .ensures, value .fir-value .ensures, made .fir-made .ensures, put .put-fir .ensures)
+    (ap crossedFir (rw (toZ-ofZ (built .before .before .before .before .before .before .fits .sample), built .fir .ensures) at (done .process-sample .ensures)))
 
 pub gauge-raw-fir-decimator-process-sample-spec : {M : Type 1} → statement M
 gauge-raw-fir-decimator-process-sample-spec =
@@ -47,5 +52,6 @@ gauge-raw-fir-decimator-process-sample-spec =
     put-fir-requires
     fir-made-requires
     fir-value-requires
+    flag-requires
     fir-number-requires
     returns)

@@ -1,6 +1,11 @@
 -- `gauge_raw_line_reset` meets its contract: it hands over what the layer's `reset` answers, field by field.
-use mathlib.Core.Path.{_≡_, _∙_}
+use mathlib.Core.Path.{_≡_, ap, _∙_, subst⁻¹}
+use mathlib.Core.Bool.{true}
 use borrow.Author.Needs.{needs}
+use Rattle.line.specs.Line as L
+use Rattle.line.specs.declared.gauge_line.Line.{Line}
+use Rattle.gauge_line.proofs.Lines.{same-line, same-opened}
+use Rattle.gauge_line.proofs.Setting.{same-setting}
 use Rattle.gauge_line.proofs.gauge_line.gauge_raw_line_reset.Statement.{statement}
 use Rattle.gauge_line.proofs.gauge_line.gauge_raw_line_reset.Tie as tie
 
@@ -12,6 +17,9 @@ fir-requires c κs = search needs
 
 stream-requires : tie.Need-stream-requires
 stream-requires c κs = search needs
+
+is-set-requires : tie.Need-is-set-requires
+is-set-requires c κs = search needs
 
 resampler-requires : tie.Need-resampler-requires
 resampler-requires c κs = search needs
@@ -37,19 +45,22 @@ opening-number-requires c κs = search needs
 returns : tie.Need-returns
 returns c =
     let resampler = c .before in
-    let half-band = resampler .before .before .before .before .before .before .before in
+    let half-band = resampler .before .before .before .before .before .before .before .before in
     let fir = half-band .before .before .before .before .before in
     let cic = fir .before .before .before .before .before .before in
     let done = cic .before .before .before .before .before .before .before in
-    let lent-resampler = done .before in
-    let lent-half-band = lent-resampler .before .before .before .before .before in
+    let lent-resampler = done .before .before in
+    let set = lent-resampler .before .before .before in
+    let lent-half-band = set .before .before .before .before in
     let lent-fir = lent-half-band .before .before .before .before .before in
-    let lent-cic = lent-fir .before .before .before .before .before .before in (
-      rw (c .opening-number .ensures, resampler .put-resampler .ensures, half-band .put-stream .ensures, fir .put-fir .ensures, cic .put-decimator .ensures)
-          (rw (lent-resampler .resampler .ensures, lent-half-band .stream .ensures, lent-fir .fir .ensures, lent-cic .decimator .ensures) at (done .reset .ensures .0)),
-      λ valid.
-          c .opening-number .ensures
-          ∙ rw (lent-resampler .resampler .ensures, lent-half-band .stream .ensures, lent-fir .fir .ensures, lent-cic .decimator .ensures) at (done .reset .ensures .1) valid,
+    let lent-cic = lent-fir .before .before .before .before .before .before in
+    let lent = same-line _ _ _ _ _ _ _ _ _ (lent-cic .decimator .ensures) (lent-fir .fir .ensures) (lent-half-band .stream .ensures) (same-setting _ _ _ _ _ _ _ _ _ (lent-resampler .resampler .ensures) (set .is-set .ensures)) in
+    let told = same-line _ _ _ _ _ _ _ _ _ (cic .put-decimator .ensures) (fir .put-fir .ensures) (half-band .put-stream .ensures) (resampler .put-resampler .ensures .0) in (
+      resampler .put-resampler .ensures .1,
+      (
+        same-opened _ _ _ _ _ (c .opening-number .ensures) told (done .reset .ensures .0 ∙ ap L.reset lent),
+        λ valid. c .opening-number .ensures ∙ done .reset .ensures .1 (subst⁻¹ (λ (l : Line). L.valid l ≡ true) lent valid),
+      ),
     )
 
 pub gauge-raw-line-reset-spec : {M : Type 1} → statement M
@@ -59,6 +70,7 @@ gauge-raw-line-reset-spec =
     decimator-requires
     fir-requires
     stream-requires
+    is-set-requires
     resampler-requires
     reset-requires
     put-decimator-requires

@@ -18,8 +18,8 @@ opening-number-requires c κs = search needs
 returns : tie.Need-returns
 returns c =
     let put = c .before in
-    let done = put .before .before .before .before .before .before .before .before in
-    rw (c .opening-number .ensures, put .put-resampler .ensures) (done .from-taps .ensures)
+    let done = put .before .before .before .before .before .before .before .before .before in
+    (put .put-resampler .ensures .1, rw (c .opening-number .ensures, put .put-resampler .ensures .0) (done .from-taps .ensures))
 
 pub gauge-raw-polyphase-resamp-from-taps-spec : {M : Type 1} → statement M
 gauge-raw-polyphase-resamp-from-taps-spec =

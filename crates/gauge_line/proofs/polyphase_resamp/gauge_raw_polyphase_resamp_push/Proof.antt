@@ -1,9 +1,12 @@
 -- `gauge_raw_polyphase_resamp_push` meets its contract: it hands over what the layer's `push_at` answers on the lent state, and the claims follow from the two equations (`push-kept`).
-use mathlib.Core.Path.{_≡_}
+use mathlib.Core.Path.{_≡_, refl}
 use borrow.Author.Needs.{needs}
 use Rattle.float.proofs.PolyphaseCalls.{push-kept}
 use Rattle.gauge_line.proofs.polyphase_resamp.gauge_raw_polyphase_resamp_push.Statement.{statement}
 use Rattle.gauge_line.proofs.polyphase_resamp.gauge_raw_polyphase_resamp_push.Tie as tie
+
+is-set-requires : tie.Need-is-set-requires
+is-set-requires c κs = search needs
 
 push-at-requires : tie.Need-push-at-requires
 push-at-requires c κs = search needs
@@ -19,10 +22,12 @@ same-length c = search needs
 
 returns : tie.Need-returns
 returns c =
-    let e = c .before .before .before .before .push-at .ensures in
-    rw (c .count-number .ensures, c .before .count-written .ensures) (e .0, (e .1, push-kept _ _ _ _ _ (e .0) (e .1)))
+    let done = c .before .before .before .before in
+    let set = done .before .before .before .before .before .before in
+    let e = rw (set .is-set .ensures) at (done .push-at .ensures) in
+    (refl, rw (c .count-number .ensures, c .before .count-written .ensures) (e .0, (e .1, push-kept _ _ _ _ _ (e .0) (e .1))))
 
 pub gauge-raw-polyphase-resamp-push-spec : {M : Type 1} → statement M
 gauge-raw-polyphase-resamp-push-spec =
     tie.close
-    (tie.spec push-at-requires count-written-requires count-number-requires same-length returns)
+    (tie.spec is-set-requires push-at-requires count-written-requires count-number-requires same-length returns)

@@ -4,6 +4,9 @@ use borrow.Author.Needs.{needs}
 use Rattle.gauge_line.proofs.polyphase_resamp.gauge_raw_polyphase_resamp_reset.Statement.{statement}
 use Rattle.gauge_line.proofs.polyphase_resamp.gauge_raw_polyphase_resamp_reset.Tie as tie
 
+is-set-requires : tie.Need-is-set-requires
+is-set-requires c κs = search needs
+
 resampler-requires : tie.Need-resampler-requires
 resampler-requires c κs = search needs
 
@@ -19,14 +22,18 @@ opening-number-requires c κs = search needs
 returns : tie.Need-returns
 returns c =
     let put = c .before in
-    let done = put .before .before .before .before .before .before .before .before in
+    let done = put .before .before .before .before .before .before .before .before .before in
     let built = done .before in
-    rw (c .opening-number .ensures, put .put-resampler .ensures) (rw (built .resampler .ensures) at (done .reset .ensures))
+    let set = built .before .before .before in (
+      put .put-resampler .ensures .1,
+      rw (c .opening-number .ensures, put .put-resampler .ensures .0) (rw (built .resampler .ensures, set .is-set .ensures) at (done .reset .ensures)),
+    )
 
 pub gauge-raw-polyphase-resamp-reset-spec : {M : Type 1} → statement M
 gauge-raw-polyphase-resamp-reset-spec =
     tie.close
     (tie.spec
+    is-set-requires
     resampler-requires
     reset-requires
     put-resampler-requires

@@ -14,7 +14,11 @@ entries-number-requires : tie.Need-entries-number-requires
 entries-number-requires c κs = search needs
 
 returns : tie.Need-returns
-returns c = rw (c .entries-number .ensures, c .before .entries-value .ensures) (c .before .before .sheet-count .ensures)
+returns c =
+    let counted = c .before .before .sheet-count .ensures in (
+      rw (c .entries-number .ensures, c .before .entries-value .ensures) (counted .0),
+      λ h. rw (c .entries-number .ensures, c .before .entries-value .ensures) (counted .1 h),
+    )
 
 pub gauge-raw-sheet-count-spec : {M : Type 1} → statement M
 gauge-raw-sheet-count-spec =

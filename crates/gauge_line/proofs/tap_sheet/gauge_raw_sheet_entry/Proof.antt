@@ -4,8 +4,9 @@ use Prim.Native.Nat.{ℕ}
 use lib.ListN.{length}
 use denote.Ref.{now}
 use Rattle.refusal.specs.Outcome.{Answer}
-use Rattle.sheet.specs.Sheet.{former, entry, entryAnswer}
+use Rattle.sheet.specs.Sheet.{present, entry, entryAnswer}
 use Rattle.sheet.proofs.Answering.{entry-at}
+use Rattle.sheet.proofs.Rules.{entry-answer-same}
 use borrow.Author.Needs.{needs}
 use Rattle.gauge_line.proofs.tap_sheet.gauge_raw_sheet_entry.Statement.{statement}
 use Rattle.gauge_line.proofs.tap_sheet.gauge_raw_sheet_entry.Tie as tie
@@ -25,13 +26,16 @@ size-number-requires c κs = search needs
 returns : tie.Need-returns
 unfolding entryAnswer
 returns c =
-    let sized : c .before .size-value .result ≡ length (entry former (now (c .before .before .before .before .before .args .bytes)) (c .before .before .before .before .before .args .count) (c .before .before .before .before .before .args .k)) =
+    let sized : c .before .size-value .result ≡ length (entry present (now (c .before .before .before .before .before .args .bytes)) (c .before .before .before .before .before .args .count) (c .before .before .before .before .before .args .k)) =
     c .before .size-value .ensures ∙ ap (λ (a : Answer ℕ). a .value) (c .before .before .entry-size .ensures)
     in (
       rw (c .size-number .ensures, c .before .size-value .ensures) (c .before .before .entry-size .ensures),
       (
         c .before .before .before .entry-offset .ensures,
-        rw (sized, c .before .before .before .entry-offset .ensures) (entry-at former _ _ _),
+        (
+          rw (sized, c .before .before .before .entry-offset .ensures) (entry-at present _ _ _),
+          λ h. rw (c .size-number .ensures, c .before .size-value .ensures) (c .before .before .entry-size .ensures ∙ entry-answer-same _ h _ _),
+        ),
       ),
     )
 

@@ -22,7 +22,10 @@ returns c =
       rw (c .count-number .ensures, c .before .count-written .ensures) (wrote .0),
       (
         wrote .1 .0,
-        λ none. rw (c .before .count-written .ensures) (wrote .1 .1 (sym (c .count-number .ensures) ∙ none)),
+        (
+          λ none. rw (c .before .count-written .ensures) (wrote .1 .1 .0 (sym (c .count-number .ensures) ∙ none)),
+          λ none. rw (c .before .count-written .ensures) (wrote .1 .1 .1 (sym (c .count-number .ensures) ∙ none)),
+        ),
       ),
     )
 

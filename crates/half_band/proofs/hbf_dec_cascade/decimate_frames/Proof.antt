@@ -9,7 +9,9 @@ use lib.Seq.{length-take-le}
 use lib.Ieee.{Float}
 use denote.Ref.{now}
 use Rattle.half_band.specs.Windows.{spliced}
-use Rattle.half_band.specs.HbfStream.{hbfStream}
+use Rattle.half_band.specs.HbfStream.{stream}
+use Rattle.half_band.specs.HbfTaps.{stageTaps}
+use Rattle.half_band.specs.HbfTaps98.{tableOf}
 use Rattle.half_band.proofs.Blocks.{Emitted, emitted-start, emitted-many}
 use Rattle.half_band.proofs.Splicing.{length-splice}
 use Rattle.half_band.proofs.DecCascades.{bare, Turn, turn}
@@ -19,10 +21,10 @@ use Rattle.half_band.proofs.hbf_dec_cascade.decimate_frames.Statement.{
 use Rattle.half_band.proofs.hbf_dec_cascade.decimate_frames.Tie as tie
 
 abbrev Inv-loop : tie.InvT-loop
-Inv-loop depth delays₀ src dst₀ frames factor most done₀ delays dst done = (done ≤ frames) × (length delays ≡ 480) × Emitted hbfStream (bare depth delays₀) src dst₀ (bare depth delays) dst (done * factor) done
+Inv-loop depth delays₀ src dst₀ frames table factor most done₀ delays dst done = (done ≤ frames) × (length delays ≡ 480) × Emitted (stream (stageTaps (tableOf table))) (bare depth delays₀) src dst₀ (bare depth delays) dst (done * factor) done
 
 abbrev μ-loop : tie.MeasureT-loop
-μ-loop depth delays₀ src dst₀ frames factor most done₀ delays dst done = frames - done
+μ-loop depth delays₀ src dst₀ frames table factor most done₀ delays dst done = frames - done
 
 abbrev begun : tie.After-rate-change Inv-loop μ-loop → tie.Start Inv-loop μ-loop
 begun c = c .before .before .before .before
@@ -79,7 +81,7 @@ loop-holds c =
     let s = bare (a .depth) (now (a .delays)) in (
       omega arith,
       begun c .pre .1,
-      subst (λ (i : ℕ). Emitted hbfStream s (now (a .src)) (now (a .dst)) s (now (a .dst)) i 0) (sym (zero-mul (c .rate-change .result))) (emitted-start hbfStream s (now (a .src)) (now (a .dst))),
+      subst (λ (i : ℕ). Emitted (stream (stageTaps (tableOf (a .table)))) s (now (a .src)) (now (a .dst)) s (now (a .dst)) i 0) (sym (zero-mul (c .rate-change .result))) (emitted-start (stream (stageTaps (tableOf (a .table)))) s (now (a .src)) (now (a .dst))),
     )
 
 add-smaller : tie.Need-add-smaller Inv-loop μ-loop
@@ -148,12 +150,12 @@ loop-again c =
     let u = bare (a .depth) (o .last .1 .0) in
     let w = made-long (c .before .before .before .before) in
     let span = spliced d (e - d) y (l .dst) in
-    let all = emitted-many hbfStream s (now (a .src)) (now (a .dst)) (bare (a .depth) (l .delays)) (l .dst) (d * f) d (l .inv .2) (e * f - d * f) (e - d) u y (o .ensures .0) (o .ensures .1) w
+    let all = emitted-many (stream (stageTaps (tableOf (a .table)))) s (now (a .src)) (now (a .dst)) (bare (a .depth) (l .delays)) (l .dst) (d * f) d (l .inv .2) (e * f - d * f) (e - d) u y (o .ensures .0) (o .ensures .1) w
     (length-splice d (e - d) y (l .dst) w (omega (arith, t .more, t .most, l .inv .2 .same, begun r .pre))) in (
       t .most,
       delays-long (c .before .before .before .before),
-      subst (λ (k : ℕ). Emitted hbfStream s (now (a .src)) (now (a .dst)) u span (e * f) k) (add-sub-of-le (le-of-lt (t .more)))
-          (subst (λ (i : ℕ). Emitted hbfStream s (now (a .src)) (now (a .dst)) u span i (d + (e - d))) (add-sub-of-le (t .before)) all),
+      subst (λ (k : ℕ). Emitted (stream (stageTaps (tableOf (a .table)))) s (now (a .src)) (now (a .dst)) u span (e * f) k) (add-sub-of-le (le-of-lt (t .more)))
+          (subst (λ (i : ℕ). Emitted (stream (stageTaps (tableOf (a .table)))) s (now (a .src)) (now (a .dst)) u span i (d + (e - d))) (add-sub-of-le (t .before)) all),
     )
 
 same-length : tie.Need-same-length Inv-loop μ-loop
@@ -168,8 +170,8 @@ returns c =
     let r = c .before .before in
     let a = begun r .args in
     let s = bare (a .depth) (now (a .delays)) in
-    let all = subst (λ (n : ℕ). Emitted hbfStream s (now (a .src)) (now (a .dst)) (bare (a .depth) (l .delays)) (l .dst) (n * 2 ^ a .depth) n) (le-antisymm (l .inv .0) (c .loop-test .left))
-    (subst (λ (f : ℕ). Emitted hbfStream s (now (a .src)) (now (a .dst)) (bare (a .depth) (l .delays)) (l .dst) (l .done * f) (l .done)) (r .rate-change .ensures) (l .inv .2)) in
+    let all = subst (λ (n : ℕ). Emitted (stream (stageTaps (tableOf (a .table)))) s (now (a .src)) (now (a .dst)) (bare (a .depth) (l .delays)) (l .dst) (n * 2 ^ a .depth) n) (le-antisymm (l .inv .0) (c .loop-test .left))
+    (subst (λ (f : ℕ). Emitted (stream (stageTaps (tableOf (a .table)))) s (now (a .src)) (now (a .dst)) (bare (a .depth) (l .delays)) (l .dst) (l .done * f) (l .done)) (r .rate-change .ensures) (l .inv .2)) in
     (all .state-is, all .span-is)
 
 pub decimate-frames-spec : {M : Type 1} → statement M

@@ -5,7 +5,9 @@ use lib.ListN.{length, take}
 use lib.Seq.{length-take-le}
 use denote.Ref.{now}
 use Rattle.theory.specs.Sections.{state, outs}
-use Rattle.half_band.specs.HbfStream.{hbfStream}
+use Rattle.half_band.specs.HbfStream.{stream}
+use Rattle.half_band.specs.HbfTaps.{stageTaps}
+use Rattle.half_band.specs.HbfTaps98.{tableOf}
 use Rattle.float.proofs.Tape.{ends-in, put-over}
 use Rattle.half_band.proofs.StageTables.{fewer}
 use Rattle.half_band.proofs.DecCascades.{bare}
@@ -60,8 +62,8 @@ returns c =
     let p = c .before .before .put-at-end in
     let fits : length (take (length (now (a .dst))) (o .last .1 .1 .0)) ≤ length (now (a .dst)) = omega (arith, front-long m) in
     let e = ap (λ (n : ℕ). take n (t .result)) (sym (begun m .pre .2)) ∙ t .ensures in (
-      o .ensures .0 ∙ ap (state hbfStream s) e,
-      put-over (now (a .dst)) (take (length (now (a .dst))) (o .last .1 .1 .0)) (p .last .0) (front-long m) (p .ensures ∙ ends-in _ _ fits) ∙ o .ensures .1 ∙ ap (outs hbfStream s) e,
+      o .ensures .0 ∙ ap (state (stream (stageTaps (tableOf (a .table)))) s) e,
+      put-over (now (a .dst)) (take (length (now (a .dst))) (o .last .1 .1 .0)) (p .last .0) (front-long m) (p .ensures ∙ ends-in _ _ fits) ∙ o .ensures .1 ∙ ap (outs (stream (stageTaps (tableOf (a .table)))) s) e,
     )
 
 pub decimate-on-tape-spec : {M : Type 1} → statement M

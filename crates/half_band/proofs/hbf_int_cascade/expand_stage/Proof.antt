@@ -21,17 +21,17 @@ abbrev begun : tie.After-interpolation-stage → tie.Start
 begun c = c .before .before .before
 
 -- the place of the stage's taps, and the parts that the code computes from it
-placed : (c : tie.After-interpolation-stage) → Placed (c .interpolation-stage .result .first) (c .interpolation-stage .result .count)
-placed c = place interpolation int-fits _ _ _ (begun c .pre .0) (c .interpolation-stage .ensures)
+placed : (c : tie.After-interpolation-stage) → Placed 45 (c .interpolation-stage .result .first) (c .interpolation-stage .result .count)
+placed c = place patterns interpolation int-fits _ _ _ (begun c .pre .0) (c .interpolation-stage .ensures)
 
 taps-of :
     (c : tie.After-interpolation-stage) →
     let r = c .interpolation-stage .result in
     take (r .first + r .count - r .first) (drop (r .first) patterns) ≡ stageTaps interpolation (begun c .args .k)
-taps-of c = part-taps interpolation int-fits _ _ _ (begun c .pre .0) (c .interpolation-stage .ensures)
+taps-of c = part-taps patterns interpolation int-fits _ _ _ (begun c .pre .0) (c .interpolation-stage .ensures)
 
 count-of : (c : tie.After-interpolation-stage) → let k = begun c .args .k in 48 * k + 2 * c .interpolation-stage .result .count - 48 * k ≡ 2 * length (stageTaps interpolation k)
-count-of c = part-count interpolation int-fits _ _ _ (begun c .pre .0) (c .interpolation-stage .ensures) 2 48
+count-of c = part-count patterns interpolation int-fits _ _ _ (begun c .pre .0) (c .interpolation-stage .ensures) 2 48
 
 window-long :
     (c : tie.After-interpolation-stage) →

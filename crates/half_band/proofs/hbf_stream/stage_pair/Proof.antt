@@ -19,17 +19,17 @@ abbrev begun : tie.After-decimation-stage → tie.Start
 begun c = c .before .before
 
 -- the place of the stage's taps, and the parts that the code computes from it
-placed : (c : tie.After-decimation-stage) → Placed (c .decimation-stage .result .first) (c .decimation-stage .result .count)
-placed c = place decimation dec-fits _ _ _ (begun c .pre .0) (c .decimation-stage .ensures)
+placed : (c : tie.After-decimation-stage) → Placed 45 (c .decimation-stage .result .first) (c .decimation-stage .result .count)
+placed c = place patterns decimation dec-fits _ _ _ (begun c .pre .0) (c .decimation-stage .ensures)
 
 taps-of :
     (c : tie.After-decimation-stage) →
     let r = c .decimation-stage .result in
     take (r .first + r .count - r .first) (drop (r .first) patterns) ≡ stageTaps decimation (begun c .args .k)
-taps-of c = part-taps decimation dec-fits _ _ _ (begun c .pre .0) (c .decimation-stage .ensures)
+taps-of c = part-taps patterns decimation dec-fits _ _ _ (begun c .pre .0) (c .decimation-stage .ensures)
 
 count-of : (c : tie.After-decimation-stage) → let k = begun c .args .k in 96 * k + 4 * c .decimation-stage .result .count - 96 * k ≡ 4 * length (stageTaps decimation k)
-count-of c = part-count decimation dec-fits _ _ _ (begun c .pre .0) (c .decimation-stage .ensures) 4 96
+count-of c = part-count patterns decimation dec-fits _ _ _ (begun c .pre .0) (c .decimation-stage .ensures) 4 96
 
 window-long :
     (c : tie.After-decimation-stage) →

@@ -52,10 +52,10 @@ lent s =
 
 -- the numbers and the span after the outputs that were due, and the invariant there
 abbrev numbers : tie.After-write-due Inv-loop μ-loop → Numbers
-numbers c = let n = entered c .loop .n in record { «sample_counter» = n .«sample_counter»; wait = n .wait; mu = c .write-due .result .mu }
+numbers c = let n = entered c .loop .n in record { «sample_counter» = n .«sample_counter»; wait = n .wait; mu = c .write-due .result .mu; cuts = n .cuts }
 
 abbrev spanned : tie.After-write-due Inv-loop μ-loop → List Float
-spanned c = c .write-due .last .1 .1 .1 .1 .1 .1 .0
+spanned c = c .write-due .last .1 .1 .1 .1 .1 .1 .1 .0
 
 due : (c : tie.After-write-due Inv-loop μ-loop) →
     let a = begun (entered c) .args in

@@ -15,10 +15,14 @@ use Rattle.theory.specs.Machines.{before}
 use Rattle.integer.specs.Gain.{gainBits}
 use Rattle.integer.specs.CicDecimator.{decimator, scaledBy, scaledDecimator, sumOf}
 use Rattle.integer.specs.declared.cic_decimator.CicDecimator.{CicDecimator}
-use Rattle.q15.specs.Fixed.{cut}
-use Rattle.line.specs.Line.{from3}
-use Rattle.line.specs.Together.{cicOf}
-use Rattle.line.proofs.Taking.{takes-none, takes-some, takes-line}
+use Rattle.q15.specs.Fixed.{cut, isCut}
+use Rattle.q15.specs.FirDecimator.{cutIn, firSumOut}
+use Rattle.theory.specs.Tally.{heldSum}
+use Rattle.theory.proofs.Tally.{held-none}
+use Rattle.line.specs.Outputs.{mostCuts}
+use Rattle.line.specs.Line.{from3, cutsFor}
+use Rattle.line.specs.Together.{cicOf, firOf}
+use Rattle.line.proofs.Taking.{takes-none, takes-some, two-cuts, takes-line}
 use Rattle.line.proofs.sample.sample_in.Statement.{statement}
 use Rattle.line.proofs.sample.sample_in.Tie as tie
 
@@ -34,20 +38,25 @@ made : (c : tie.After-sample-at) →
 made c = rw (toZ-ofZ (start c .fits .x)) at (c .sample-at .ensures)
 
 -- the sum, scaled and cut
-cut-is : (c : tie.After-cut-q15) →
-    let a = start (c .before .before .before .before .before) .args in
-    c .cut-q15 .result .0 ≡ cut w16 (floorDiv (c .before .before .before .made .given .0 .0) (2 ^ gainBits (a .f .stages) (a .f .r)))
-cut-is c =
+abbrev sum : (c : tie.After-cut-q15) → ℤ
+sum c = let a = start (c .before .before .before .before .before) .args in floorDiv (c .before .before .before .made .given .0 .0) (2 ^ gainBits (a .f .stages) (a .f .r))
+
+sum-is : (c : tie.After-cut-q15) → toZ w64 (ofZ w64 (toZ w32 (ofZ w32 (c .before .scaled .result)))) ≡ sum c
+sum-is c =
     let f : SFits w32 (c .before .scaled .result) = record { sfits = c .before .scaled .ok } in
     let v = c .before .before .before .made .given .0 .0 in
     let g : SFits w32 v = record { sfits = omega arith } in
     let a = start (c .before .before .before .before .before) .args in
-    c .cut-q15 .ensures
-    ∙ ap (cut w16)
-    (rw (toZ-ofZ f, toZ-ofZ (sfits-widen {w′ = w64} tt f))
+    rw (toZ-ofZ f, toZ-ofZ (sfits-widen {w′ = w64} tt f))
     (c .before .scaled .ensures
     ∙ ap (λ (z : ℤ). floorDiv z (2 ^ a .f .bits)) (toZ-ofZ g)
-    ∙ ap (λ (n : ℕ). floorDiv v (2 ^ n)) (start (c .before .before .before .before .before) .pre)))
+    ∙ ap (λ (n : ℕ). floorDiv v (2 ^ n)) (start (c .before .before .before .before .before) .pre))
+
+cut-is : (c : tie.After-cut-q15) → c .cut-q15 .result .value .0 ≡ cut w16 (sum c)
+cut-is c = c .cut-q15 .ensures .0 ∙ ap (cut w16) (sum-is c)
+
+cut-said : (c : tie.After-cut-q15) → c .cut-q15 .result .cut ≡ isCut w16 (sum c)
+cut-said c = c .cut-q15 .ensures .1 ∙ ap (isCut w16) (sum-is c)
 
 sample-at-requires : tie.Need-sample-at-requires
 sample-at-requires c κs = search needs
@@ -72,25 +81,34 @@ cut-q15-requires c κs = search needs
 fir-in-requires : tie.Need-fir-in-requires
 fir-in-requires c κs = search needs
 
+counted-requires : tie.Need-counted-requires
+counted-requires c κs = search needs
+
 returns : tie.Need-returns
 unfolding scaledDecimator
 returns c = λ h.
     let k = c .before .before in
     let a = start k .args in
+    let g = gainBits (a .f .stages) (a .f .r) in
+    let none-made = sym (ap sumOf (c .enum-told .given .1)) ∙ made k .0 in
     takes-line _ _ _ _
-    (takes-none scaledDecimator (before (each (cut w16)) from3) _ _ _ _
-    (ap (scaledBy (gainBits (a .f .stages) (a .f .r))) (sym (ap sumOf (c .enum-told .given .1)) ∙ made k .0)) (made k .1))
+    (takes-none scaledDecimator (before (each (cut w16)) from3) _ _ _ _ (ap (scaledBy g) none-made) (made k .1))
+    (sym (held-none mostCuts (a .s .cuts)) ∙ ap (λ (v : Option ℤ). heldSum mostCuts (a .s .cuts) (cutsFor (firOf (a .f) (a .s .wait) (now (a .taps)) (now (a .fir-delay))) (scaledBy g v))) none-made)
 
 returns-2 : tie.Need-returns-2
 unfolding scaledDecimator
 returns-2 c = λ h.
-    let k = c .before .before .before .before .before .before .before .before .before .before .before in
+    let k = c .before .before .before .before .before .before .before .before .before .before .before .before .before in
+    let q = c .before .before .before .before .before .before .before .before in
     let a = start k .args in
     let g = gainBits (a .f .stages) (a .f .r) in
+    let s = firOf (a .f) (a .s .wait) (now (a .taps)) (now (a .fir-delay)) in
+    let some-made = sym (ap sumOf (q .before .before .before .made .given .1)) ∙ made k .0 in
     takes-line _ _ _ _
-    (takes-some scaledDecimator (before (each (cut w16)) from3) _ _ _ _ _ _ _
-    (ap (scaledBy g) (sym (ap sumOf (c .before .before .before .before .before .before .before .before .before .made .given .1)) ∙ made k .0)) (made k .1)
-    (takes-some (each (cut w16)) from3 _ _ _ _ _ _ _ refl refl (rw (cut-is (c .before .before .before .before .before .before)) at (c .fir-in .ensures h))))
+    (takes-some scaledDecimator (before (each (cut w16)) from3) _ _ _ _ _ _ _ (ap (scaledBy g) some-made) (made k .1)
+    (takes-some (each (cut w16)) from3 _ _ _ _ _ _ _ refl refl (rw (cut-is q) at (c .before .fir-in .ensures .0 h))))
+    (two-cuts (a .s .cuts) _ _ _ s (sum q) (c .counted .ensures) (cut-said q) (rw (cut-is q) at (c .before .fir-in .ensures .1))
+    ∙ ap (λ (v : Option ℤ). heldSum mostCuts (a .s .cuts) (cutsFor s (scaledBy g v))) some-made)
 
 pub sample-in-spec : {M : Type 1} → statement M
 sample-in-spec =
@@ -103,5 +121,6 @@ sample-in-spec =
     cast-cut-q15
     cut-q15-requires
     fir-in-requires
+    counted-requires
     returns
     returns-2)

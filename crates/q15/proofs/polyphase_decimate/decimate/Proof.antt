@@ -11,10 +11,10 @@ use Rattle.q15.proofs.polyphase_decimate.decimate.Tie as tie
 -- what a call with t taps asks for, where t are all
 module _ (c : tie.Start) (t : ℕ) (e : length (c .args .coeffs .now) ≡ t) where
   abbrev Asked : Type 0
-  Asked = (c .args .count ≤ length (c .args .dst .now)) × (t ≤ length (c .args .coeffs .now)) × (t ≤ mostBlock) × (length (c .args .src .now) ≤ mostBlock) × ((i : ℕ) → i < c .args .count → i * c .args .d + t ≤ length (c .args .src .now))
+  Asked = (c .args .count ≤ length (c .args .dst .now)) × (t ≤ length (c .args .coeffs .now)) × (t ≤ mostBlock) × (length (c .args .src .now) ≤ mostBlock) × ((i : ℕ) → i < c .args .count → i * c .args .d + t ≤ length (c .args .src .now)) × (c .args .count ≤ mostBlock)
 
   asked : Asked
-  asked = (c .pre .0, omega (arith, e), omega (arith, e, c .pre .1), c .pre .2, λ i l. omega (arith, e, c .pre .3 i l))
+  asked = (c .pre .0, omega (arith, e), omega (arith, e, c .pre .1), c .pre .2, λ i l. omega (arith, e, c .pre .3 i l), c .pre .4)
 
 decimate-of-requires : tie.Need-decimate-of-requires
 decimate-of-requires c κs = asked (c .before .before) 1 (c .before .match .keys1)

@@ -5,10 +5,11 @@ use native.Mathlib.Omega.{arith}
 use borrow.Author.Needs.{needs}
 use lib.ListN.{length}
 use Rattle.q15.specs.Block.{rowsNumber, blockNumber}
-use Rattle.q15.specs.PolyphaseDecimate.{decimated}
+use Rattle.q15.specs.PolyphaseDecimate.{filtered, firSums, decimated}
 use Rattle.q15.proofs.Counts.{decimated-in}
-use Rattle.q15.proofs.Filling.{block-filled}
-use Rattle.q15.proofs.Rows.{BlockIn, block-in, block-refused}
+use Rattle.q15.proofs.CutFilling.{block-cut}
+use Rattle.q15.proofs.Rounding.{rounded}
+use Rattle.q15.proofs.Rows.{BlockIn, block-in, block-refused, refused-count}
 use Rattle.q15.proofs.polyphase_decimate.polyphase_decimate_q15.Statement.{statement}
 use Rattle.q15.proofs.polyphase_decimate.polyphase_decimate_q15.Tie as tie
 
@@ -43,19 +44,29 @@ decimate-requires c κs =
       limits e .taps .most,
       limits e .rest .most,
       (λ i l. decimated-in (length (a .coeffs .now)) (a .decimation-factor) (length (a .src .now)) i (omega (arith, l, r))),
+      omega (arith, r, limits e .rest .span-most),
     )
+
+cast-cuts : tie.Need-cast-cuts
+cast-cuts c = search needs
 
 returns : tie.Need-returns
 returns c =
     let e = sym (ap rowsNumber (c .before .rows .given .1)) ∙ c .before .before .before .block-rows .ensures in
-    block-refused _ (c .before .rows .given .0 .0) e _ _ _
+    let q = c .before .rows .given .0 .0 in
+    let b = block-refused _ q e _ _ _ in
+    let a = c .before .before .before .before .args in
+    (b .0, (b .1, (refused-count _ q e _ _, rounded (a .coeffs .now) (a .decimation-factor) (a .src .now))))
 
 same-length : tie.Need-same-length
 same-length c = search needs
 
 returns-2 : tie.Need-returns-2
-unfolding decimated
-returns-2 c = block-filled _ _ _ _ _ _ _ (none (c .before .before .before .before)) refl (c .before .before .before .decimated-count .ensures) (c .before .decimate .ensures)
+unfolding filtered firSums decimated
+returns-2 c =
+    let b = block-cut _ _ _ _ _ _ _ _ (none (c .before .before .before .before)) refl (c .before .before .before .decimated-count .ensures) (c .before .decimate .ensures .0) (c .before .decimate .ensures .1) in
+    let a = start (c .before .before .before .before) .args in
+    (b .0, (b .1 .0, (b .1 .1, rounded (a .coeffs .now) (a .decimation-factor) (a .src .now))))
 
 pub polyphase-decimate-q15-spec : {M : Type 1} → statement M
 polyphase-decimate-q15-spec =
@@ -66,6 +77,7 @@ polyphase-decimate-q15-spec =
     enum-told
     decimated-count-requires
     decimate-requires
+    cast-cuts
     returns
     same-length
     returns-2)

@@ -1,4 +1,4 @@
--- `polyphase_interpolate::one_tap` meets its contract: the invariant says that p outputs stand in front of the span.
+-- `polyphase_interpolate::one_tap` meets its contract: the invariant says that p products stand in front of the span, cut, and how many of them were.
 use mathlib.Core.Path.{_≡_, ap, _∙_}
 use Prim.Native.Nat.{_-_}
 use native.Mathlib.Omega.{arith}
@@ -7,20 +7,20 @@ use lib.IntN.{ℤ, pos, _*ℤ_}
 use mir.Syntax.{w16, w32, w64}
 use mir.Val.{SFits, toZ, ofZ}
 use mir.Facts.{toZ-ofZ}
-use Rattle.q15.specs.Fixed.{flooredProduct, cut, at}
-use Rattle.q15.proofs.Filling.{Filled, none-filled, next-filled, all-filled}
+use Rattle.q15.specs.Fixed.{flooredProduct, cut, isCut, at}
+use Rattle.q15.proofs.CutFilling.{CutFilled, none-cut, few-cut, next-cut, all-cut}
 use Rattle.q15.proofs.Sums.{floor-within}
 use Rattle.q15.proofs.polyphase_interpolate.one_tap.Statement.{statement}
 use Rattle.q15.proofs.polyphase_interpolate.one_tap.Tie as tie
 
 abbrev Inv-loop : tie.InvT-loop
-Inv-loop x coeffs l m dst₀ p₀ dst p = Filled (λ p. cut w16 (pos l *ℤ flooredProduct (toZ w16 x) (at coeffs p))) dst₀ m dst p
+Inv-loop x coeffs l m dst₀ p₀ cuts₀ dst p cuts = CutFilled (λ p. pos l *ℤ flooredProduct (toZ w16 x) (at coeffs p)) dst₀ m dst p cuts
 
 abbrev μ-loop : tie.MeasureT-loop
-μ-loop x coeffs l m dst₀ p₀ dst p = m - p
+μ-loop x coeffs l m dst₀ p₀ cuts₀ dst p cuts = m - p
 
 loop-holds : tie.Need-loop-holds Inv-loop μ-loop
-loop-holds c = none-filled _ _ _
+loop-holds c = none-cut _ _ _
 
 mul-floored-product : tie.Need-mul-floored-product Inv-loop μ-loop
 mul-floored-product c = search needs
@@ -63,41 +63,56 @@ mul-bits c = search needs
 
 module _ (c : tie.After-struct-told Inv-loop μ-loop) where
   abbrev made : tie.After-floored-product Inv-loop μ-loop
-  made = c .before .before .before .before
+  made = c .before .before .before .before .before
 
   abbrev turn : tie.In-loop Inv-loop μ-loop
   turn = made .before .before
 
-  bits : toZ w16 (ofZ w16 (c .before .cut-q15 .result .0)) ≡ c .before .cut-q15 .result .0
+  scaled : toZ w64 (ofZ w64 (c .before .before .before .wide-i32 .result)) ≡ pos (start made .args .l) *ℤ flooredProduct (start made .args .x) (tap made)
+  scaled =
+      let times = c .before .before .before .before .times-one in
+      let wide = c .before .before .before .wide-i32 in
+      toZ-ofZ {w = w64} {z = wide .result} (record { sfits = wide .ok }) ∙ wide .ensures
+      ∙ toZ-ofZ {w = w32} {z = times .result} (record { sfits = times .ok }) ∙ times .ensures
+      ∙ ap (λ (z : ℤ). pos (start made .args .l) *ℤ z) (product made)
+
+  bits : toZ w16 (ofZ w16 (c .before .before .cut-q15 .result .value .0)) ≡ c .before .before .cut-q15 .result .value .0
   bits = search needs
 
-  value : toZ w16 (ofZ w16 (c .before .cut-q15 .result .0)) ≡ cut w16 (pos (start made .args .l) *ℤ flooredProduct (start made .args .x) (tap made))
-  value =
-      let scaled = c .before .before .before .times-one in
-      let wide = c .before .before .wide-i32 in
-      bits
-      ∙ c .before .cut-q15 .ensures
-      ∙ ap (cut w16) (toZ-ofZ {w = w64} {z = wide .result} (record { sfits = wide .ok }) ∙ wide .ensures
-      ∙ toZ-ofZ {w = w32} {z = scaled .result} (record { sfits = scaled .ok }) ∙ scaled .ensures
-      ∙ ap (λ (z : ℤ). pos (start made .args .l) *ℤ z) (product made))
+  value : toZ w16 (ofZ w16 (c .before .before .cut-q15 .result .value .0)) ≡ cut w16 (pos (start made .args .l) *ℤ flooredProduct (start made .args .x) (tap made))
+  value = bits ∙ c .before .before .cut-q15 .ensures .0 ∙ ap (cut w16) scaled
+
+  flag : c .before .before .cut-q15 .result .cut ≡ isCut w16 (pos (start made .args .l) *ℤ flooredProduct (start made .args .x) (tap made))
+  flag = c .before .before .cut-q15 .ensures .1 ∙ ap (isCut w16) scaled
 
 slice-set-from-bits : tie.Need-slice-set-from-bits Inv-loop μ-loop
-slice-set-from-bits c = omega (arith, turn c .loop-test .taken, turn c .before .loop .inv .long, start (made c) .pre .0)
+slice-set-from-bits c = omega (arith, turn c .loop-test .taken, turn c .before .loop .inv .filled .long, start (made c) .pre .0)
+
+one-more-requires : tie.Need-one-more-requires Inv-loop μ-loop
+one-more-requires c κs =
+    let few = few-cut _ _ _ _ _ _ (turn c .before .loop .inv) in
+    let r = start (made c) .pre in
+    omega (arith, few, turn c .loop-test .taken, r .2, r .3)
 
 add-p : tie.Need-add-p Inv-loop μ-loop
 add-p c = search needs
 
 loop-less : tie.Need-loop-less Inv-loop μ-loop
-loop-less c = omega (arith, turn c .loop-test .taken)
+loop-less c = omega (arith, turn (c .before) .loop-test .taken)
 
 loop-again : tie.Need-loop-again Inv-loop μ-loop
-loop-again c = next-filled _ _ _ _ _ _ (turn c .loop-test .taken) (start (made c) .pre .0) (rw (toZ-ofZ (start (made c) .fits .x)) (value c)) (turn c .before .loop .inv)
+loop-again c =
+    let t = c .before in
+    let s = start (made t) in
+    let v = turn t .before .loop in
+    next-cut _ _ _ (v .dst) (v .p) (v .cuts) _ (t .before .before .cut-q15 .result .cut) _ (turn t .loop-test .taken) (s .pre .0) (rw (toZ-ofZ (s .fits .x)) (value t)) (rw (toZ-ofZ (s .fits .x)) (flag t)) (c .one-more .ensures)
+    (turn t .before .loop .inv)
 
 same-length : tie.Need-same-length Inv-loop μ-loop
-same-length c = c .before .loop .inv .long
+same-length c = c .before .loop .inv .filled .long
 
 returns : tie.Need-returns Inv-loop μ-loop
-returns c = rw (toZ-ofZ (c .before .before .fits .x)) at (all-filled _ _ _ _ _ (c .loop-test .left) (c .before .loop .inv))
+returns c = rw (toZ-ofZ (c .before .before .fits .x)) at (all-cut _ _ _ _ _ _ (c .loop-test .left) (c .before .loop .inv))
 
 pub one-tap-spec : {M : Type 1} → statement M
 one-tap-spec =
@@ -114,6 +129,7 @@ one-tap-spec =
     cut-q15-requires
     mul-bits
     slice-set-from-bits
+    one-more-requires
     add-p
     loop-less
     loop-again

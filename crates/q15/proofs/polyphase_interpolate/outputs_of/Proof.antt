@@ -10,18 +10,18 @@ use lib.ListN.{drop}
 use mir.Syntax.{w16}
 use mir.Val.{SFits}
 use mir.Facts.{toZ-ofZ}
-use Rattle.q15.specs.Fixed.{flooredProduct, cut, at}
+use Rattle.q15.specs.Fixed.{flooredProduct, cut, cutCount, at}
 use Rattle.q15.specs.FirSum.{firSum}
-use Rattle.q15.specs.PolyphaseInterpolate.{phaseOutput}
+use Rattle.q15.specs.PolyphaseInterpolate.{phaseSum, phaseOutput}
 use Rattle.q15.proofs.Filling.{listed-ext}
 use Rattle.q15.proofs.polyphase_interpolate.outputs_of.Statement.{statement}
 use Rattle.q15.proofs.polyphase_interpolate.outputs_of.Tie as tie
 
-one-product : (c : List ℤ) (l : ℕ) (s : List ℤ) (i p : ℕ) → phaseOutput c l 1 s i p ≡ cut w16 (pos l *ℤ flooredProduct (at s i) (at c p))
-unfolding phaseOutput firSum
+one-product : (c : List ℤ) (l : ℕ) (s : List ℤ) (i p : ℕ) → phaseSum c l 1 s i p ≡ pos l *ℤ flooredProduct (at s i) (at c p)
+unfolding firSum
 one-product c l s i p =
     let e : 0 * l + p ≡ p = omega (arith, zero-mul l) in
-    ap (λ (z : ℤ). cut w16 (pos l *ℤ z))
+    ap (λ (z : ℤ). pos l *ℤ z)
     (+ℤ-idl (flooredProduct (at s (i + 0)) (at c (0 * l + p))) ∙ ap (λ (n : ℕ). flooredProduct (at s n) (at c (0 * l + p))) (add-zero i)
     ∙ ap (λ (n : ℕ). flooredProduct (at s i) (at c n)) e)
 
@@ -36,7 +36,7 @@ one-tap-requires c κs =
     let k = c .before .before in
     let r = k .before .pre in
     let f : 1 * k .before .args .l ≤ _ = rw (k .match .keys1) at (r .3) in
-    (r .0, omega (arith, r .1, f, one-mul (k .before .args .l)), r .2)
+    (r .0, omega (arith, r .1, f, one-mul (k .before .args .l)), r .2, r .1)
 
 phases-requires : tie.Need-phases-requires
 phases-requires c κs = c .before .before .pre
@@ -45,15 +45,20 @@ same-length : tie.Need-same-length
 same-length c = search needs
 
 returns : tie.Need-returns
+unfolding phaseOutput
 returns c =
     let k = c .before .before .before .before in
     let a = k .before .args in
     let x : SFits w16 (at (a .src .now) (a .i)) = record { sfits = c .before .before .before .one-tap-arg .given } in
-    rw (k .match .keys1)
-    (c .before .one-tap .ensures
-    ∙ rw (toZ-ofZ x)
-    (ap (λ (o : List ℤ). o ++ drop (a .m) (a .dst .now))
-    (listed-ext (a .m) _ (phaseOutput (a .coeffs .now) (a .l) 1 (a .src .now) (a .i)) (λ p h. sym (one-product (a .coeffs .now) (a .l) (a .src .now) (a .i) p)))))
+    let sums = phaseSum (a .coeffs .now) (a .l) 1 (a .src .now) (a .i) in
+    let one : (p : ℕ) → pos (a .l) *ℤ flooredProduct (at (a .src .now) (a .i)) (at (a .coeffs .now) p) ≡ sums p =
+    (λ p. sym (one-product (a .coeffs .now) (a .l) (a .src .now) (a .i) p))
+    in
+    rw (k .match .keys1) (
+      c .before .one-tap .ensures .0
+          ∙ rw (toZ-ofZ x) (ap (λ (o : List ℤ). o ++ drop (a .m) (a .dst .now)) (listed-ext (a .m) _ (λ p. cut w16 (sums p)) (λ p h. ap (cut w16) (one p)))),
+      c .before .one-tap .ensures .1 ∙ rw (toZ-ofZ x) (ap (cutCount w16) (listed-ext (a .m) _ sums (λ p h. one p))),
+    )
 
 same-length-2 : tie.Need-same-length-2
 same-length-2 c = search needs

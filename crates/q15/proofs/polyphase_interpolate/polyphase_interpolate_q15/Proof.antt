@@ -8,10 +8,10 @@ use native.Mathlib.Omega.{arith}
 use borrow.Author.Needs.{needs}
 use lib.ListN.{length}
 use Rattle.q15.specs.Block.{rowsNumber}
-use Rattle.q15.specs.PolyphaseInterpolate.{interpolateNumber, interpolated}
+use Rattle.q15.specs.PolyphaseInterpolate.{phaseOutput, interpolateNumber, interpolated, phaseSums}
 use Rattle.q15.proofs.Counts.{interpolated-in}
-use Rattle.q15.proofs.Filling.{block-filled}
-use Rattle.q15.proofs.Rows.{BlockIn, interpolate-in, block-refused}
+use Rattle.q15.proofs.CutFilling.{block-cut}
+use Rattle.q15.proofs.Rows.{BlockIn, interpolate-in, block-refused, refused-count}
 use Rattle.q15.proofs.polyphase_interpolate.polyphase_interpolate_q15.Statement.{statement}
 use Rattle.q15.proofs.polyphase_interpolate.polyphase_interpolate_q15.Tie as tie
 
@@ -73,20 +73,27 @@ interpolate-requires c κs =
       omega (arith, div-le-self (T e) (L e), limits e .taps .most),
       limits e .rest .most,
       (λ i p h. interpolated-in (T e / L e) (L e) (length (start e .args .src .now)) i p (omega (arith, h, r))),
+      omega (arith, r, limits e .rest .span-most),
     )
+
+cast-cuts : tie.Need-cast-cuts
+cast-cuts c = search needs
 
 returns : tie.Need-returns
 returns c =
     let e = sym (ap rowsNumber (c .before .rows .given .1)) ∙ c .before .before .before .interpolate-rows .ensures in
-    block-refused _ (c .before .rows .given .0 .0) e _ _ _
+    let q = c .before .rows .given .0 .0 in
+    let b = block-refused _ q e _ _ _ in
+    (b .0, (b .1, refused-count _ q e _ _))
 
 same-length : tie.Need-same-length
 same-length c = search needs
 
 returns-2 : tie.Need-returns-2
-unfolding interpolated
+unfolding phaseOutput interpolated phaseSums
 returns-2 c =
-    block-filled _ _ _ _ _ _ _ (none (c .before .before .before .before)) refl (c .before .before .before .interpolated-count .ensures) (c .before .interpolate .ensures)
+    block-cut _ _ _ _ _ _ _ _ (none (c .before .before .before .before)) refl (c .before .before .before .interpolated-count .ensures) (c .before .interpolate .ensures .0)
+    (c .before .interpolate .ensures .1)
 
 pub polyphase-interpolate-q15-spec : {M : Type 1} → statement M
 polyphase-interpolate-q15-spec =
@@ -98,6 +105,7 @@ polyphase-interpolate-q15-spec =
     div-k
     interpolated-count-requires
     interpolate-requires
+    cast-cuts
     returns
     same-length
     returns-2)

@@ -6,6 +6,8 @@ use Rattle.half_band.specs.HbfDecCascade.{decCascadeFresh, DecCascadeMee
 use Rattle.half_band.specs.declared.hbf_dec_cascade.HbfDecCascade.{HbfDecCascade}
 use Rattle.refusal.proofs.Limits.{within}
 use Rattle.half_band.proofs.Choices.{chosen, other}
+use Rattle.half_band.specs.HbfTaps.{stageTaps, decimation}
+use Rattle.half_band.proofs.StageTables.{dec-stages}
 use Rattle.half_band.proofs.DecCascades.{fresh-meets}
 use borrow.Author.Needs.{needs}
 use Rattle.half_band.proofs.hbf_dec_cascade.HbfDecCascade.new.Statement.{statement}
@@ -32,7 +34,7 @@ returns-2 c = let d = c .before .before .before .args .depth in
     let e = sym (c .before .before .outside .ensures) ∙ c .before .if1 .left in (
       ap {B = Opened HbfDecCascade} (λ (s : HbfDecCascade). record { number = 0; state = s }) (c .fresh2 .ensures)
           ∙ other _ (record { number = 11; state = decCascadeFresh 0 }) (record { number = 0; state = decCascadeFresh d }) e,
-      λ z. subst (λ (s : HbfDecCascade). DecCascadeMeets d s) (sym (c .fresh2 .ensures)) (fresh-meets d (within d 1 5 e)),
+      λ z. subst (λ (s : HbfDecCascade). DecCascadeMeets d s) (sym (c .fresh2 .ensures)) (fresh-meets (stageTaps decimation) dec-stages d (within d 1 5 e)),
     )
 
 pub new-spec : {M : Type 1} → statement M

@@ -1,4 +1,4 @@
--- `FirDecimator::reset` meets its contract: a valid state has at most 64 taps, so its own taps can be lent to an opening.
+-- `FirDecimator::reset` meets its contract: a valid state has no more taps than its array, so its own taps can be lent to an opening.
 use mathlib.Core.Path.{_≡_, sym, _∙_}
 use mathlib.Core.Bool.{true, false}
 use Prim.Native.Nat.{_≤_}

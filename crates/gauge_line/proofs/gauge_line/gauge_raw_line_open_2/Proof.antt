@@ -1,0 +1,52 @@
+-- `gauge_raw_line_open_2` meets its contract: it hands over what the layer's `«open»` answers, field by field.
+use mathlib.Core.Path.{_≡_}
+use borrow.Author.Needs.{needs}
+use Rattle.gauge_line.proofs.Lines.{same-line, same-opened}
+use Rattle.gauge_line.proofs.gauge_line.gauge_raw_line_open_2.Statement.{statement}
+use Rattle.gauge_line.proofs.gauge_line.gauge_raw_line_open_2.Tie as tie
+
+is-set-requires : tie.Need-is-set-requires
+is-set-requires c κs = search needs
+
+open-requires : tie.Need-open-requires
+open-requires c κs = search needs
+
+put-decimator-requires : tie.Need-put-decimator-requires
+put-decimator-requires c κs = search needs
+
+put-fir-requires : tie.Need-put-fir-requires
+put-fir-requires c κs = search needs
+
+put-stream-requires : tie.Need-put-stream-requires
+put-stream-requires c κs = search needs
+
+put-resampler-requires : tie.Need-put-resampler-requires
+put-resampler-requires c κs = search needs
+
+opening-number-requires : tie.Need-opening-number-requires
+opening-number-requires c κs = search needs
+
+returns : tie.Need-returns
+returns c =
+    let resampler = c .before in
+    let half-band = resampler .before .before .before .before .before .before .before .before in
+    let fir = half-band .before .before .before .before .before in
+    let cic = fir .before .before .before .before .before .before in
+    let done = cic .before .before .before .before .before .before .before in
+    let told = same-line _ _ _ _ _ _ _ _ _ (cic .put-decimator .ensures) (fir .put-fir .ensures) (half-band .put-stream .ensures) (resampler .put-resampler .ensures .0) in (
+      resampler .put-resampler .ensures .1,
+      same-opened _ _ _ _ _ (c .opening-number .ensures) told (rw (done .before .is-set .ensures) at (done .«open» .ensures)),
+    )
+
+pub gauge-raw-line-open-2-spec : {M : Type 1} → statement M
+gauge-raw-line-open-2-spec =
+    tie.close
+    (tie.spec
+    is-set-requires
+    open-requires
+    put-decimator-requires
+    put-fir-requires
+    put-stream-requires
+    put-resampler-requires
+    opening-number-requires
+    returns)

@@ -1,0 +1,9 @@
+pub mod WholeList
+pub mod SideBySide
+pub mod Newest
+pub mod Putting
+pub mod Fours
+pub mod Shifting
+pub mod Tapes
+pub mod Backward
+pub mod Filters

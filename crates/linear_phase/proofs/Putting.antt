@@ -1,0 +1,65 @@
+-- A group of values put into a list: in front, or from a place on.
+use mathlib.Core.Path.{_≡_, sym, ap, ap₂, _∙_}
+use mathlib.Core.List.{List, [], _++_, append-nil, append-assoc}
+use Prim.Native.Nat.{ℕ, _+_, _-_, _≤_, min}
+use native.Mathlib.Omega.{arith}
+use lib.ListN.{length, getD, take, drop, length-append, length-drop, drop-of-length-le}
+use lib.Seq.{length-take-le, take-at, take-add, take-take, take-all, take-append-le, drop-drop}
+use lib.Ieee.{Float, nan}
+use Rattle.theory.specs.Lists.{listed}
+use Rattle.q15.proofs.Filling.{listed-take}
+use Rattle.linear_phase.specs.Windows.{putInFront}
+use Rattle.linear_phase.proofs.SideBySide.{rest}
+
+pub put-first : (w : ℕ) (y d s p : List Float) → y ≡ take w d → w ≤ length d → w ≤ length s → p ≡ putInFront y s → p ≡ take w d ++ drop w s
+unfolding putInFront
+put-first w y d s p e h room q =
+    let long : length y ≡ w = ap length e ∙ length-take-le w d h in
+    let all : min (length y) (length s) ≡ w = omega (arith, long) in
+    q
+    ∙ ap (λ (k : ℕ). listed k (λ i. getD y i nan) ++ drop k s) all
+    ∙ ap (λ (l : List Float). l ++ drop w s) (listed-take nan w y (omega (arith, long)) ∙ take-all w y (omega (arith, long)) ∙ e)
+
+pub put-from : (w : ℕ) (t y d part : List Float) (k : ℕ) → y ≡ take w d → w ≤ length d → k + w ≤ length t → part ≡ putInFront y (take (length t - k) (drop k t))
+    → take k t ++ (part ++ drop (length t - k) (drop k t)) ≡ take k t ++ (take w d ++ drop (k + w) t)
+put-from w t y d part k e h room q =
+    let here : part ≡ take w d ++ drop (k + w) t =
+    put-first w y d (drop k t) part e h (simp length-drop (omega arith)) (q ∙ ap (putInFront y) (rest t k))
+    ∙ ap (λ (l : List Float). take w d ++ l) (drop-drop w k t) in
+    ap₂ {C = List Float} (λ (l r : List Float). take k t ++ (l ++ r)) here (drop-of-length-le (drop k t) {i = length t - k} (omega (arith, length-drop k t)))
+    ∙ ap (λ (l : List Float). take k t ++ l) (append-nil (take w d ++ drop (k + w) t))
+
+module _ (w : ℕ) (t d : List Float) (k : ℕ) (h : w ≤ length d) (room : k + w ≤ length t) where
+  values : length (take w d) ≡ w
+  values = length-take-le w d h
+
+  before : length (take k t) ≡ k
+  before = length-take-le k t (omega arith)
+
+  pub long-from : length (take k t ++ (take w d ++ drop (k + w) t)) ≡ length t
+  long-from =
+      length-append (take k t) (take w d ++ drop (k + w) t)
+      ∙ omega (arith, before, length-append (take w d) (drop (k + w) t), values, length-drop (k + w) t)
+
+  -- up to the last of them
+  pub up-to : take (k + w) (take k t ++ (take w d ++ drop (k + w) t)) ≡ take k t ++ take w d
+  up-to =
+      ap (take (k + w)) (sym (append-assoc (take k t) (take w d) (drop (k + w) t)))
+      ∙ take-at (take k t ++ take w d) (drop (k + w) t) (k + w) (length-append (take k t) (take w d) ∙ omega (arith, before, values))
+
+-- a delay of at most sixteen places and two groups of samples, each put over what is too much of the one before
+pub laid-groups : (delay samples t₀ t₁ t₂ t₃ : List Float) (long : ℕ) → long ≤ 16 → 16 ≤ length delay → 32 ≤ length samples → length t₀ ≡ 48
+    → t₁ ≡ take 16 delay ++ drop 16 t₀ → t₂ ≡ take long t₁ ++ (take 16 samples ++ drop (long + 16) t₁)
+    → t₃ ≡ take (long + 16) t₂ ++ (take 16 (drop 16 samples) ++ drop (long + 16 + 16) t₂) → take (long + 32) t₃ ≡ take long delay ++ take 32 samples
+laid-groups delay samples t₀ t₁ t₂ t₃ long few h room size e₁ e₂ e₃ =
+    let d : length (take 16 delay) ≡ 16 = length-take-le 16 delay h in
+    let l₁ : length t₁ ≡ 48 = ap length e₁ ∙ length-append (take 16 delay) (drop 16 t₀) ∙ omega (arith, d, length-drop 16 t₀, size) in
+    let l₂ : length t₂ ≡ 48 = ap length e₂ ∙ long-from 16 t₁ samples long (omega arith) (omega (arith, l₁)) ∙ l₁ in
+    let further : long + 32 ≡ long + 16 + 16 = omega arith in
+    ap₂ {C = List Float} take further e₃
+    ∙ up-to 16 t₂ (drop 16 samples) (long + 16) (simp length-drop (omega arith)) (omega (arith, l₂))
+    ∙ ap (λ (l : List Float). l ++ take 16 (drop 16 samples)) (ap (take (long + 16)) e₂ ∙ up-to 16 t₁ samples long (omega arith) (omega (arith, l₁)))
+    ∙ append-assoc (take long t₁) (take 16 samples) (take 16 (drop 16 samples))
+    ∙ ap₂ {C = List Float} _++_
+    (ap (take long) e₁ ∙ take-append-le long (take 16 delay) (drop 16 t₀) (omega (arith, d)) ∙ take-take long 16 delay few)
+    (sym (take-add 16 16 samples))

@@ -1,0 +1,155 @@
+-- Delay and samples in a row: the window of each output lies along them, and the last of them are the next delay.
+use mathlib.Core.Path.{_≡_, refl, sym, ap, _∙_}
+use mathlib.Core.Bool.{Bool}
+use mathlib.Core.List.{List, [], _∷_, _++_, append-nil, append-assoc}
+use Prim.Native.Nat.{ℕ, zero, suc, _+_, _-_, _*_, _≤_, _<_, min}
+use native.Mathlib.Nat.{add-comm}
+use native.Mathlib.Numerals.{add-one}
+use native.Mathlib.Omega.{arith}
+use lib.ListN.{length, getD, set, take, drop, length-append, length-drop, take-append-drop}
+use lib.Seq.{length-take-le, take-at, take-add, take-take, take-all, take-append-le, take-append-add, drop-at, drop-append-le, drop-append-add, drop-drop}
+use lib.Ieee.{Float, nan}
+use Rattle.theory.specs.Sections.{Section, outs, state}
+use Rattle.q15.proofs.Filling.{listed-ext, listed-take}
+use Rattle.float.specs.Ending.{endingIn}
+use Rattle.float.proofs.Tape.{ends-in, put-over}
+use Rattle.half_band.specs.Windows.{slid}
+use Rattle.half_band.proofs.Blocks.{outs-length}
+use Rattle.half_band.proofs.Moving.{length-slid}
+use Rattle.linear_phase.specs.Windows.{hasCentre, windowValue, windowValues, linearPhase, OnTape}
+use Rattle.linear_phase.proofs.SideBySide.{rest}
+
+pub outs-long : (odd antisymmetric : Bool) (c d v : List Float) → length (outs (linearPhase odd antisymmetric c) d v) ≡ length v
+unfolding linearPhase
+outs-long odd antisymmetric c d v = outs-length (linearPhase odd antisymmetric c) (λ d x. windowValue odd antisymmetric c (d ++ (x ∷ []))) (λ d x. refl) d v
+
+-- ---- delay d and samples v: output i is made of the window from i on, and the last samples are the next delay
+module _ (odd antisymmetric : Bool) (c : List Float) where
+  abbrev f : Section (List Float) Float Float
+  f = linearPhase odd antisymmetric c
+
+  -- a sample that goes in moves the window along
+  along : (d v : List Float) (x : Float) → 1 ≤ length d → slid d (x ∷ []) ++ v ≡ drop 1 (d ++ (x ∷ v))
+  unfolding slid
+  along d v x h = append-assoc (drop 1 d) (x ∷ []) v ∙ sym (drop-append-le 1 d (x ∷ v) h)
+
+  dropped : (n : ℕ) (l : List Float) → drop n (drop 1 l) ≡ drop (suc n) l
+  dropped n l = let e : 1 + n ≡ suc n = omega arith in drop-drop n 1 l ∙ ap (λ (k : ℕ). drop k l) e
+
+  pub state-on : (v d : List Float) → 1 ≤ length d → state f d v ≡ drop (length v) (d ++ v)
+  unfolding linearPhase
+  state-on [] d h = sym (append-nil d)
+  state-on (x ∷ v) d h =
+      let e : length (slid d (x ∷ [])) ≡ length d = length-slid d (x ∷ []) h in
+      state-on v (slid d (x ∷ [])) (omega arith) ∙ ap (drop (length v)) (along d v x h) ∙ dropped (length v) (d ++ (x ∷ v))
+
+  pub value-on : (v : List Float) (i : ℕ) (d : List Float) → 1 ≤ length d → i < length v → getD (outs f d v) i nan ≡ windowValue odd antisymmetric c (take (suc (length d)) (drop i (d ++ v)))
+  unfolding linearPhase
+  value-on [] i d h l = absurd (omega arith)
+  value-on (x ∷ v) zero d h l =
+      ap (windowValue odd antisymmetric c) (sym (ap (λ (n : ℕ). take n (d ++ (x ∷ v))) (sym (add-one (length d))) ∙ take-append-add d (x ∷ v) 1))
+  value-on (x ∷ v) (suc i) d h l =
+      let e : length (slid d (x ∷ [])) ≡ length d = length-slid d (x ∷ []) h in
+      value-on v i (slid d (x ∷ [])) (omega arith) (omega arith)
+      ∙ ap (λ (n : ℕ). windowValue odd antisymmetric c (take (suc n) (drop i (slid d (x ∷ []) ++ v)))) e
+      ∙ ap (λ (t : List Float). windowValue odd antisymmetric c (take (suc (length d)) (drop i t))) (along d v x h)
+      ∙ ap (λ (t : List Float). windowValue odd antisymmetric c (take (suc (length d)) t)) (dropped i (d ++ (x ∷ v)))
+
+  -- all of them
+  pub values-on : (v d : List Float) → 1 ≤ length d → windowValues (hasCentre odd antisymmetric) antisymmetric c (length d) (d ++ v) (length v) ≡ outs f d v
+  unfolding windowValues windowValue
+  values-on v d h =
+      listed-ext (length v) (λ i. windowValue odd antisymmetric c (take (suc (length d)) (drop i (d ++ v)))) (λ i. getD (outs f d v) i nan) (λ i l. sym (value-on v i d h l))
+      ∙ listed-take nan (length v) (outs f d v) (omega (arith, made))
+      ∙ take-all (length v) (outs f d v) (omega (arith, made))
+    where
+      made : length (outs (linearPhase odd antisymmetric c) d v) ≡ length v
+      made = outs-long odd antisymmetric c d v
+
+-- a window of one that is cut off behind it
+pub taken-from : (l : List Float) (m k s : ℕ) → k + s ≤ m → m ≤ length l → take s (drop k (take m l)) ≡ take s (drop k l)
+taken-from l m k s h g =
+    let e : length (take m l) ≡ m = length-take-le m l g in
+    sym (take-append-le s (drop k (take m l)) (drop m l) (simp length-drop (omega (arith, e))))
+    ∙ ap (take s) (sym (drop-append-le k (take m l) (drop m l) (omega (arith, e))))
+    ∙ ap (λ (z : List Float). take s (drop k z)) (take-append-drop m l)
+
+-- samples put behind the delay that stands in front of a tape
+pub laid : (tape d v p : List Float) → take (length d) tape ≡ d → length d + length v ≤ length tape → p ≡ endingIn v (take (length d + length v) tape) → p ≡ d ++ v
+laid tape d v p e h q =
+    let long : length (take (length d + length v) tape) ≡ length d + length v = length-take-le (length d + length v) tape h in
+    let before : length (take (length d + length v) tape) - length v ≡ length d = omega (arith, long) in
+    q
+    ∙ ends-in v (take (length d + length v) tape) (omega (arith, long))
+    ∙ ap (λ (n : ℕ). take n (take (length d + length v) tape) ++ v) before
+    ∙ ap (λ (l : List Float). l ++ v) (take-take (length d) (length d + length v) tape (omega arith) ∙ e)
+
+-- the front of a tape with d and v
+module _ (tape d v : List Float) (e : take (length d + length v) tape ≡ d ++ v) where
+  pub delay-in-front : take (length d) tape ≡ d
+  delay-in-front = sym (take-take (length d) (length d + length v) tape (omega arith)) ∙ ap (take (length d)) e ∙ take-at d v (length d) refl
+
+  pub samples-behind : take (length v) (drop (length d) tape) ≡ v
+  samples-behind =
+      sym (drop-at (take (length d) tape) (take (length v) (drop (length d) tape)) (length d) (ap length delay-in-front))
+      ∙ ap (drop (length d)) (sym (take-add (length d) (length v) tape) ∙ e)
+      ∙ drop-at d v (length d) refl
+
+-- the last of delay and samples, put over the delay
+pub put-last : (d v part last : List Float) → part ≡ drop (length v) (d ++ v) → last ≡ endingIn part d → last ≡ drop (length v) (d ++ v)
+put-last d v part last e q =
+    let long : length part ≡ length d = ap length e ∙ length-drop (length v) (d ++ v) ∙ omega (arith, length-append d v) in
+    put-over d part last long (q ∙ ends-in part d (omega (arith, long))) ∙ e
+
+-- all of them on a tape: its part behind the first samples
+pub tape-last : (tape d v : List Float) → length d + length v ≤ length tape → take (length d + length v) tape ≡ d ++ v
+    → take (length v + length d - length v) (drop (length v) tape) ≡ drop (length v) (d ++ v)
+tape-last tape d v room whole =
+    ap (λ (k : ℕ). take k (drop (length v) tape)) (back (length v) (length d))
+    ∙ sym (drop-at (take (length v) tape) (take (length d) (drop (length v) tape)) (length v) (length-take-le (length v) tape (omega arith)))
+    ∙ ap (drop (length v)) (sym (take-add (length v) (length d) tape) ∙ ap (λ (k : ℕ). take k tape) (add-comm (length v) (length d)) ∙ whole)
+  where
+    back : (n k : ℕ) → n + k - n ≡ k
+    back n k = omega arith
+
+-- where they are fewer than the delay has, it is a part of the tape
+pub few-last : (tape d v : List Float) → length v < length d → 2 * length d ≤ length tape → take (length d) tape ≡ d → OnTape (length d) tape v (length v)
+    → take (length v + length d - length v) (drop (length v) tape) ≡ drop (length v) (d ++ v)
+few-last tape d v few room front on =
+    tape-last tape d v (omega arith) whole
+  where
+    all : min (length v) (length d + 16) ≡ length v
+    all = omega arith
+
+    behind : take (length v) (drop (length d) tape) ≡ v
+    behind = ap (λ (k : ℕ). take k (drop (length d) tape)) (sym all) ∙ on .same ∙ ap (λ (k : ℕ). take k v) all ∙ take-all (length v) v (omega arith)
+
+    whole : take (length d + length v) tape ≡ d ++ v
+    whole = take-add (length d) (length v) tape ∙ ap (λ (l : List Float). l ++ take (length v) (drop (length d) tape)) front ∙ ap (λ (l : List Float). d ++ l) behind
+
+pub many-last : (d v : List Float) → length d ≤ length v → take (length v - (length v - length d)) (drop (length v - length d) v) ≡ drop (length v) (d ++ v)
+many-last d v h =
+    rest v (length v - length d)
+    ∙ sym (drop-append-add d v (length v - length d))
+    ∙ ap (λ (k : ℕ). drop k (d ++ v)) (up (length v) (length d) h)
+  where
+    up : (n k : ℕ) → k ≤ n → k + (n - k) ≡ n
+    up n k h = omega arith
+
+-- ---- one sample
+only : {A : Type 0} (z : A) (l : List A) → length l ≡ 1 → l ≡ getD l 0 z ∷ []
+only z [] h = absurd (omega arith)
+only {A} z (x ∷ []) h = refl
+only z (x ∷ y ∷ l) h = absurd (omega arith)
+
+pub one-state : (odd antisymmetric : Bool) (c d v : List Float) → length v ≡ 1 → slid d (getD v 0 nan ∷ []) ≡ state (linearPhase odd antisymmetric c) d v
+unfolding linearPhase
+one-state odd antisymmetric c d v h = ap (state (linearPhase odd antisymmetric c) d) (sym (only nan v h))
+
+pub one-outs : (odd antisymmetric : Bool) (c d v span : List Float) (y : Float) → length v ≡ 1 → length span ≡ 1 → y ≡ windowValue odd antisymmetric c (d ++ (getD v 0 nan ∷ []))
+    → set span 0 y ≡ outs (linearPhase odd antisymmetric c) d v
+unfolding linearPhase
+one-outs odd antisymmetric c d v span y h l e =
+    ap (λ (s : List Float). set s 0 y) (only nan span l)
+    ∙ ap (λ (x : Float). x ∷ []) e
+    ∙ ap (outs (linearPhase odd antisymmetric c) d) (sym (only nan v h))

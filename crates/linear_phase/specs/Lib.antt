@@ -1,0 +1,3 @@
+pub mod LinearPhase
+pub mod Windows
+pub mod LinearPhaseFir

@@ -1,0 +1,12 @@
+pub mod Nonrecursive
+pub mod EveryRth
+pub mod Halvings
+pub mod Neighbours
+pub mod ThinSteps
+pub mod NonrecursiveStreaming
+pub mod StageByStage
+pub mod Framing
+pub mod OnTape
+pub mod TapeSteps
+pub mod Chunks
+pub mod BlockEnds

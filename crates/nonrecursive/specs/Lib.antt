@@ -1,0 +1,3 @@
+pub mod Nonrecursive
+pub mod NonrecursiveDecimator
+pub mod Tape

@@ -1,0 +1,14 @@
+pub mod Panels
+pub mod Fields
+pub mod Behind
+pub mod Whole
+pub mod WholeFloats
+pub mod WholeLine
+pub mod Back
+pub mod Taken
+pub mod Loops
+pub mod StageLengths
+pub mod EntryLengths
+pub mod WholeSheet
+pub mod ParkedLine
+pub mod Older

@@ -1,0 +1,203 @@
+-- What a line has that an opening made and samples changed: arrays of their length, values of their type, and every place behind those that the settings use as at the
+-- opening. Each section keeps it.
+use mathlib.Core.Path.{_≡_, refl, sym, ap, _∙_, subst}
+use mathlib.Core.Bool.{Bool, true, false, cond}
+use mathlib.Core.List.{List, [], _∷_}
+use Prim.Native.Nat.{ℕ, zero, suc, _+_, _-_, _≤_, _<_}
+use native.Mathlib.Omega.{arith}
+use native.Mathlib.Decide.{decLt}
+use borrow.Author.Tests.{eq-eqb, ltb-false}
+use lib.Dec.{T, leb, ltb, eqb}
+use lib.IntN.{ℤ, pos, negsuc}
+use lib.Signed.{ltZ}
+use lib.ListN.{length, take, drop, set, replicate, length-set, length-append, length-drop, length-replicate}
+use lib.Seq.{length-take-le}
+use mir.Syntax.{w16, w32}
+use mir.Val.{SFits}
+use Rattle.theory.proofs.Wrap.{wrap-fits}
+use Rattle.integer.specs.Stages.{row, integrated, combed}
+use Rattle.integer.specs.CicDecimator.{decimatorOf, decimator, waits}
+use Rattle.integer.specs.declared.cic_decimator.CicDecimator.{CicDecimator}
+use Rattle.integer.proofs.Row.{long-kept}
+use Rattle.q15.specs.Fixed.{cut}
+use Rattle.q15.specs.FirDecimator.{mostTaps, firZeros, firState, stored, moved, firNext}
+use Rattle.q15.specs.FirDecimator as Q
+use Rattle.q15.specs.declared.fir_decimator.FirDecimator.{FirDecimator}
+use Rattle.q15.proofs.FirSteps.{On, valid-on, line-valid}
+use Rattle.parking.specs.Fields.{All}
+use Rattle.parking.proofs.Fields.{all-take, all-drop, all-append, all-set, all-replicate}
+use Rattle.parking.proofs.Behind.{integrators-behind, combs-behind, stored-behind, moved-behind}
+
+-- a list of m places of which n are used
+pub record Used {A : Type 0} (P : A → Type 0) (z : A) (n m : ℕ) (s : List A) : Type 0 where
+  pub long : length s ≡ m
+  pub rest : drop n s ≡ replicate (m - n) z
+  pub typed : All P s
+
+pub used-kept : {A : Type 0} {P : A → Type 0} {z : A} (n m : ℕ) (s t : List A) → Used P z n m s → length t ≡ length s → drop n t ≡ drop n s → All P t → Used P z n m t
+used-kept n m s t u l d a = record { long = l ∙ u .long; rest = d ∙ u .rest; typed = a }
+
+drop-replicate : {A : Type 0} (n m : ℕ) (z : A) → drop n (replicate m z) ≡ replicate (m - n) z
+drop-replicate zero m z = ap (λ (k : ℕ). replicate k z) (let q : m ≡ m - 0 = omega arith in q)
+drop-replicate (suc n) zero z = ap (λ (k : ℕ). replicate k z) (let q : 0 ≡ 0 - suc n = omega arith in q)
+drop-replicate (suc n) (suc m) z = drop-replicate n m z ∙ ap (λ (k : ℕ). replicate k z) (let q : m - n ≡ suc m - suc n = omega arith in q)
+
+-- nothing written yet
+pub used-fresh : {A : Type 0} (P : A → Type 0) (z : A) (n m : ℕ) → P z → Used P z n m (replicate m z)
+used-fresh P z n m p = record { long = length-replicate m z; rest = drop-replicate n m z; typed = all-replicate P m z p }
+
+-- ---- section 1
+
+pub record CicWhole (d : CicDecimator) : Type 0 where
+  pub integrators : Used (SFits w32) (pos 0) (d .stages) 8 (d .«integrator_state»)
+  pub combs : Used (SFits w32) (pos 0) (d .stages) 8 (d .«comb_state»)
+
+-- a row whose values G become states P
+row-typed : {A : Type 0} (P G : A → Type 0) (keep out : A → A → A) → ((a v : A) → G v → P (keep a v)) → ((a v : A) → G v → G (out a v)) → (n : ℕ) (s : List A) (v : A) → All P s → G v
+    → All P (row keep out n s v .state)
+row-typed P G keep out k o zero s v a p = a
+row-typed P G keep out k o (suc n) [] v a p = tt
+row-typed P G keep out k o (suc n) (x ∷ s) v a p = (k x v p, row-typed P G keep out k o n s (out x v) (a .1) (o x v p))
+
+row-value : {A : Type 0} (P : A → Type 0) (keep out : A → A → A) → ((a v : A) → P (out a v)) → (n : ℕ) (s : List A) (v : A) → P v → P (row keep out n s v .val)
+row-value P keep out o zero s v p = p
+row-value P keep out o (suc n) [] v p = p
+row-value P keep out o (suc n) (x ∷ s) v p = row-value P keep out o n s (out x v) (o x v)
+
+integrated-typed : (N : ℕ) (s : List ℤ) (x : ℤ) → All (SFits w32) s → All (SFits w32) (integrated N s x .state)
+unfolding integrated
+integrated-typed N s x a = row-typed (SFits w32) (λ v. Unit {0}) _ _ (λ b v u. wrap-fits w32 _) (λ b v u. tt) N s x a tt
+
+-- what comes out of one integrator at least
+integrated-value : (N : ℕ) (s : List ℤ) (x : ℤ) → 0 < N → 0 < length s → SFits w32 (integrated N s x .val)
+unfolding integrated
+integrated-value zero s x n l = absurd (omega arith)
+integrated-value (suc N) [] x n l = absurd (omega arith)
+integrated-value (suc N) (a ∷ s) x n l = row-value (SFits w32) _ _ (λ b v. wrap-fits w32 _) N s _ (wrap-fits w32 _)
+
+combed-typed : (N : ℕ) (s : List ℤ) (x : ℤ) → All (SFits w32) s → SFits w32 x → All (SFits w32) (combed N s x .state)
+unfolding combed
+combed-typed N s x a f = row-typed (SFits w32) (SFits w32) _ _ (λ b v u. u) (λ b v u. wrap-fits w32 _) N s x a f
+
+integrated-long : (N : ℕ) (s : List ℤ) (x : ℤ) → length (integrated N s x .state) ≡ length s
+unfolding integrated
+integrated-long N s x = long-kept _ _ N s x
+
+combed-long : (N : ℕ) (s : List ℤ) (x : ℤ) → length (combed N s x .state) ≡ length s
+unfolding combed
+combed-long N s x = long-kept _ _ N s x
+
+pub cic-whole : (d : CicDecimator) (x : ℤ) → 0 < d .stages → CicWhole d → CicWhole (decimator .next d x)
+unfolding decimator
+cic-whole d x n w = go (waits d)
+  where
+    N : ℕ
+    N = d .stages
+
+    i : List ℤ
+    i = d .«integrator_state»
+
+    v : ℤ
+    v = integrated N i x .val
+
+    ints : Used (SFits w32) (pos 0) N 8 (integrated N i x .state)
+    ints = used-kept N 8 i _ (w .integrators) (integrated-long N i x) (integrators-behind N i x) (integrated-typed N i x (w .integrators .typed))
+
+    fit : SFits w32 v
+    fit = integrated-value N i x n (let l = w .integrators .long in omega arith)
+
+    cs : Used (SFits w32) (pos 0) N 8 (combed N (d .«comb_state») v .state)
+    cs = used-kept N 8 (d .«comb_state») _ (w .combs) (combed-long N (d .«comb_state») v) (combs-behind N (d .«comb_state») v) (combed-typed N (d .«comb_state») v (w .combs .typed) fit)
+
+    go : (b : Bool) → CicWhole (cond b (decimatorOf N (d .r) (integrated N i x .state) (d .«comb_state») (d .«sample_counter» + 1)) (decimatorOf N (d .r) (integrated N i x .state) (combed N (d .«comb_state») v .state) 0))
+    go true = record { integrators = ints; combs = w .combs }
+    go false = record { integrators = ints; combs = cs }
+
+-- ---- section 2
+
+pub cut-fits : (z : ℤ) → SFits w16 (cut w16 z)
+unfolding cut
+cut-fits (pos n) = go (ltb 32767 n) refl
+  where
+    go : (b : Bool) → ltb 32767 n ≡ b → SFits w16 (cond b (pos 32767) (pos n))
+    go true e = record { sfits = omega arith }
+    go false e = let l = ltb-false 32767 n e in record { sfits = omega arith }
+cut-fits (negsuc n) = go (ltZ (negsuc n) (negsuc 32767)) refl
+  where
+    go : (b : Bool) → ltZ (negsuc n) (negsuc 32767) ≡ b → SFits w16 (cond b (negsuc 32767) (negsuc n))
+    go true e = record { sfits = omega arith }
+    go false e = let l = ltb-false 32767 n e in record { sfits = omega arith }
+
+-- ---- section 3
+
+pub record FirWhole (s : FirDecimator) : Type 0 where
+  pub taps : Used (SFits w16) (pos 0) (s .«tap_count») mostTaps (s .taps)
+  pub delay : Used (SFits w16) (pos 0) (s .«tap_count») mostTaps (s .delay)
+  pub off : s .«tap_count» ≡ 0 → s ≡ firZeros
+
+stored-long : (T w : ℕ) (x : ℤ) (d : List ℤ) → length (stored T w x d) ≡ length d
+unfolding stored
+stored-long T w x d = go (leb w T)
+  where
+    go : (b : Bool) → length (cond b (set d (T - w) x) d) ≡ length d
+    go true = length-set d (T - w) x
+    go false = refl
+
+moved-long : (T D : ℕ) (d : List ℤ) → T ≤ length d → length (moved T D d) ≡ length d
+unfolding moved
+moved-long T D d h =
+    let f : length (take (T - D) (drop D d)) ≡ T - D = length-take-le (T - D) (drop D d) (rw (length-drop D d) (omega arith)) in
+    length-append (take (T - D) (drop D d)) (drop (T - D) d) ∙ rw (f, length-drop (T - D) d) (omega arith)
+
+stored-typed : (T w : ℕ) (x : ℤ) (d : List ℤ) → SFits w16 x → All (SFits w16) d → All (SFits w16) (stored T w x d)
+unfolding stored
+stored-typed T w x d f a = go (leb w T)
+  where
+    go : (b : Bool) → All (SFits w16) (cond b (set d (T - w) x) d)
+    go true = all-set (SFits w16) d (T - w) x a f
+    go false = a
+
+moved-typed : (T D : ℕ) (d : List ℤ) → All (SFits w16) d → All (SFits w16) (moved T D d)
+unfolding moved
+moved-typed T D d a = all-append (SFits w16) (take (T - D) (drop D d)) (drop (T - D) d) (all-take (SFits w16) (T - D) (drop D d) (all-drop (SFits w16) D d a)) (all-drop (SFits w16) (T - D) d a)
+
+module _ (s : FirDecimator) (x : ℤ) (f : SFits w16 x) (w : FirWhole s) (nz : s .«tap_count» ≡ 0 → ⊥) (on : On (s .«tap_count») (s .factor) (s .wait)) where
+  abbrev Tn : ℕ
+  Tn = s .«tap_count»
+
+  abbrev taken : List ℤ
+  taken = stored Tn (s .wait) x (s .delay)
+
+  taken-used : Used (SFits w16) (pos 0) Tn mostTaps taken
+  taken-used =
+      used-kept Tn mostTaps (s .delay) taken (w .delay) (stored-long Tn (s .wait) x (s .delay)) (stored-behind Tn (s .wait) x (s .delay) (on .waits .0) (let p : 0 < Tn = omega arith in p))
+      (stored-typed Tn (s .wait) x (s .delay) f (w .delay .typed))
+
+  room : Tn ≤ length taken
+  room = let l = taken-used .long in let k = on .within .few in omega arith
+
+  moved-used : Used (SFits w16) (pos 0) Tn mostTaps (moved Tn (s .factor) taken)
+  moved-used =
+      used-kept Tn mostTaps taken _ taken-used (moved-long Tn (s .factor) taken room) (moved-behind Tn (s .factor) taken room) (moved-typed Tn (s .factor) taken (taken-used .typed))
+
+  fir-on : FirWhole (firNext s x)
+  unfolding firNext
+  fir-on = go (eqb Tn 0) refl (ltb mostTaps Tn) (leb (s .wait) 1)
+    where
+      go :
+          (a : Bool) → eqb Tn 0 ≡ a → (b c : Bool)
+          → FirWhole (cond a s (cond b s (cond c (firState (s .taps) Tn (s .factor) (moved Tn (s .factor) taken) (s .factor)) (firState (s .taps) Tn (s .factor) taken (s .wait - 1)))))
+      go true e b c = w
+      go false e true c = w
+      go false e false true = record { taps = w .taps; delay = moved-used; off = λ z. absurd (nz z) }
+      go false e false false = record { taps = w .taps; delay = taken-used; off = λ z. absurd (nz z) }
+
+fir-off : (s : FirDecimator) (x : ℤ) → s .«tap_count» ≡ 0 → firNext s x ≡ s
+unfolding firNext
+fir-off s x e = rw (eq-eqb (s .«tap_count») 0 e)
+
+pub fir-whole : (s : FirDecimator) (x : ℤ) → Q.validInLine s ≡ true → SFits w16 x → FirWhole s → FirWhole (firNext s x)
+fir-whole s x v f w = elim (decLt 0 (s .«tap_count»)) [
+  | yes h ↦ (let n : s .«tap_count» ≡ 0 → ⊥ = omega arith in fir-on s x f w n (valid-on (s .«tap_count») (s .factor) (s .wait) (line-valid (s .«tap_count») (s .factor) (s .wait) n v)))
+  | no h ↦ (let z : s .«tap_count» ≡ 0 = omega arith in subst FirWhole (sym (fir-off s x z)) w)
+]

@@ -1,0 +1,9 @@
+// 02, request 6: a line parked as a tap sheet.
+mod entries;
+mod off;
+mod put;
+pub mod settings;
+mod writing;
+
+pub use crate::writing::park;
+pub use crate::writing::parked_len;

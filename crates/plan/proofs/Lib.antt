@@ -1,0 +1,6 @@
+pub mod Clocks
+pub mod Sections
+pub mod LineClock
+pub mod Going
+pub mod Listing
+pub mod Start

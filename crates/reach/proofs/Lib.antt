@@ -1,0 +1,3 @@
+mod Equality
+mod Reaching
+mod ReachTables

@@ -1,0 +1,5 @@
+pub mod Rooms
+pub mod Opened
+pub mod Again
+pub mod Accepted
+pub mod Histories

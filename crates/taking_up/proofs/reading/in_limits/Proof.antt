@@ -1,0 +1,27 @@
+-- `in_limits` meets its contract.
+use Rattle.taking_up.specs.Taking as T
+use native.Mathlib.Omega.{arith}
+use borrow.Author.Needs.{needs}
+use Rattle.taking_up.proofs.reading.in_limits.Statement.{statement}
+use Rattle.taking_up.proofs.reading.in_limits.Tie as tie
+
+both-requires : tie.Need-both-requires
+both-requires c κs = search needs
+
+both-requires-2 : tie.Need-both-requires-2
+both-requires-2 c κs = search needs
+
+both-requires-3 : tie.Need-both-requires-3
+both-requires-3 c κs = search needs
+
+both-requires-4 : tie.Need-both-requires-4
+both-requires-4 c κs = search needs
+
+returns : tie.Need-returns
+unfolding T.inLimits
+returns c =
+    rw (c .both4 .ensures, c .before .both3 .ensures, c .before .before .before .before .both2 .ensures, c .before .before .before .before .before .both .ensures)
+
+pub in-limits-spec : {M : Type 1} → statement M
+in-limits-spec =
+    tie.close (tie.spec both-requires both-requires-2 both-requires-3 both-requires-4 returns)

@@ -1,0 +1,4 @@
+pub mod Taking
+pub mod Long
+pub mod TakenBack
+pub mod AsParked
