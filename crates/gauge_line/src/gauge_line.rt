@@ -1,4 +1,4 @@
-// The gauge line: the fields of its decimator, its FIR, its half-band stages and its resampler, in this order, and its count of cut values.
+// The gauge line: the fields of its decimator, its FIR, its half-band stages and its resampler, in this order, and its count of cut values; then which kind thins, and the neighbours.
 ghost use mathlib.Core.Path.{_≡_};
 ghost use mathlib.Core.Bool.{true};
 ghost use lib.Dec.{ltb};
@@ -9,7 +9,7 @@ ghost use Rattle.line.specs.Outputs.{Opening};
 ghost use Rattle.line.specs.Line as L;
 ghost use Rattle.line.specs.Demand3.{Demand3};
 ghost use Rattle.line.specs.declared.settings.Settings.{Settings};
-ghost use Rattle.gauge_line.specs.Crossing.{crossedStep, isSet};
+ghost use Rattle.gauge_line.specs.Crossing.{crossedStep, isSet, kindOf};
 ghost use Rattle.gauge_line.specs.States.{entry, exit, IsFlag, lineAt};
 use crate::answers::counts_number;
 use crate::answers::counts_taken;
@@ -23,10 +23,13 @@ use crate::states::decimator;
 use crate::states::fir;
 use crate::states::flag;
 use crate::states::is_set;
+use crate::states::kind;
+use crate::states::kind_number;
 use crate::states::put_decimator;
 use crate::states::put_fir;
 use crate::states::put_resampler;
 use crate::states::put_stream;
+use crate::states::put_thinning;
 use crate::states::resampler;
 use crate::states::stream;
 use float::polyphase_resamp::MOST_CELLS;
@@ -39,11 +42,12 @@ use line::LineNumbers;
 use line::Settings;
 use line::feed_lent;
 use line::step_lent;
+use nonrecursive::nonrecursive_decimator::MAX_NEIGHBOURS;
 use q15::MOST_TAPS;
 
-// The number in the name is that of the line's layout: a program that was compiled with a header in which the arrays are shorter does not link.
+// The number in the name is that of the line's layout: a program that was compiled with a header of another layout does not link.
 #[no_mangle]
-pub extern "C" fn gauge_raw_line_open_2(
+pub extern "C" fn gauge_raw_line_open_3(
     wanted_stages: usize,
     wanted_r: usize,
     wanted_factor: usize,
@@ -52,6 +56,7 @@ pub extern "C" fn gauge_raw_line_open_2(
     wanted_phase_taps: usize,
     wanted_straight: usize,
     wanted_step: f32,
+    wanted_thinning: usize,
     wanted_taps: &[i16],
     wanted_prototype: &[f32],
     stages: &mut usize,
@@ -76,8 +81,10 @@ pub extern "C" fn gauge_raw_line_open_2(
     delay: &mut [f32; MOST_PHASE_TAPS],
     prototype: &mut [f32; MOST_CELLS],
     cuts: &mut u32,
+    thinning: &mut usize,
+    neighbours: &mut [i32; MAX_NEIGHBOURS],
 ) -> usize
-    ensures setting { λ n. ⌜ IsFlag (now (straight .exit)) ⌝ }
+    ensures setting { λ n. ⌜ IsFlag (now (straight .exit)) × IsFlag (now (thinning .exit)) ⌝ }
     ensures answer { λ n. ⌜ (
         let settings : Settings = record {
           stages = «wanted_stages»;
@@ -88,10 +95,11 @@ pub extern "C" fn gauge_raw_line_open_2(
           taps = «wanted_phase_taps»;
           straight = isSet «wanted_straight»;
           step = «wanted_step»;
+          thinning = kindOf «wanted_thinning»;
         } in
         let wanted : Opening = record { settings = settings; taps = now («wanted_taps» .entry); prototype = now («wanted_prototype» .entry) } in
         let after = lineAt exit stages r integrators combs «sample_counter» taps «tap_count» factor «fir_delay» wait
-        depth delays held counts phases «phase_taps» straight mu step delay prototype cuts in
+        depth delays held counts phases «phase_taps» straight mu step delay prototype cuts thinning neighbours in
         record { number = n; state = after } ≡ L.opened wanted) ⌝ }
 {
     let settings = Settings {
@@ -103,6 +111,7 @@ pub extern "C" fn gauge_raw_line_open_2(
         taps: wanted_phase_taps,
         straight: is_set(wanted_straight),
         step: wanted_step,
+        thinning: kind(wanted_thinning),
     };
     let opened = Line::open(settings, wanted_taps, wanted_prototype);
     let next = opened.line;
@@ -120,6 +129,8 @@ pub extern "C" fn gauge_raw_line_open_2(
         prototype,
     );
     *cuts = next.cuts;
+    let kind = next.thinning;
+    put_thinning(kind, next.neighbours, thinning, neighbours);
     let answer = opened.answer;
     opening_number(answer)
 }
@@ -148,21 +159,25 @@ pub extern "C" fn gauge_raw_line_reset(
     delay: &mut [f32; MOST_PHASE_TAPS],
     prototype: &mut [f32; MOST_CELLS],
     cuts: &mut u32,
+    thinning: &mut usize,
+    neighbours: &mut [i32; MAX_NEIGHBOURS],
 ) -> usize
-    ensures setting { λ n. ⌜ IsFlag (now (straight .exit)) ⌝ }
+    ensures setting { λ n. ⌜ IsFlag (now (straight .exit)) × IsFlag (now (thinning .exit)) ⌝ }
     ensures answer { λ n. ⌜ (
         let before = lineAt entry stages r integrators combs «sample_counter» taps «tap_count» factor «fir_delay» wait
-        depth delays held counts phases «phase_taps» straight mu step delay prototype cuts in
+        depth delays held counts phases «phase_taps» straight mu step delay prototype cuts thinning neighbours in
         let after = lineAt exit stages r integrators combs «sample_counter» taps «tap_count» factor «fir_delay» wait
-        depth delays held counts phases «phase_taps» straight mu step delay prototype cuts in
+        depth delays held counts phases «phase_taps» straight mu step delay prototype cuts thinning neighbours in
         record { number = n; state = after } ≡ L.reset before) ⌝ }
     ensures accepted { λ n. ⌜ (
         let before = lineAt entry stages r integrators combs «sample_counter» taps «tap_count» factor «fir_delay» wait
-        depth delays held counts phases «phase_taps» straight mu step delay prototype cuts in
+        depth delays held counts phases «phase_taps» straight mu step delay prototype cuts thinning neighbours in
         L.valid before ≡ true → n ≡ 0) ⌝ }
 {
     let line = Line {
+        thinning: kind(*thinning),
         cic: decimator(*stages, *r, *integrators, *combs, *sample_counter),
+        neighbours: *neighbours,
         fir: fir(*taps, *tap_count, *factor, *fir_delay, *wait),
         half_band: stream(*depth, *delays, *held, *counts),
         resampler: resampler(
@@ -192,6 +207,8 @@ pub extern "C" fn gauge_raw_line_reset(
         prototype,
     );
     *cuts = next.cuts;
+    let kind = next.thinning;
+    put_thinning(kind, next.neighbours, thinning, neighbours);
     let answer = opened.answer;
     opening_number(answer)
 }
@@ -221,6 +238,8 @@ pub extern "C" fn gauge_raw_line_step(
     delay: &mut [f32; MOST_PHASE_TAPS],
     prototype: &mut [f32; MOST_CELLS],
     cuts: &mut u32,
+    thinning: &mut usize,
+    neighbours: &mut [i32; MAX_NEIGHBOURS],
     samples: &[i32],
     at: usize,
     places: usize,
@@ -228,12 +247,12 @@ pub extern "C" fn gauge_raw_line_step(
     written: &mut usize,
     value: &mut f32,
 ) -> usize
-    ensures setting { λ n. ⌜ IsFlag (now (straight .exit)) ⌝ }
+    ensures setting { λ n. ⌜ IsFlag (now (straight .exit)) × IsFlag (now (thinning .exit)) ⌝ }
     ensures answer { λ n. ⌜ (
         let before = lineAt entry stages r integrators combs «sample_counter» taps «tap_count» factor «fir_delay» wait
-        depth delays held counts phases «phase_taps» straight mu step delay prototype cuts in
+        depth delays held counts phases «phase_taps» straight mu step delay prototype cuts thinning neighbours in
         let after = lineAt exit stages r integrators combs «sample_counter» taps «tap_count» factor «fir_delay» wait
-        depth delays held counts phases «phase_taps» straight mu step delay prototype cuts in
+        depth delays held counts phases «phase_taps» straight mu step delay prototype cuts thinning neighbours in
         record { number = n; value = (now (taken .exit), (now (written .exit), now (value .exit))); state = after }
         ≡ crossedStep (L.stepOutcome before (ltb 0 places) (headOf (drop at (now (samples .entry)))))) ⌝ }
 {
@@ -251,11 +270,13 @@ pub extern "C" fn gauge_raw_line_step(
         mu: *mu,
         step: *step,
         cuts: *cuts,
+        thinning: kind(*thinning),
     };
     let done = step_lent(
         n,
         integrators,
         combs,
+        neighbours,
         taps,
         fir_delay,
         delays,
@@ -281,6 +302,8 @@ pub extern "C" fn gauge_raw_line_step(
     *mu = m.mu;
     *step = m.step;
     *cuts = m.cuts;
+    let after = m.thinning;
+    *thinning = kind_number(after);
     let did = done.step;
     *taken = step_taken(did);
     *written = step_written(did);
@@ -313,28 +336,30 @@ pub extern "C" fn gauge_raw_line_feed(
     delay: &mut [f32; MOST_PHASE_TAPS],
     prototype: &mut [f32; MOST_CELLS],
     cuts: &mut u32,
+    thinning: &mut usize,
+    neighbours: &mut [i32; MAX_NEIGHBOURS],
     samples: &[i32],
     out: &mut [f32],
     taken: &mut usize,
     written: &mut usize,
 ) -> usize
-    ensures setting { λ n. ⌜ IsFlag (now (straight .exit)) ⌝ }
+    ensures setting { λ n. ⌜ IsFlag (now (straight .exit)) × IsFlag (now (thinning .exit)) ⌝ }
     ensures answer { λ n. ⌜ (
         let before = lineAt entry stages r integrators combs «sample_counter» taps «tap_count» factor «fir_delay» wait
-        depth delays held counts phases «phase_taps» straight mu step delay prototype cuts in
+        depth delays held counts phases «phase_taps» straight mu step delay prototype cuts thinning neighbours in
         let after = lineAt exit stages r integrators combs «sample_counter» taps «tap_count» factor «fir_delay» wait
-        depth delays held counts phases «phase_taps» straight mu step delay prototype cuts in
+        depth delays held counts phases «phase_taps» straight mu step delay prototype cuts thinning neighbours in
         let moved : Moved = record { taken = now (taken .exit); written = now (written .exit) } in
         record { number = n; value = moved; state = after } ≡ L.feedOutcome before (now (samples .entry)) (length (now (out .entry)))) ⌝ }
     ensures span { λ n. ⌜ (
         let before = lineAt entry stages r integrators combs «sample_counter» taps «tap_count» factor «fir_delay» wait
-        depth delays held counts phases «phase_taps» straight mu step delay prototype cuts in
+        depth delays held counts phases «phase_taps» straight mu step delay prototype cuts thinning neighbours in
         now (out .exit) ≡ L.feedSpan before (now (samples .entry)) (now (out .entry))) ⌝ }
     ensures demand3 { λ n. ⌜ (
         let before = lineAt entry stages r integrators combs «sample_counter» taps «tap_count» factor «fir_delay» wait
-        depth delays held counts phases «phase_taps» straight mu step delay prototype cuts in
+        depth delays held counts phases «phase_taps» straight mu step delay prototype cuts thinning neighbours in
         let after = lineAt exit stages r integrators combs «sample_counter» taps «tap_count» factor «fir_delay» wait
-        depth delays held counts phases «phase_taps» straight mu step delay prototype cuts in
+        depth delays held counts phases «phase_taps» straight mu step delay prototype cuts thinning neighbours in
         let moved : Moved = record { taken = now (taken .exit); written = now (written .exit) } in
         Demand3 before (now (samples .entry)) (now (out .entry)) (now (out .exit)) (record { number = n; value = moved; state = after })) ⌝ }
 {
@@ -352,11 +377,13 @@ pub extern "C" fn gauge_raw_line_feed(
         mu: *mu,
         step: *step,
         cuts: *cuts,
+        thinning: kind(*thinning),
     };
     let done = feed_lent(
         n,
         integrators,
         combs,
+        neighbours,
         taps,
         fir_delay,
         delays,
@@ -381,6 +408,8 @@ pub extern "C" fn gauge_raw_line_feed(
     *mu = m.mu;
     *step = m.step;
     *cuts = m.cuts;
+    let after = m.thinning;
+    *thinning = kind_number(after);
     let moved = done.moved;
     *taken = counts_taken(moved);
     *written = counts_written(moved);

@@ -6,7 +6,7 @@
 //! request 9, the same without the mark.
 
 use gauge_line::limits::MOST_TAPS;
-use gauge_line::{Line, Phase, Settings};
+use gauge_line::{Line, Phase, Settings, Thinning};
 use std::fmt::Write;
 use std::path::PathBuf;
 use std::str::FromStr;
@@ -92,6 +92,7 @@ impl History {
             "depth" => self.settings.depth = number(),
             "phases" => self.settings.phases = number(),
             "phase_taps" => self.settings.phase_taps = number(),
+            "neighbours" => self.settings.thinning = Thinning::Neighbours,
             "straight" => self.settings.phase = Phase::Straight,
             "step" => self.settings.step = float(values[0]),
             "taps" => self.taps = numbers(values),
@@ -209,13 +210,23 @@ fn a_short_span_stays_as_it_was() {
 fn the_largest_line_has_the_most_bytes() {
     let settings = Settings {
         stages: 8,
-        r: 1,
         factor: 1,
         depth: 5,
         phases: 64,
         phase_taps: 16,
         ..Settings::default()
     };
-    let line = Line::open(settings, &[1; MOST_TAPS], &[0.0; 1024]).unwrap();
-    assert_eq!(line.parked_len(), Ok(Line::MOST_PARKED));
+    let bytes = |settings| {
+        let line = Line::open(settings, &[1; MOST_TAPS], &[0.0; 1024])?;
+        line.parked_len()
+    };
+    assert_eq!(bytes(settings), Ok(5576));
+    let thinned = (1..=8).flat_map(|stages| (0..=12).map(move |halvings| Settings {
+        stages,
+        r: 1 << halvings,
+        thinning: Thinning::Neighbours,
+        ..settings
+    }));
+    let most = thinned.filter_map(|settings| bytes(settings).ok()).max();
+    assert_eq!(most, Some(Line::MOST_PARKED));
 }
