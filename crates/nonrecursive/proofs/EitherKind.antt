@@ -115,6 +115,18 @@ unfolding validAt
 either-below thinning.Integrators N r counter v = sound N r counter v .below
 either-below thinning.Neighbours N r counter v = valid-parts N r counter v .1
 
+-- and its settings are none that the opening refuses
+settings-by : (k : Thinning) (N r counter : ℕ) → validAt k N r counter ≡ true → leb (gainBits N r) mostBits ≡ true → settingsNumber k N r ≡ 0
+unfolding validAt settingsNumber factorFor
+settings-by thinning.Integrators N r counter v b = let s = sound N r counter v in rw (s .stages, s .factor, b)
+settings-by thinning.Neighbours N r counter v b = let s = K.sound N r (valid-parts N r counter v .0) in rw (s .stages, s .factor, s .power, b)
+
+pub either-settings : (t : Thinner) → fine t ≡ true → settingsNumber (t .kind) (t .cic .stages) (t .cic .r) ≡ 0
+unfolding fine
+either-settings t e =
+    let h = and-true (validAt (t .kind) (t .cic .stages) (t .cic .r) (t .cic .«sample_counter»)) _ e in
+    settings-by (t .kind) (t .cic .stages) (t .cic .r) (t .cic .«sample_counter») (h .0) (h .1)
+
 -- a sum comes with the sample that the counter says
 answers-by : (k : Thinning) (c : CicDecimator) (n : List ℤ) (x : ℤ) → validAt k (c .stages) (c .r) (c .«sample_counter») ≡ true → (y : ℤ) × (outBy k (with-parts k c n) x ≡ cond (waits c) none (some y))
 unfolding validAt decimator nonrecursive
