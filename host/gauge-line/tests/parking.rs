@@ -221,12 +221,14 @@ fn the_largest_line_has_the_most_bytes() {
         line.parked_len()
     };
     assert_eq!(bytes(settings), Ok(5576));
-    let thinned = (1..=8).flat_map(|stages| (0..=12).map(move |halvings| Settings {
-        stages,
-        r: 1 << halvings,
-        thinning: Thinning::Neighbours,
-        ..settings
-    }));
+    let thinned = (1..=8).flat_map(|stages| {
+        (0..=12).map(move |halvings| Settings {
+            stages,
+            r: 1 << halvings,
+            thinning: Thinning::Neighbours,
+            ..settings
+        })
+    });
     let most = thinned.filter_map(|settings| bytes(settings).ok()).max();
     assert_eq!(most, Some(Line::MOST_PARKED));
 }

@@ -330,7 +330,7 @@ mod tests {
     #[test]
     fn each_part_of_the_explanation_is_there() {
         let text = explained(FULL, Unit::Sample);
-        assert!(text.starts_with("f: a state of 6808 bytes, 6 gain bits of at most 31\n"));
+        assert!(text.starts_with("f: a state of 7200 bytes, 6 gain bits of at most 31\n"));
         assert!(text.contains("worst alias into 0 to 0.4    -15.0 dB"));
         assert!(explained(&FULL.replace("1.5", "0.1"), Unit::Sample).contains(" 3.2 "));
         assert!(!explained(PLAIN, Unit::Sample).contains("alias"));

@@ -9,7 +9,7 @@ use crate::lent::{Lent, Slice};
 use crate::line_calls::Opened;
 use crate::line_cases;
 use crate::line_settings;
-use crate::parked_line::{self, ENTRIES, Panel};
+use crate::parked_line::{self, Panel};
 use crate::refusals::STATE;
 use crate::rng::Rng;
 use crate::samples;
@@ -143,7 +143,7 @@ const LONGEST: u64 = 20_000;
 
 /// Every entry as long as the settings entry makes it, with bytes of its own in front.
 fn relengthen(rng: &mut Rng, entries: &mut [Vec<u8>]) {
-    let lengths = parked_line::lengths(&entries[0]);
+    let lengths = parked_line::lengths(&entries[0], entries.len());
     for (entry, length) in entries.iter_mut().zip(lengths) {
         let fill = rng.pick(&[0, 0, 1]);
         entry.resize(length.min(LONGEST) as usize, fill);
@@ -164,7 +164,7 @@ const FLOATS: [u32; 8] = [
 
 /// Four bytes where a float may stand, or two where a number may.
 fn change_field(rng: &mut Rng, entries: &mut [Vec<u8>]) {
-    let k = rng.below(ENTRIES as u64) as usize;
+    let k = rng.below(entries.len() as u64) as usize;
     let entry = &mut entries[k];
     let words = entry.len() as u64 / 2;
     if words < 2 {
@@ -181,7 +181,7 @@ fn change_field(rng: &mut Rng, entries: &mut [Vec<u8>]) {
 
 /// The number in front of an entry: counter, wait, held count, mu.
 fn change_front(rng: &mut Rng, entries: &mut [Vec<u8>]) {
-    let k = rng.pick(&[1, 3, 4, 6]);
+    let k = rng.pick(&[1, 3, 4, 6, entries.len() - 1]);
     let old = entries[0][2];
     let number: u16 = rng.pick(&[0, 1, 2, old.into(), 64, 65, 128, 129, 4096, 4097, 0xffff]);
     if let Some(front) = entries[k].get_mut(..2) {
@@ -191,7 +191,7 @@ fn change_front(rng: &mut Rng, entries: &mut [Vec<u8>]) {
 
 /// One entry longer or shorter, missing or twice.
 fn change_entries(rng: &mut Rng, entries: &mut Vec<Vec<u8>>) {
-    let k = rng.below(ENTRIES as u64) as usize;
+    let k = rng.below(entries.len() as u64) as usize;
     match rng.below(5) {
         0 => drop(entries.remove(k)),
         1 => entries.insert(k, entries[k].clone()),
@@ -233,7 +233,7 @@ fn some_sheet(rng: &mut Rng) -> Vec<u8> {
         false => parked_line::sheet(&entries),
     };
     match rng.below(8) {
-        0 => tap_sheet::damage(rng, &mut sheet, ENTRIES),
+        0 => tap_sheet::damage(rng, &mut sheet, entries.len()),
         1 => {
             let at = rng.below(sheet.len() as u64) as usize;
             sheet[at] ^= 1 << rng.below(8);
@@ -256,6 +256,7 @@ const STORED: [&[u8]; 5] = [
 const OLDER: Panel = Panel {
     most_taps: 64,
     rule: Rule::Former,
+    has_neighbours: false,
 };
 
 /// A count over 32, as a panel without the mark reads it.
