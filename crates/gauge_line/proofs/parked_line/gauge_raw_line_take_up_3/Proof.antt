@@ -1,4 +1,4 @@
--- `gauge_raw_line_take_up_2` meets its contract: it hands over what the layer's `take_up` answers, field by field.
+-- `gauge_raw_line_take_up_3` meets its contract: it hands over what the layer's `take_up` answers, field by field.
 use mathlib.Core.Path.{_≡_, refl, _∙_, subst⁻¹}
 use mathlib.Core.List.{List}
 use Prim.Native.Nat.{ℕ}
@@ -9,8 +9,8 @@ use Rattle.taking_up.specs.AsParked.{AsParked}
 use Rattle.taking_up.specs.TakenBack.{TakenBack}
 use Rattle.gauge_line.proofs.Lines.{same-line, same-opened}
 use borrow.Author.Needs.{needs}
-use Rattle.gauge_line.proofs.parked_line.gauge_raw_line_take_up_2.Statement.{statement}
-use Rattle.gauge_line.proofs.parked_line.gauge_raw_line_take_up_2.Tie as tie
+use Rattle.gauge_line.proofs.parked_line.gauge_raw_line_take_up_3.Statement.{statement}
+use Rattle.gauge_line.proofs.parked_line.gauge_raw_line_take_up_3.Tie as tie
 
 told-back : (b : List ℕ) (r s : Opened Line) → r ≡ s → TakenBack b s → TakenBack b r
 told-back b r s e t = subst⁻¹ (TakenBack b) e t
@@ -61,8 +61,8 @@ returns c =
       ),
     )
 
-pub gauge-raw-line-take-up-2-spec : {M : Type 1} → statement M
-gauge-raw-line-take-up-2-spec =
+pub gauge-raw-line-take-up-3-spec : {M : Type 1} → statement M
+gauge-raw-line-take-up-3-spec =
     tie.close
     (tie.spec
     take-up-requires

@@ -1,9 +1,9 @@
--- `gauge_raw_line_open_2` meets its contract: it hands over what the layer's `«open»` answers, field by field.
+-- `gauge_raw_line_open_3` meets its contract: it hands over what the layer's `«open»` answers, field by field.
 use mathlib.Core.Path.{_≡_}
 use borrow.Author.Needs.{needs}
 use Rattle.gauge_line.proofs.Lines.{same-line, same-opened}
-use Rattle.gauge_line.proofs.gauge_line.gauge_raw_line_open_2.Statement.{statement}
-use Rattle.gauge_line.proofs.gauge_line.gauge_raw_line_open_2.Tie as tie
+use Rattle.gauge_line.proofs.gauge_line.gauge_raw_line_open_3.Statement.{statement}
+use Rattle.gauge_line.proofs.gauge_line.gauge_raw_line_open_3.Tie as tie
 
 is-set-requires : tie.Need-is-set-requires
 is-set-requires c κs = search needs
@@ -38,8 +38,8 @@ returns c =
       same-opened _ _ _ _ _ (c .opening-number .ensures) told (rw (done .before .is-set .ensures) at (done .«open» .ensures)),
     )
 
-pub gauge-raw-line-open-2-spec : {M : Type 1} → statement M
-gauge-raw-line-open-2-spec =
+pub gauge-raw-line-open-3-spec : {M : Type 1} → statement M
+gauge-raw-line-open-3-spec =
     tie.close
     (tie.spec
     is-set-requires

@@ -1,7 +1,7 @@
--- `gauge_raw_plan` meets its contract: it hands over what the layer's `feeding_plan` answers.
+-- `gauge_raw_plan_3` meets its contract: it hands over what the layer's `feeding_plan` answers.
 use borrow.Author.Needs.{needs}
-use Rattle.gauge_line.proofs.feeding_plan.gauge_raw_plan.Statement.{statement}
-use Rattle.gauge_line.proofs.feeding_plan.gauge_raw_plan.Tie as tie
+use Rattle.gauge_line.proofs.feeding_plan.gauge_raw_plan_3.Statement.{statement}
+use Rattle.gauge_line.proofs.feeding_plan.gauge_raw_plan_3.Tie as tie
 
 is-set-requires : tie.Need-is-set-requires
 is-set-requires c κs = search needs
@@ -23,5 +23,5 @@ returns c =
     let done = c .before .before .before .before .before in
     rw (c .plan-number .ensures) (rw (done .before .before .before .is-set .ensures) at (done .feeding-plan .ensures))
 
-pub gauge-raw-plan-spec : {M : Type 1} → statement M
-gauge-raw-plan-spec = tie.close (tie.spec is-set-requires feeding-plan-requires plan-number-requires same-length same-length-2 returns)
+pub gauge-raw-plan-3-spec : {M : Type 1} → statement M
+gauge-raw-plan-3-spec = tie.close (tie.spec is-set-requires feeding-plan-requires plan-number-requires same-length same-length-2 returns)
