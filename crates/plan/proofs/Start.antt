@@ -15,6 +15,7 @@ use Rattle.refusal.specs.Outcome.{Moved}
 use Rattle.refusal.specs.Rows.{firstOf, outside}
 use Rattle.refusal.proofs.Limits.{within}
 use Rattle.integer.specs.Limits.{factorOk}
+use Rattle.nonrecursive.proofs.EitherKind.{either-opens}
 use Rattle.q15.specs.Block.{mostFactor}
 use Rattle.q15.specs.FirDecimator as Q
 use Rattle.q15.proofs.FirSteps.{settings-in, line-settings}
@@ -142,7 +143,9 @@ module _ (o : Opening) (zero : opened o .number ≡ 0) where
 
   fresh-runs : Runs (fresh o)
   unfolding fresh
-  fresh-runs = (in-limits .some-r, (fir-runs (o .settings) (o .taps) in-limits, (refl, tt)))
+  fresh-runs =
+      let s = o .settings in
+      (either-opens (s .thinning) (s .stages) (s .r) (ok o zero .thinned), (fir-runs (o .settings) (o .taps) in-limits, (refl, tt)))
 
   pub first-runs : K.Runs first
   first-runs =
