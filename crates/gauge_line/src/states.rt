@@ -307,7 +307,7 @@ pub(crate) fn flag(yes: bool) -> usize
 pub(crate) fn kind(n: usize) -> Thinning
     ensures { λ k. ⌜ k ≡ kindOf n ⌝ }
 {
-    if n != 0 {
+    if is_set(n) {
         return Thinning::Neighbours;
     }
     Thinning::Integrators

@@ -36,19 +36,23 @@ put-stream-requires c κs = search needs
 put-resampler-requires : tie.Need-put-resampler-requires
 put-resampler-requires c κs = search needs
 
+put-thinning-requires : tie.Need-put-thinning-requires
+put-thinning-requires c κs = search needs
+
 opening-number-requires : tie.Need-opening-number-requires
 opening-number-requires c κs = search needs
 
 returns : tie.Need-returns
 returns c =
-    let resampler = c .before in
+    let thinning = c .before in
+    let resampler = thinning .before .before .before .before in
     let half-band = resampler .before .before .before .before .before .before .before .before in
     let fir = half-band .before .before .before .before .before in
     let cic = fir .before .before .before .before .before .before in
     let done = cic .before .before .before .before .before .before .before in
-    let told = same-line _ _ _ _ _ _ _ _ _ (cic .put-decimator .ensures) (fir .put-fir .ensures) (half-band .put-stream .ensures) (resampler .put-resampler .ensures .0) in
+    let told = same-line _ _ _ _ _ _ _ _ _ _ _ _ _ (thinning .put-thinning .ensures .0 .0) (cic .put-decimator .ensures) (thinning .put-thinning .ensures .0 .1) (fir .put-fir .ensures) (half-band .put-stream .ensures) (resampler .put-resampler .ensures .0) in
     let same = same-opened _ _ _ _ _ (c .opening-number .ensures) told refl in (
-      resampler .put-resampler .ensures .1,
+      (resampler .put-resampler .ensures .1, thinning .put-thinning .ensures .1),
       (
         same ∙ done .take-up .ensures .0,
         (
@@ -70,5 +74,6 @@ gauge-raw-line-take-up-3-spec =
     put-fir-requires
     put-stream-requires
     put-resampler-requires
+    put-thinning-requires
     opening-number-requires
     returns)
