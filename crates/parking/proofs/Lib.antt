@@ -12,3 +12,6 @@ pub mod EntryLengths
 pub mod WholeSheet
 pub mod ParkedLine
 pub mod Older
+pub mod Alike
+pub mod AlikeParts
+pub mod Trimmed

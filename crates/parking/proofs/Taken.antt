@@ -104,7 +104,7 @@ resampler-numbers p v w = elim (decLt 0 (p .phases)) [
 
 -- ---- a part that is off is zeros already
 
-fir-on-is : (s : FirDecimator) → FirWhole s → firOn s ≡ s
+pub fir-on-is : (s : FirDecimator) → FirWhole s → firOn s ≡ s
 unfolding firOn
 fir-on-is s w = go (eqb (s .«tap_count») 0) refl
   where
@@ -115,7 +115,7 @@ fir-on-is s w = go (eqb (s .«tap_count») 0) refl
 fir-numbers : (s : FirDecimator) → Q.validInLine s ≡ true → FirWhole s → FirNumbers s
 fir-numbers s v w = subst FirNumbers (fir-on-is s w) (on-numbers s v)
 
-resampler-on-is : (p : PolyphaseResampF32) → ResamplerWhole p → resamplerOn p ≡ p
+pub resampler-on-is : (p : PolyphaseResampF32) → ResamplerWhole p → resamplerOn p ≡ p
 unfolding resamplerOn
 resampler-on-is p w = go (eqb (p .phases) 0) refl
   where

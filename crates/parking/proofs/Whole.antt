@@ -135,7 +135,7 @@ pub record FirWhole (s : FirDecimator) : Type 0 where
   pub delay : Used (SFits w16) (pos 0) (s .«tap_count») mostTaps (s .delay)
   pub off : s .«tap_count» ≡ 0 → s ≡ firZeros
 
-stored-long : (T w : ℕ) (x : ℤ) (d : List ℤ) → length (stored T w x d) ≡ length d
+pub stored-long : (T w : ℕ) (x : ℤ) (d : List ℤ) → length (stored T w x d) ≡ length d
 unfolding stored
 stored-long T w x d = go (leb w T)
   where
@@ -143,7 +143,7 @@ stored-long T w x d = go (leb w T)
     go true = length-set d (T - w) x
     go false = refl
 
-moved-long : (T D : ℕ) (d : List ℤ) → T ≤ length d → length (moved T D d) ≡ length d
+pub moved-long : (T D : ℕ) (d : List ℤ) → T ≤ length d → length (moved T D d) ≡ length d
 unfolding moved
 moved-long T D d h =
     let f : length (take (T - D) (drop D d)) ≡ T - D = length-take-le (T - D) (drop D d) (rw (length-drop D d) (omega arith)) in

@@ -197,13 +197,13 @@ sound-feed = feed-keeps line Sound sound-after sound-next
 
 -- ---- openings
 
-zero-i32 : SFits w32 (pos 0)
+pub zero-i32 : SFits w32 (pos 0)
 zero-i32 = record { sfits = omega arith }
 
-zero-i16 : SFits w16 (pos 0)
+pub zero-i16 : SFits w16 (pos 0)
 zero-i16 = record { sfits = omega arith }
 
-zero-f32 : IsFloat zero32
+pub zero-f32 : IsFloat zero32
 zero-f32 = ofBits-fits binary32 0
 
 -- values in front, and zeros behind
@@ -215,7 +215,7 @@ padded-used P z m s h a p =
       typed = all-append P s (replicate (m - length s) z) a (all-replicate P (m - length s) z p);
     }
 
-zeros-whole : FirWhole firZeros
+pub zeros-whole : FirWhole firZeros
 zeros-whole = record { taps = used-fresh (SFits w16) (pos 0) 0 mostTaps zero-i16; delay = used-fresh (SFits w16) (pos 0) 0 mostTaps zero-i16; off = λ z. refl }
 
 fir-fresh : (c : List ℤ) (D : ℕ) → settingsNumberInLine (length c) D ≡ 0 → All (SFits w16) c → FirWhole (Q.freshInLine c D)
@@ -229,7 +229,7 @@ fir-fresh c D e a = go (eqb (length c) 0) refl
         let i = settings-in (length c) D (line-settings (length c) D n e) in
         record { taps = padded-used (SFits w16) (pos 0) mostTaps c (i .few) a zero-i16; delay = used-fresh (SFits w16) (pos 0) (length c) mostTaps zero-i16; off = λ z. absurd (n z) }
 
-resampler-off : ResamplerWhole R.zeros
+pub resampler-off : ResamplerWhole R.zeros
 unfolding R.zeros
 resampler-off =
     record {
@@ -245,7 +245,7 @@ take-replicate zero m z h = refl
 take-replicate (suc n) zero z h = absurd (omega arith)
 take-replicate (suc n) (suc m) z h = ap (λ (l : List _). z ∷ l) (take-replicate n m z (omega arith))
 
-half-fresh : (n : ℕ) → HalfWhole (streamFresh n)
+pub half-fresh : (n : ℕ) → HalfWhole (streamFresh n)
 half-fresh n =
     record {
       sized = record { delays = refl; held = refl; counts = refl };
