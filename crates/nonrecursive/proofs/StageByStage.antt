@@ -273,3 +273,12 @@ module _ (N : ℕ) where
       go : (p / 2 + 1 < 2 ^ m → thinned N m (drop N (summed N s v .state)) (p / 2) (summed N s v .val) .out ≡ none) → Dec (p % 2 < 1) → thinned N (suc m) s p v .out ≡ none
       go ih (yes l) = ap (λ (z : Thinned). z .out) (first-step m s p v (omega arith))
       go ih (no l) = ap (λ (z : Thinned). z .out) (second-step m s p v (omega arith)) ∙ ih (omega (arith, double m))
+
+  -- and one whose place is the last makes a sum
+  pub last-out : (m : ℕ) (s : List ℤ) (p : ℕ) (v : ℤ) → p + 1 ≡ 2 ^ m → (y : ℤ) × (thinned N m s p v .out ≡ some y)
+  unfolding thinned
+  last-out zero s p v h = (v, refl)
+  last-out (suc m) s p v h =
+      let odd : p % 2 ≡ 0 → ⊥ = omega (arith, double m) in
+      let y = last-out m (drop N (summed N s v .state)) (p / 2) (summed N s v .val) (omega (arith, double m)) in
+      (y .0, ap (λ (z : Thinned). z .out) (second-step m s p v odd) ∙ y .1)
