@@ -12,10 +12,16 @@ use lib.IntN.{ℤ, pos, _+ℤ_}
 use lib.Ieee.{Float, nan, binary32, add, sub, lt}
 use lib.ListN.{length, getD, take, drop, set, length-drop, length-append}
 use lib.Seq.{take-nil, take-at, take-append-add, take-take, take-set-lt, getD-take, length-take-le}
-use Rattle.integer.specs.Stages.{row, integrated, combed}
-use Rattle.integer.specs.CicDecimator.{decimatorOf, decimator, scaledDecimator, scaledBy, waits}
+use Rattle.integer.specs.Stages.{integrated, combed}
+use Rattle.integer.specs.CicDecimator.{decimatorOf, decimator, scaledBy}
 use Rattle.integer.specs.Gain.{gainBits}
 use Rattle.integer.specs.declared.cic_decimator.CicDecimator.{CicDecimator}
+use mir.Syntax.{w32}
+use Rattle.theory.specs.Wrap.{wrap}
+use Rattle.nonrecursive.specs.NonrecursiveDecimator.{halvings, thinned, nonrecursive}
+use Rattle.nonrecursive.specs.EitherKind.{Thinner, nextBy, outBy, either}
+use Rattle.nonrecursive.specs.declared.thinning.Thinning.{Thinning}
+use Rattle.nonrecursive.specs.declared.thinning.Thinning.the-variants as thinning
 use Rattle.q15.specs.Fixed.{flooredProduct, at}
 use Rattle.q15.specs.FirSum.{sum, firSum}
 use Rattle.q15.specs.PolyphaseDecimate.{windowSum, filtered}
@@ -36,30 +42,14 @@ use Rattle.float.specs.PolyphaseResamp.{shiftedIn, consumed, passed, outputOf, 
 use Rattle.float.specs.declared.polyphase_resamp.PolyphaseResampF32.{PolyphaseResampF32}
 use Rattle.float.proofs.PolyphaseOutput.{outputs-alike}
 use Rattle.line.proofs.Flags.{and-left}
+use Rattle.parking.specs.Parked.{neighbourCount}
+use Rattle.parking.proofs.Fronts.{front-at, drop-front, row-front}
+use Rattle.parking.proofs.Thinned.{thinned-long, thinned-front}
 use Rattle.parking.proofs.Whole.{stored-long, moved-long}
 use Rattle.parking.proofs.WholeFloats.{shifted-long}
 use Rattle.parking.proofs.Alike.{AlikeSection, Alike}
 
--- ---- lists with the same front
-
-pub front-at : {A : Type 0} (n : ℕ) (s t : List A) (i : ℕ) (z : A) → take n s ≡ take n t → i < n → getD s i z ≡ getD t i z
-front-at {A} n s t i z e h = sym (getD-take n s i z h) ∙ ap (λ (l : List A). getD l i z) e ∙ getD-take n t i z h
-
-pub drop-front : {A : Type 0} (n m : ℕ) (s : List A) → take (n - m) (drop m s) ≡ drop m (take n s)
-drop-front n zero s = ap (λ (k : ℕ). take k s) (let q : n - 0 ≡ n = omega arith in q)
-drop-front zero (suc m) s = ap (λ (k : ℕ). take k (drop (suc m) s)) (let q : 0 - suc m ≡ 0 = omega arith in q)
-drop-front (suc n) (suc m) [] = take-nil (suc n - suc m)
-drop-front (suc n) (suc m) (x ∷ s) = ap (λ (k : ℕ). take k (drop m s)) (let q : suc n - suc m ≡ n - m = omega arith in q) ∙ drop-front n m s
-
 -- ---- section 1
-
--- a row of n stages goes by the first n states
-row-front : {A : Type 0} (keep out : A → A → A) (n : ℕ) (s : List A) (v : A) → (row keep out n s v .val ≡ row keep out n (take n s) v .val) × (take n (row keep out n s v .state) ≡ row keep out n (take n s) v .state)
-row-front keep out zero s v = (refl, refl)
-row-front keep out (suc n) [] v = (refl, refl)
-row-front {A} keep out (suc n) (a ∷ s) v =
-    let r = row-front keep out n s (out a v) in
-    (r .0, ap (λ (l : List A). keep a v ∷ l) (r .1))
 
 integrated-front : (n : ℕ) (s t : List ℤ) (x : ℤ) → take n s ≡ take n t → (integrated n s x .val ≡ integrated n t x .val) × (take n (integrated n s x .state) ≡ take n (integrated n t x .state))
 unfolding integrated
@@ -105,7 +95,7 @@ module _ (N r c : ℕ) (i j u v : List ℤ) (x : ℤ) (ei : take N i ≡ take N 
       go :
           (b : Bool)
           → CicSame (cond b (decimatorOf N r (integrated N i x .state) u (c + 1)) (decimatorOf N r (integrated N i x .state) (combed N u (integrated N i x .val) .state) 0))
-            (cond b (decimatorOf N r (integrated N j x .state) v (c + 1)) (decimatorOf N r (integrated N j x .state) (combed N v (integrated N j x .val) .state) 0))
+          (cond b (decimatorOf N r (integrated N j x .state) v (c + 1)) (decimatorOf N r (integrated N j x .state) (combed N v (integrated N j x .val) .state) 0))
       go true = record { stages = refl; r = refl; counter = refl; integrators = sums .1; combs = eu }
       go false = record { stages = refl; r = refl; counter = refl; integrators = sums .1; combs = combs-same _ _ (sums .0) .1 }
 
@@ -121,17 +111,99 @@ module _ (N r c : ℕ) (i j u v : List ℤ) (x : ℤ) (ei : take N i ≡ take N 
 again : (d e : CicDecimator) → CicSame d e → e ≡ decimatorOf (d .stages) (d .r) (e .«integrator_state») (e .«comb_state») (d .«sample_counter»)
 again d e s = rw (s .stages, s .r, s .counter)
 
-pub cic-alike : AlikeSection scaledDecimator (λ d. Unit {0}) CicSame
-unfolding scaledDecimator
-cic-alike =
+pub record NeighboursSame (d : CicDecimator) (n : List ℤ) (e : CicDecimator) (m : List ℤ) : Type 0 where
+  pub stages : d .stages ≡ e .stages
+  pub r : d .r ≡ e .r
+  pub counter : d .«sample_counter» ≡ e .«sample_counter»
+  pub front : take (neighbourCount (d .stages) (d .r)) n ≡ take (neighbourCount (d .stages) (d .r)) m
+  pub room : neighbourCount (d .stages) (d .r) ≤ length n
+  pub room-too : neighbourCount (d .stages) (d .r) ≤ length m
+
+-- of either kind; the arrays of the other are not looked at
+abbrev pub ThinSameBy : Thinning → CicDecimator → List ℤ → CicDecimator → List ℤ → Type 0
+ThinSameBy thinning.Integrators d n e m = CicSame d e
+ThinSameBy thinning.Neighbours d n e m = NeighboursSame d n e m
+
+pub record ThinSame (s t : Thinner) : Type 0 where
+  pub kind : s .kind ≡ t .kind
+  pub by-kind : ThinSameBy (s .kind) (s .cic) (s .neighbours) (t .cic) (t .neighbours)
+
+cic-next : (d e : CicDecimator) (x : ℤ) → CicSame d e → CicSame (decimator .next d x) (decimator .next e x)
+cic-next d e x s =
+    subst (λ (k : CicDecimator). CicSame (decimator .next d x) (decimator .next k x)) (sym (again d e s))
+    (next-same (d .stages) (d .r) (d .«sample_counter») (d .«integrator_state») (e .«integrator_state») (d .«comb_state») (e .«comb_state») x (s .integrators) (s .combs))
+
+cic-out : (d e : CicDecimator) (x : ℤ) → CicSame d e → decimator .out d x ≡ decimator .out e x
+cic-out d e x s =
+    out-same (d .stages) (d .r) (d .«sample_counter») (d .«integrator_state») (e .«integrator_state») (d .«comb_state») (e .«comb_state») x (s .integrators) (s .combs)
+    ∙ ap (λ (k : CicDecimator). decimator .out k x) (sym (again d e s))
+
+-- two of neighbours of the same numbers
+module _ (N r c : ℕ) (i j u v n m : List ℤ) (x : ℤ) (h : neighbourCount N r ≤ length n) (k : neighbourCount N r ≤ length m) (e : take (neighbourCount N r) n ≡ take (neighbourCount N r) m) where
+  abbrev all-front : (thinned N (halvings r) n c (wrap w32 x) .out ≡ thinned N (halvings r) m c (wrap w32 x) .out) × (take (N * halvings r) (thinned N (halvings r) n c (wrap w32 x) .state) ≡ take (N * halvings r) (thinned N (halvings r) m c (wrap w32 x) .state))
+  all-front = thinned-front N (halvings r) n m c (wrap w32 x) (unfold neighbourCount in h) (unfold neighbourCount in k) (unfold neighbourCount in e)
+
+  abbrev one-of : Thinner
+  one-of = record { kind = thinning.Neighbours; cic = decimatorOf N r i u c; neighbours = n }
+
+  abbrev other-of : Thinner
+  other-of = record { kind = thinning.Neighbours; cic = decimatorOf N r j v c; neighbours = m }
+
+  neighbours-next : ThinSame (nextBy thinning.Neighbours one-of x) (nextBy thinning.Neighbours other-of x)
+  unfolding nonrecursive
+  neighbours-next =
+      record {
+        kind = refl;
+        by-kind = record {
+          stages = refl;
+          r = refl;
+          counter = refl;
+          front = unfold neighbourCount in all-front .1;
+          room = (let l = thinned-long N (halvings r) n c (wrap w32 x) in omega arith);
+          room-too = (let l = thinned-long N (halvings r) m c (wrap w32 x) in omega arith);
+        };
+      }
+
+  neighbours-out : outBy thinning.Neighbours one-of x ≡ outBy thinning.Neighbours other-of x
+  unfolding nonrecursive
+  neighbours-out = all-front .0
+
+again-too : (d e : CicDecimator) (n m : List ℤ) → NeighboursSame d n e m → e ≡ decimatorOf (d .stages) (d .r) (e .«integrator_state») (e .«comb_state») (d .«sample_counter»)
+again-too d e n m s = rw (s .stages, s .r, s .counter)
+
+abbrev with-parts : Thinning → CicDecimator → List ℤ → Thinner
+with-parts k d n = record { kind = k; cic = d; neighbours = n }
+
+next-by-kind : (k : Thinning) (d e : CicDecimator) (n m : List ℤ) (x : ℤ) → ThinSameBy k d n e m → ThinSame (nextBy k (with-parts k d n) x) (nextBy k (with-parts k e m) x)
+next-by-kind thinning.Integrators d e n m x s = record { kind = refl; by-kind = cic-next d e x s }
+next-by-kind thinning.Neighbours d e n m x s =
+    subst (λ (z : CicDecimator). ThinSame (nextBy thinning.Neighbours (with-parts thinning.Neighbours d n) x) (nextBy thinning.Neighbours (with-parts thinning.Neighbours z m) x)) (sym (again-too d e n m s))
+    (neighbours-next (d .stages) (d .r) (d .«sample_counter») (d .«integrator_state») (e .«integrator_state») (d .«comb_state») (e .«comb_state») n m x (s .room) (s .room-too) (s .front))
+
+out-by-kind : (k : Thinning) (d e : CicDecimator) (n m : List ℤ) (x : ℤ) → ThinSameBy k d n e m → outBy k (with-parts k d n) x ≡ outBy k (with-parts k e m) x
+out-by-kind thinning.Integrators d e n m x s = cic-out d e x s
+out-by-kind thinning.Neighbours d e n m x s =
+    neighbours-out (d .stages) (d .r) (d .«sample_counter») (d .«integrator_state») (e .«integrator_state») (d .«comb_state») (e .«comb_state») n m x (s .room) (s .room-too) (s .front)
+    ∙ ap (λ (z : CicDecimator). outBy thinning.Neighbours (with-parts thinning.Neighbours z m) x) (sym (again-too d e n m s))
+
+numbers-by-kind : (k : Thinning) (d e : CicDecimator) (n m : List ℤ) → ThinSameBy k d n e m → (d .stages ≡ e .stages) × (d .r ≡ e .r)
+numbers-by-kind thinning.Integrators d e n m s = (s .stages, s .r)
+numbers-by-kind thinning.Neighbours d e n m s = (s .stages, s .r)
+
+-- the second with the first one's kind
+kind-again : (s t : Thinner) → ThinSame s t → t ≡ with-parts (s .kind) (t .cic) (t .neighbours)
+kind-again s t e = rw (e .kind)
+
+pub thin-alike : AlikeSection either (λ t. Unit {0}) ThinSame
+unfolding either
+thin-alike =
     record {
-      next = λ d e x g s.
-          subst (λ (k : CicDecimator). CicSame (decimator .next d x) (decimator .next k x)) (sym (again d e s))
-          (next-same (d .stages) (d .r) (d .«sample_counter») (d .«integrator_state») (e .«integrator_state») (d .«comb_state») (e .«comb_state») x (s .integrators) (s .combs));
-      out = λ d e x g s.
-          ap (scaledBy (gainBits (d .stages) (d .r)))
-          (out-same (d .stages) (d .r) (d .«sample_counter») (d .«integrator_state») (e .«integrator_state») (d .«comb_state») (e .«comb_state») x (s .integrators) (s .combs))
-          ∙ ap (λ (k : CicDecimator). scaledBy (gainBits (k .stages) (k .r)) (decimator .out k x)) (sym (again d e s));
+      next = λ s t x g e.
+          subst (λ (k : Thinner). ThinSame (nextBy (s .kind) s x) (nextBy (k .kind) k x)) (sym (kind-again s t e)) (next-by-kind (s .kind) (s .cic) (t .cic) (s .neighbours) (t .neighbours) x (e .by-kind));
+      out = λ s t x g e.
+          let n = numbers-by-kind (s .kind) (s .cic) (t .cic) (s .neighbours) (t .neighbours) (e .by-kind) in
+          ap₂ {C = Option ℤ} scaledBy (ap₂ {C = ℕ} gainBits (n .0) (n .1)) (out-by-kind (s .kind) (s .cic) (t .cic) (s .neighbours) (t .neighbours) x (e .by-kind))
+          ∙ ap (λ (k : Thinner). scaledBy (gainBits (t .cic .stages) (t .cic .r)) (outBy (k .kind) k x)) (sym (kind-again s t e));
     }
 
 -- ---- section 3
@@ -223,7 +295,7 @@ module _ (T D w : ℕ) (c e d f : List ℤ) (x : ℤ) (some-wait : 0 < w) (some-
       go :
           (a b k : Bool)
           → FirSame (cond a here (cond b here (cond k (firState c T D (after d) D) (firState c T D (stored T w x d) (w - 1)))))
-            (cond a there (cond b there (cond k (firState e T D (after f) D) (firState e T D (stored T w x f) (w - 1)))))
+          (cond a there (cond b there (cond k (firState e T D (after f) D) (firState e T D (stored T w x f) (w - 1)))))
       go true b k = same-with d f w ed rd rf
       go false true k = same-with d f w ed rd rf
       go false false true = same-with (after d) (after f) D (moved-front T D (stored T w x d) (stored T w x f) (room-in d rd) (room-in f rf) in-front) (room-after d rd) (room-after f rf)

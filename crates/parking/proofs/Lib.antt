@@ -1,6 +1,8 @@
 pub mod Panels
 pub mod Fields
+pub mod Fronts
 pub mod Behind
+pub mod Thinned
 pub mod Whole
 pub mod WholeFloats
 pub mod WholeLine

@@ -22,8 +22,13 @@ use Rattle.theory.specs.Tally.{heldSum}
 use Rattle.theory.specs.Feeds as F
 use Rattle.theory.proofs.FeedRules.{feed-keeps}
 use Rattle.refusal.specs.Outcome.{Opened}
-use Rattle.integer.specs.CicDecimator.{decimatorOf, scaledDecimator}
+use Rattle.integer.specs.CicDecimator.{decimatorOf}
 use Rattle.integer.specs.declared.cic_decimator.CicDecimator.{CicDecimator}
+use Rattle.nonrecursive.specs.NonrecursiveDecimator.{mostNeighbours}
+use Rattle.nonrecursive.specs.EitherKind.{Thinner, either}
+use Rattle.nonrecursive.specs.EitherKind as E
+use Rattle.nonrecursive.specs.declared.thinning.Thinning.{Thinning}
+use Rattle.nonrecursive.specs.declared.thinning.Thinning.the-variants as thinning
 use Rattle.q15.specs.Fixed.{cut, cutOne}
 use Rattle.q15.specs.FirDecimator.{mostTaps, firZeros, firState, fir, firSumOut}
 use Rattle.q15.specs.FirDecimator as Q
@@ -41,26 +46,27 @@ use Rattle.float.specs.PolyphaseResamp.{inLine, validInLine, validInLineAt}
 use Rattle.float.specs.PolyphaseResamp as R
 use Rattle.float.specs.declared.polyphase_resamp.PolyphaseResampF32.{PolyphaseResampF32}
 use Rattle.line.specs.Outputs.{mostCuts}
-use Rattle.line.specs.Line.{Parts, partsOf, cutsFor, sumCut, from3, from4, chain, line, cicFine, halfBandFine, valid, fedLine, feedOutcome, feedSpan}
+use Rattle.line.specs.Line.{Parts, thinnerOf, partsOf, cutsFor, sumCut, from3, from4, chain, line, halfBandFine, valid, fedLine, feedOutcome, feedSpan}
 use Rattle.line.specs.Demand3.{History, none-yet, fed}
 use Rattle.line.specs.declared.gauge_line.Line.{Line}
 use Rattle.line.proofs.Flags.{not-says, not-is}
 use Rattle.line.proofs.Lawful.{to-parts, of-parts, line-lawful}
 use Rattle.line.proofs.Demanded.{outcome-is}
 use Rattle.parking.specs.Alike.{LineTyped, fedOn, GoesOnAlike}
-use Rattle.parking.specs.Entries.{firOn, resamplerOn, settingsIn, cicBytes, tapBytes, delayBytes, windowOf, stageBytes, stagesBytes, prototypeBytes, resamplerBytes, entriesOf, lineEntries}
+use Rattle.parking.specs.Entries.{firOn, resamplerOn, settingsIn, cicBytes, tapBytes, delayBytes, windowOf, stageBytes, stagesBytes, prototypeBytes, resamplerBytes, entriesOf, neighboursBytes, thinEntries, entriesBy, lineEntries}
 use Rattle.parking.specs.Fields.{All, IsFloat, f32Bytes, joined}
-use Rattle.parking.specs.Parked.{Panel, parked}
+use Rattle.parking.specs.Parked.{Panel, neighbourCount, parked}
 use Rattle.parking.specs.Parking.{parkedLine, parkNumber, takenUp}
 use Rattle.parking.proofs.Loops.{getD-any}
 use Rattle.parking.proofs.Fields.{all-take, all-append, all-replicate}
 use Rattle.parking.proofs.Behind.{stage-long}
-use Rattle.parking.proofs.Whole.{Used, CicWhole, FirWhole}
+use Rattle.parking.proofs.Thinned.{few-neighbours}
+use Rattle.parking.proofs.Whole.{Used, CicWhole, ThinWholeBy, ThinNumbers, thin-numbers, FirWhole}
 use Rattle.parking.proofs.WholeFloats.{HalfUsed, HalfTyped, ResamplerWhole, stage-typed, with-used, window-is}
-use Rattle.parking.proofs.WholeLine.{LineWhole, Sound, cic-stages, half-depth, resampler-taps, half-fresh, zeros-whole, resampler-off, zero-i32, zero-i16, zero-f32}
+use Rattle.parking.proofs.WholeLine.{LineWhole, Sound, half-depth, resampler-taps, half-fresh, zeros-whole, resampler-off, zero-i32, zero-i16, zero-f32}
 use Rattle.parking.proofs.Taken.{fir-on-is, resampler-on-is, taken-back}
 use Rattle.parking.proofs.Alike.{Alike, alike-before, AlikeSection, SameFed, feed-same}
-use Rattle.parking.proofs.AlikeParts.{CicSame, cic-alike, FirSame, fir-both, fir-alike, HalfSame, half-alike, ResamplerSame, resampler-alike}
+use Rattle.parking.proofs.AlikeParts.{CicSame, ThinSameBy, ThinSame, thin-alike, FirSame, fir-both, fir-alike, HalfSame, half-alike, ResamplerSame, resampler-alike}
 
 -- ---- an array: what is used, and zeros
 
@@ -106,6 +112,56 @@ module _ (d : CicDecimator) (few : d .stages ≤ 8) (li : length (d .«integrato
   trim-cic-same : CicSame d (trimCic d)
   unfolding trimCic
   trim-cic-same = record { stages = refl; r = refl; counter = refl; integrators = sym ints; combs = sym combs }
+
+-- of either kind: the arrays of the other as zeros
+trimThin : Thinning → CicDecimator → CicDecimator
+trimThin thinning.Integrators d = trimCic d
+trimThin thinning.Neighbours d = decimatorOf (d .stages) (d .r) (replicate 8 (pos 0)) (replicate 8 (pos 0)) (d .«sample_counter»)
+
+trimNeighbours : Thinning → CicDecimator → List ℤ → List ℤ
+trimNeighbours thinning.Integrators d n = replicate mostNeighbours (pos 0)
+trimNeighbours thinning.Neighbours d n = front (neighbourCount (d .stages) (d .r)) mostNeighbours (pos 0) n
+
+record ThinTrim (k : Thinning) (d : CicDecimator) (n : List ℤ) : Type 0 where
+  whole : ThinWholeBy k (trimThin k d) (trimNeighbours k d n)
+  same : ThinSameBy k d n (trimThin k d) (trimNeighbours k d n)
+  fine : E.fine (record { kind = k; cic = d; neighbours = n }) ≡ true → E.fine (record { kind = k; cic = trimThin k d; neighbours = trimNeighbours k d n }) ≡ true
+  entries : (f : FirDecimator) (s : HbfStream) (p : PolyphaseResampF32) (cuts : ℕ) → entriesBy k (trimThin k d) (trimNeighbours k d n) f s p cuts ≡ entriesBy k d n f s p cuts
+
+module _
+    (d : CicDecimator) (n : List ℤ) (few : d .stages ≤ 8) (small : d .r ≤ 4096) (li : length (d .«integrator_state») ≡ 8) (lc : length (d .«comb_state») ≡ 8) (ln : length n ≡ 96)
+    (ai : All (SFits w32) (d .«integrator_state»)) (ac : All (SFits w32) (d .«comb_state»)) (an : All (SFits w32) n)
+  where
+    abbrev m : ℕ
+    m = neighbourCount (d .stages) (d .r)
+
+    m-few : m ≤ 96
+    m-few = few-neighbours (d .stages) (d .r) few small
+
+    m-front : take m (front m 96 (pos 0) n) ≡ take m n
+    m-front = front-take m 96 (pos 0) n (let h = m-few in omega arith)
+
+    m-used : Used (SFits w32) (pos 0) m 96 (front m 96 (pos 0) n)
+    m-used = front-used (SFits w32) (pos 0) m 96 n m-few ln an zero-i32
+
+    seven-entries : (f : FirDecimator) (s : HbfStream) (p : PolyphaseResampF32) (cuts : ℕ) → entriesOf (trimCic d) f s p cuts ≡ entriesOf d f s p cuts
+    unfolding entriesOf
+    seven-entries f s p cuts = rw (trim-cic-bytes d few li lc) (unfold settingsIn trimCic in refl)
+
+    eight-entries : (f : FirDecimator) (s : HbfStream) (p : PolyphaseResampF32) (cuts : ℕ) → thinEntries (trimThin thinning.Neighbours d) (front m 96 (pos 0) n) f s p cuts ≡ thinEntries d n f s p cuts
+    unfolding thinEntries neighboursBytes settingsIn trimThin
+    eight-entries f s p cuts = rw m-front
+
+    thin-trim : (k : Thinning) → ThinTrim k d n
+    unfolding trimThin trimNeighbours entriesBy E.fine trimCic
+    thin-trim thinning.Integrators = record { whole = (unfold trimCic in trim-cic-whole d few li lc ai ac, refl); same = unfold trimCic in trim-cic-same d few li lc; fine = λ v. v; entries = unfold trimCic in seven-entries }
+    thin-trim thinning.Neighbours =
+        record {
+          whole = (refl, (refl, m-used));
+          same = record { stages = refl; r = refl; counter = refl; front = sym m-front; room = (let h = m-few in omega arith); room-too = (let h = m-few in let l = m-used .long in omega arith) };
+          fine = λ v. v;
+          entries = unfold trimThin in eight-entries;
+        }
 
 -- ---- section 3
 
@@ -234,9 +290,9 @@ module _ (s : HbfStream) (few : s .depth ≤ 5) (z : Sized s) (ad : All IsFloat 
   unfolding halfBandFine
   half-fine v =
       not-is _ (line-not-refused (t .depth) (t .counts) (λ p.
-          let q : 1 ≤ s .depth = rw t-depth at p in
-          let f = refused-says (s .depth) (s .counts) (line-refused-says (s .depth) (s .counts) q (not-says _ v)) in
-          rw t-depth (not-refused (s .depth) (t .counts) (record { some = f .some; few = f .few; held = λ j l. rw (count-is j l) (f .held j l) }))))
+      let q : 1 ≤ s .depth = rw t-depth at p in
+      let f = refused-says (s .depth) (s .counts) (line-refused-says (s .depth) (s .counts) q (not-says _ v)) in
+      rw t-depth (not-refused (s .depth) (t .counts) (record { some = f .some; few = f .few; held = λ j l. rw (count-is j l) (f .held j l) }))))
 
 -- ---- section 5
 
@@ -328,7 +384,7 @@ module _
 -- a line is the same as another as far as any section looks, and has its cut count
 abbrev SameParts : Parts → Parts → Type 0
 SameParts p q =
-    CicSame (p .0) (q .0)
+    ThinSame (p .0) (q .0)
     × ((Unit {0}) × (FirSame (p .1 .1 .0) (q .1 .1 .0) × ((Unit {0}) × (HalfSame (p .1 .1 .1 .1 .0) (q .1 .1 .1 .1 .0) × ResamplerSame (p .1 .1 .1 .1 .1) (q .1 .1 .1 .1 .1)))))
 
 pub record SameLine (l k : Line) : Type 0 where
@@ -348,8 +404,11 @@ module _ (l : Line) (v : valid l ≡ true) (ty : LineTyped l) where
   abbrev p : PolyphaseResampF32
   p = l .resampler
 
-  stages-few : d .stages ≤ 8
-  stages-few = cic-stages d (to-parts l v .0) .1
+  numbers : ThinNumbers d
+  numbers = thin-numbers (thinnerOf l) (to-parts l v .0)
+
+  tr : ThinTrim (l .thinning) d (l .neighbours)
+  tr = thin-trim d (l .neighbours) (numbers .stages) (numbers .r) (ty .arrays .integrators) (ty .arrays .combs) (ty .neighbours-long) (ty .integrators) (ty .combs) (ty .neighbours) (l .thinning)
 
   depth-few : s .depth ≤ 5
   depth-few = half-depth s (to-parts l v .1 .1 .1 .1 .0)
@@ -364,21 +423,27 @@ module _ (l : Line) (v : valid l ≡ true) (ty : LineTyped l) where
   rt = resampler-trim p (to-parts l v .1 .1 .1 .1 .1) (ty .arrays .delay) (ty .arrays .prototype) (ty .delay) (ty .prototype) (ty .mu) (ty .step)
 
   pub trimmed : Line
-  trimmed = record { cic = trimCic d; fir = trimFir f; «half_band» = filled s (s .depth); resampler = trimResampler p; cuts = l .cuts }
+  trimmed =
+      record {
+        thinning = l .thinning;
+        cic = trimThin (l .thinning) d;
+        neighbours = trimNeighbours (l .thinning) d (l .neighbours);
+        fir = trimFir f;
+        «half_band» = filled s (s .depth);
+        resampler = trimResampler p;
+        cuts = l .cuts;
+      }
 
   trimmed-valid : valid trimmed ≡ true
   unfolding trimmed
   trimmed-valid =
-      of-parts trimmed (cic-fine, (tt, (ft .fine, (tt, (unfold t in half-fine s depth-few sized (ty .delays) (ty .held) (to-parts l v .1 .1 .1 .1 .0), rt .fine)))))
-    where
-      cic-fine : cicFine (trimCic d) ≡ true
-      cic-fine = unfold trimCic in unfold cicFine in to-parts l v .0
+      of-parts trimmed (tr .fine (to-parts l v .0), (tt, (ft .fine, (tt, (unfold t in half-fine s depth-few sized (ty .delays) (ty .held) (to-parts l v .1 .1 .1 .1 .0), rt .fine)))))
 
   trimmed-whole : LineWhole trimmed
   unfolding trimmed
   trimmed-whole =
       record {
-        cic = trim-cic-whole d stages-few (ty .arrays .integrators) (ty .arrays .combs) (ty .integrators) (ty .combs);
+        thinner = tr .whole;
         fir = ft .whole;
         half-band = unfold t in subst (λ (n : ℕ). HalfUsed n (filled s (s .depth))) (sym (filled-depth s depth-few sized (ty .delays) (ty .held) (s .depth))) (t-used s depth-few sized (ty .delays) (ty .held));
         resampler = rt .whole;
@@ -389,12 +454,12 @@ module _ (l : Line) (v : valid l ≡ true) (ty : LineTyped l) where
   unfolding trimmed
   same-trimmed =
       record {
-        parts = (trim-cic-same d stages-few (ty .arrays .integrators) (ty .arrays .combs), (tt, (ft .same, (tt, (unfold t in half-same s depth-few sized (ty .delays) (ty .held), rt .same)))));
+        parts = (record { kind = refl; by-kind = tr .same }, (tt, (ft .same, (tt, (unfold t in half-same s depth-few sized (ty .delays) (ty .held), rt .same)))));
         cuts = refl;
       }
 
-  same-settings : settingsIn (trimCic d) (trimFir f) (filled s (s .depth) .depth) (trimResampler p) (l .cuts) ≡ settingsIn d (firOn f) (s .depth) (resamplerOn p) (l .cuts)
-  unfolding settingsIn trimCic
+  same-settings : settingsIn d (trimFir f) (filled s (s .depth) .depth) (trimResampler p) (l .cuts) ≡ settingsIn d (firOn f) (s .depth) (resamplerOn p) (l .cuts)
+  unfolding settingsIn
   same-settings = rw (filled-depth s depth-few sized (ty .delays) (ty .held) (s .depth), ft .count, ft .factor, rt .phases, rt .taps, rt .straight, rt .step)
 
   same-stages : stagesBytes (filled s (s .depth)) (min (filled s (s .depth) .depth) 5) ≡ stagesBytes s (min (s .depth) 5)
@@ -402,26 +467,22 @@ module _ (l : Line) (v : valid l ≡ true) (ty : LineTyped l) where
       ap (λ (n : ℕ). stagesBytes (filled s (s .depth)) (min n 5)) (filled-depth s depth-few sized (ty .delays) (ty .held) (s .depth))
       ∙ (unfold t in stages-bytes s depth-few sized (ty .delays) (ty .held) (min (s .depth) 5) (omega arith))
 
+  same-rest : (k : Thinning) (n : List ℤ) → entriesBy k d n (trimFir f) (filled s (s .depth)) (trimResampler p) (l .cuts) ≡ entriesBy k d n (firOn f) s (resamplerOn p) (l .cuts)
+  unfolding entriesBy entriesOf thinEntries
+  same-rest thinning.Integrators n = rw (same-settings, ft .taps, ft .delay, same-stages, rt .cells, rt .delay)
+  same-rest thinning.Neighbours n = rw (same-settings, ft .taps, ft .delay, same-stages, rt .cells, rt .delay)
+
   same-entries : lineEntries trimmed ≡ lineEntries l
-  unfolding lineEntries entriesOf trimmed
+  unfolding lineEntries trimmed
   same-entries =
-      rw (
-        fir-on-is (trimFir f) (ft .whole),
-        resampler-on-is (trimResampler p) (rt .whole),
-        same-settings,
-        trim-cic-bytes d stages-few (ty .arrays .integrators) (ty .arrays .combs),
-        ft .taps,
-        ft .delay,
-        same-stages,
-        rt .cells,
-        rt .delay,
-      )
+      rw (fir-on-is (trimFir f) (ft .whole), resampler-on-is (trimResampler p) (rt .whole))
+      (tr .entries (trimFir f) (filled s (s .depth)) (trimResampler p) (l .cuts) ∙ same-rest (l .thinning) (l .neighbours))
 
   -- so it is taken up, as the line with zeros there
-  pub taken-lent : (v : Panel) → mostTaps ≤ v .mostTaps → takenUp v (parkedLine v l) ≡ record { number = 0; state = trimmed }
+  pub taken-lent : (v : Panel) → mostTaps ≤ v .mostTaps → v .thinning ≡ true → takenUp v (parkedLine v l) ≡ record { number = 0; state = trimmed }
   unfolding parkedLine
-  taken-lent v h =
-      ap (λ (es : List (List ℕ)). takenUp v (parked (v .rule) es)) (sym same-entries) ∙ taken-back trimmed (trimmed-valid, trimmed-whole) v h
+  taken-lent v h b =
+      ap (λ (es : List (List ℕ)). takenUp v (parked (v .rule) es)) (sym same-entries) ∙ taken-back trimmed (trimmed-valid, trimmed-whole) v h b
 
 -- ---- feeds
 
@@ -446,7 +507,7 @@ alike3 =
 
 alike1 : Alike chain (λ q. Unit {0} × (Unit {0} × Fine3 (q .1 .1))) SameParts
 alike1 =
-    alike-before scaledDecimator (before (each (cut w16)) from3) (λ q. Unit {0}) CicSame (λ q. Unit {0} × Fine3 (q .1)) (λ q u. Unit {0} × Same3 (q .1) (u .1)) cic-alike
+    alike-before either (before (each (cut w16)) from3) (λ q. Unit {0}) ThinSame (λ q. Unit {0} × Fine3 (q .1)) (λ q u. Unit {0} × Same3 (q .1) (u .1)) thin-alike
     (alike-before (each (cut w16)) from3 (λ q. Unit {0}) (λ q u. Unit {0}) Fine3 Same3 (each-alike (cut w16)) alike3)
 
 abbrev Good : Line → Type 0
@@ -472,8 +533,8 @@ line-alike =
     counts : (l k : Line) (x : ℤ) → Good l → SameLine l k → line .next l x .cuts ≡ line .next k x .cuts
     counts l k x v e =
         ap₂ {C = ℕ} (heldSum mostCuts) (e .cuts)
-        (cuts-for (l .fir) (k .fir) (scaledDecimator .out (l .cic) x) (to-parts l v .1 .1 .0) (e .parts .1 .1 .0)
-        ∙ ap (cutsFor (k .fir)) (cic-alike .out (l .cic) (k .cic) x tt (e .parts .0)))
+        (cuts-for (l .fir) (k .fir) (either .out (thinnerOf l) x) (to-parts l v .1 .1 .0) (e .parts .1 .1 .0)
+        ∙ ap (cutsFor (k .fir)) (thin-alike .out (thinnerOf l) (thinnerOf k) x tt (e .parts .0)))
 
 -- after any feeds both are valid and the same
 record Together (l k : Line) : Type 0 where
@@ -533,6 +594,6 @@ parks-valid v l places e = go (valid l) refl
     go false p = (let q : _≡_ {A = ℕ} 15 0 = rw p at e in absurd (omega (arith, q)))
 
 -- any valid line, and what is taken up of its sheet
-pub lent-goes-on : (l : Line) → valid l ≡ true → LineTyped l → (v : Panel) → mostTaps ≤ v .mostTaps → (takenUp v (parkedLine v l) .number ≡ 0) × GoesOnAlike l (takenUp v (parkedLine v l) .state)
-lent-goes-on l g ty v h =
-    rw (taken-lent l g ty v h) (refl, goes-on l (trimmed l g ty) (record { one = g; other = trimmed-valid l g ty; same = same-trimmed l g ty }))
+pub lent-goes-on : (l : Line) → valid l ≡ true → LineTyped l → (v : Panel) → mostTaps ≤ v .mostTaps → v .thinning ≡ true → (takenUp v (parkedLine v l) .number ≡ 0) × GoesOnAlike l (takenUp v (parkedLine v l) .state)
+lent-goes-on l g ty v h b =
+    rw (taken-lent l g ty v h b) (refl, goes-on l (trimmed l g ty) (record { one = g; other = trimmed-valid l g ty; same = same-trimmed l g ty }))

@@ -8,6 +8,7 @@ use lib.Ieee.{Float}
 use lib.ListN.{length}
 use mir.Syntax.{w16, w32}
 use mir.Val.{SFits}
+use Rattle.nonrecursive.specs.NonrecursiveDecimator.{mostNeighbours}
 use Rattle.line.specs.Line.{feedOutcome, feedSpan}
 use Rattle.line.specs.Demand3.{History, none-yet, fed}
 use Rattle.line.specs.declared.gauge_line.Line.{Line}
@@ -19,6 +20,8 @@ pub record LineTyped (l : Line) : Type 0 where
   pub arrays : Arrays (l .cic) (l .fir) (l .«half_band») (l .resampler)
   pub integrators : All (SFits w32) (l .cic .«integrator_state»)
   pub combs : All (SFits w32) (l .cic .«comb_state»)
+  pub neighbours-long : length (l .neighbours) ≡ mostNeighbours
+  pub neighbours : All (SFits w32) (l .neighbours)
   pub taps : All (SFits w16) (l .fir .taps)
   pub fir-delay : All (SFits w16) (l .fir .delay)
   pub delays : All IsFloat (l .«half_band» .delays)
