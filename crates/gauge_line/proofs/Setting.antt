@@ -1,5 +1,5 @@
 -- A yes or a no written as 0 or 1 and read as "not 0" is what it was, and so is which kind thins.
-use mathlib.Core.Path.{_≡_, refl, ap, _∙_, subst⁻¹}
+use mathlib.Core.Path.{_≡_, refl, ap, _∙_}
 use mathlib.Core.Bool.{Bool, true, false}
 use mathlib.Core.List.{List}
 use Prim.Native.Nat.{ℕ}
@@ -26,19 +26,6 @@ kind-kept thinning.Neighbours = refl
 pub kind-is-flag : (k : Thinning) → IsFlag (kindNumber k)
 kind-is-flag thinning.Integrators = refl
 kind-is-flag thinning.Neighbours = refl
-
--- the same of a number n that was written for it
-pub told-flag : (b : Bool) (n : ℕ) → n ≡ flagOf b → isSet n ≡ b
-told-flag b n e = ap isSet e ∙ set-flag b
-
-pub flag-told : (b : Bool) (n : ℕ) → n ≡ flagOf b → IsFlag n
-flag-told b n e = subst⁻¹ IsFlag e (is-flag b)
-
-pub told-kind : (k : Thinning) (n : ℕ) → n ≡ kindNumber k → kindOf n ≡ k
-told-kind k n e = ap kindOf e ∙ kind-kept k
-
-pub kind-told : (k : Thinning) (n : ℕ) → n ≡ kindNumber k → IsFlag n
-kind-told k n e = subst⁻¹ IsFlag e (kind-is-flag k)
 
 -- a resampler of equal settings is the same
 pub same-setting :

@@ -7,6 +7,7 @@ ghost use Rattle.theory.specs.Feeds.{headOf};
 ghost use Rattle.refusal.specs.Outcome.{Moved};
 ghost use Rattle.line.specs.Outputs.{Opening};
 ghost use Rattle.line.specs.Line as L;
+ghost use Rattle.line.specs.Lent as N;
 ghost use Rattle.line.specs.Demand3.{Demand3};
 ghost use Rattle.line.specs.declared.settings.Settings.{Settings};
 ghost use Rattle.gauge_line.specs.Crossing.{crossedStep, isSet, kindOf};
@@ -313,6 +314,72 @@ pub extern "C" fn gauge_raw_line_step(
     step_number(did)
 }
 
+// The number of a feed, and the line's numbers after it.
+struct FedNumbers {
+    number: usize,
+    numbers: LineNumbers,
+}
+
+// A feed of the numbers and the arrays, with its counts in places.
+fn feed_numbers(
+    n: LineNumbers,
+    integrators: &mut [i32; MAX_STAGES],
+    combs: &mut [i32; MAX_STAGES],
+    neighbours: &mut [i32; MAX_NEIGHBOURS],
+    taps: &[i16; MOST_TAPS],
+    fir_delay: &mut [i16; MOST_TAPS],
+    delays: &mut [f32; DEC_CASCADE_DELAYS],
+    held: &mut [f32; MOST_STAGES],
+    counts: &mut [usize; MOST_STAGES],
+    delay: &mut [f32; MOST_PHASE_TAPS],
+    prototype: &[f32; MOST_CELLS],
+    samples: &[i32],
+    out: &mut [f32],
+    taken: &mut usize,
+    written: &mut usize,
+) -> FedNumbers
+    ensures answer { λ f. ⌜ (
+        let before = N.lineOf n (now (integrators .entry)) (now (combs .entry)) (now (neighbours .entry)) (now (taps .entry)) (now («fir_delay» .entry)) (now (delays .entry))
+        (now (held .entry)) (now (counts .entry)) (now (delay .entry)) (now (prototype .entry)) in
+        let after = N.lineOf (f .numbers) (now (integrators .exit)) (now (combs .exit)) (now (neighbours .exit)) (now (taps .entry)) (now («fir_delay» .exit))
+        (now (delays .exit)) (now (held .exit)) (now (counts .exit)) (now (delay .exit)) (now (prototype .entry)) in
+        let moved : Moved = record { taken = now (taken .exit); written = now (written .exit) } in
+        record { number = f .number; value = moved; state = after } ≡ L.feedOutcome before (now (samples .entry)) (length (now (out .entry)))) ⌝ }
+    ensures span { λ f. ⌜ (
+        let before = N.lineOf n (now (integrators .entry)) (now (combs .entry)) (now (neighbours .entry)) (now (taps .entry)) (now («fir_delay» .entry)) (now (delays .entry))
+        (now (held .entry)) (now (counts .entry)) (now (delay .entry)) (now (prototype .entry)) in
+        now (out .exit) ≡ L.feedSpan before (now (samples .entry)) (now (out .entry))) ⌝ }
+    ensures demand3 { λ f. ⌜ (
+        let before = N.lineOf n (now (integrators .entry)) (now (combs .entry)) (now (neighbours .entry)) (now (taps .entry)) (now («fir_delay» .entry)) (now (delays .entry))
+        (now (held .entry)) (now (counts .entry)) (now (delay .entry)) (now (prototype .entry)) in
+        let after = N.lineOf (f .numbers) (now (integrators .exit)) (now (combs .exit)) (now (neighbours .exit)) (now (taps .entry)) (now («fir_delay» .exit))
+        (now (delays .exit)) (now (held .exit)) (now (counts .exit)) (now (delay .exit)) (now (prototype .entry)) in
+        let moved : Moved = record { taken = now (taken .exit); written = now (written .exit) } in
+        Demand3 before (now (samples .entry)) (now (out .entry)) (now (out .exit)) (record { number = f .number; value = moved; state = after })) ⌝ }
+{
+    let done = feed_lent(
+        n,
+        integrators,
+        combs,
+        neighbours,
+        taps,
+        fir_delay,
+        delays,
+        held,
+        counts,
+        delay,
+        prototype,
+        samples,
+        out,
+    );
+    let moved = done.moved;
+    *taken = counts_taken(moved);
+    *written = counts_written(moved);
+    let number = counts_number(moved);
+    let numbers = done.numbers;
+    FedNumbers { number, numbers }
+}
+
 // Steps until stopped. The clause `demand3` is the whole claim over every list of feeds.
 #[no_mangle]
 pub extern "C" fn gauge_raw_line_feed(
@@ -381,7 +448,7 @@ pub extern "C" fn gauge_raw_line_feed(
         cuts: *cuts,
         thinning: kind(*thinning),
     };
-    let done = feed_lent(
+    let done = feed_numbers(
         n,
         integrators,
         combs,
@@ -395,6 +462,8 @@ pub extern "C" fn gauge_raw_line_feed(
         prototype,
         samples,
         out,
+        taken,
+        written,
     );
     let m = done.numbers;
     *stages = m.stages;
@@ -412,8 +481,5 @@ pub extern "C" fn gauge_raw_line_feed(
     *cuts = m.cuts;
     let after = m.thinning;
     *thinning = kind_number(after);
-    let moved = done.moved;
-    *taken = counts_taken(moved);
-    *written = counts_written(moved);
-    counts_number(moved)
+    done.number
 }
