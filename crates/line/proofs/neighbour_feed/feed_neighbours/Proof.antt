@@ -18,8 +18,8 @@ use Rattle.line.specs.declared.gauge_line.Line.{Line}
 use Rattle.line.specs.declared.sample.Numbers.{Numbers}
 use Rattle.line.proofs.Lawful.{Good, line-lawful}
 use Rattle.line.proofs.Emitting.{Drained, drained}
-use Rattle.line.proofs.feed.feed_neighbours.Statement.{statement}
-use Rattle.line.proofs.feed.feed_neighbours.Tie as tie
+use Rattle.line.proofs.neighbour_feed.feed_neighbours.Statement.{statement}
+use Rattle.line.proofs.neighbour_feed.feed_neighbours.Tie as tie
 
 abbrev Inv-loop : tie.InvT-loop
 Inv-loop f integrators₀ combs₀ neighbours₀ taps fir-delay₀ delays₀ held₀ counts₀ delay₀ prototype samples out₀ n₀ taken₀ written₀ integrators combs neighbours fir-delay delays held counts delay out n taken written =
