@@ -2,13 +2,12 @@
 ghost use mathlib.Core.Path.{_≡_};
 ghost use Rattle.integer.specs.CicDecimator as C;
 ghost use Rattle.nonrecursive.specs.EitherKind as E;
-use crate::nonrecursive_decimator;
 use crate::nonrecursive_decimator::MAX_NEIGHBOURS;
 use crate::nonrecursive_decimator::nonrecursive_at;
 use crate::nonrecursive_decimator::power_of_two;
-use integer::cic_decimator;
 use integer::cic_decimator::CicAt;
 use integer::cic_decimator::sample_at;
+use integer::cic_decimator::valid;
 use integer::limits::MAX_STAGES;
 
 // The CIC decimator, or sums of neighbours.
@@ -31,10 +30,10 @@ pub fn factor_for(thinning: Thinning, r: usize) -> bool
 pub fn thinning_valid(thinning: Thinning, stages: usize, r: usize, sample_counter: usize) -> bool
     ensures { λ b. ⌜ b ≡ E.validAt thinning stages r «sample_counter» ⌝ }
 {
-    match thinning {
-        Thinning::Integrators => cic_decimator::valid(stages, r, sample_counter),
-        Thinning::Neighbours => nonrecursive_decimator::valid(stages, r, sample_counter),
+    if !valid(stages, r, sample_counter) {
+        return false;
     }
+    factor_for(thinning, r)
 }
 
 // One sample, the numbers by value and the arrays lent. The arrays of the other kind stay as they are. The kind is a bool, since the compiler folds a constant one
