@@ -10,11 +10,10 @@ ghost use Rattle.integer.specs.Gain.{gainBits};
 ghost use Rattle.nonrecursive.specs.declared.thinning.Thinning.the-variants as kind;
 ghost use Rattle.line.specs.Line as L;
 ghost use Rattle.line.specs.Together as T;
+use crate::neighbour_feed::feed_neighbours;
 use crate::sample::Fixed;
 use crate::sample::Numbers;
-use crate::step::Did;
 use crate::step::Taken;
-use crate::step::step_on;
 use crate::step::take_on;
 use float::polyphase_resamp::MOST_CELLS;
 use float::polyphase_resamp::MOST_TAPS as MOST_PHASE_TAPS;
@@ -64,7 +63,7 @@ fn at_once(
     m
 }
 
-// Steps until stopped, of a line of integrators. The kind is a constant here, so that it costs nothing.
+// Steps until stopped, of a line of integrators.
 fn feed_on(
     f: Fixed,
     s: Numbers,
@@ -112,7 +111,7 @@ fn feed_on(
         n.sample_counter = n.sample_counter + m;
         taken += m;
         let on = take_on(
-            Thinning::Integrators,
+            false,
             f,
             n,
             integrators,
@@ -151,84 +150,7 @@ fn feed_on(
     }
 }
 
-// Steps until stopped, step by step.
-fn feed_by_steps(
-    thinning: Thinning,
-    f: Fixed,
-    s: Numbers,
-    integrators: &mut [i32; MAX_STAGES],
-    combs: &mut [i32; MAX_STAGES],
-    neighbours: &mut [i32; MAX_NEIGHBOURS],
-    taps: &[i16; MOST_TAPS],
-    fir_delay: &mut [i16; MOST_TAPS],
-    delays: &mut [f32; DEC_CASCADE_DELAYS],
-    held: &mut [f32; MOST_STAGES],
-    counts: &mut [usize; MOST_STAGES],
-    delay: &mut [f32; MOST_PHASE_TAPS],
-    prototype: &[f32; MOST_CELLS],
-    samples: &[i32],
-    out: &mut [f32],
-) -> Ran
-    requires { ⌜ (
-        let before = T.together thinning f s (now integrators) (now combs) (now neighbours) (now taps) (now «fir_delay») (now delays) (now held) (now counts) (now delay) (now prototype) in
-        (f .bits ≡ gainBits (f .stages) (f .r)) × (L.valid before ≡ true)) ⌝ }
-    ensures { λ r. ⌜ (
-        let before = T.together thinning f s (now (integrators .entry)) (now (combs .entry)) (now (neighbours .entry)) (now (taps .entry)) (now («fir_delay» .entry))
-        (now (delays .entry)) (now (held .entry)) (now (counts .entry)) (now (delay .entry)) (now (prototype .entry)) in
-        let after = T.together thinning f (r .numbers) (now (integrators .exit)) (now (combs .exit)) (now (neighbours .exit)) (now (taps .entry)) (now («fir_delay» .exit))
-        (now (delays .exit)) (now (held .exit)) (now (counts .exit)) (now (delay .exit)) (now (prototype .entry)) in
-        T.RanTo before (now (samples .entry)) (now (out .entry)) (now (out .exit)) (r .taken) (r .written) after) ⌝ }
-{
-    let mut n = s;
-    let mut taken: usize = 0;
-    let mut written: usize = 0;
-    loop {
-        let on = step_on(
-            thinning,
-            f,
-            n,
-            integrators,
-            combs,
-            neighbours,
-            taps,
-            fir_delay,
-            delays,
-            held,
-            counts,
-            delay,
-            prototype,
-            samples,
-            taken,
-            written < out.len(),
-        );
-        let next = on.numbers;
-        n = next;
-        let step = on.step;
-        match step {
-            Did::Took => {
-                taken += 1;
-            }
-            Did::Wrote(y) => {
-                out[written] = y;
-                written += 1;
-            }
-            Did::TookAndWrote(y) => {
-                out[written] = y;
-                taken += 1;
-                written += 1;
-            }
-            Did::Stopped => {
-                return Ran {
-                    numbers: n,
-                    taken,
-                    written,
-                };
-            }
-        }
-    }
-}
-
-// Steps until stopped. Of neighbours every sample changes some, so none are taken at once.
+// Steps until stopped, by the kind of the line.
 pub(crate) fn feed_by(
     thinning: Thinning,
     f: Fixed,
@@ -273,8 +195,7 @@ pub(crate) fn feed_by(
             samples,
             out,
         ),
-        Thinning::Neighbours => feed_by_steps(
-            thinning,
+        Thinning::Neighbours => feed_neighbours(
             f,
             s,
             integrators,

@@ -6,6 +6,7 @@ ghost use Prim.Native.Nat.{_+_};
 ghost use lib.Ieee.{Float};
 ghost use Rattle.theory.specs.Tally.{heldSum};
 ghost use Rattle.integer.specs.Gain.{gainBits};
+ghost use Rattle.nonrecursive.specs.EitherKind as E;
 ghost use Rattle.q15.specs.FirDecimator.{firSumOut, cutIn};
 ghost use Rattle.half_band.specs.HbfStream.{streamOf, hbfStream, valueOf};
 ghost use Rattle.line.specs.Outputs.{mostCuts};
@@ -21,7 +22,6 @@ use half_band::hbf_stream::hbf_stream_at;
 use integer::cic_decimator::CicSum;
 use integer::gain::scaled;
 use integer::limits::MAX_STAGES;
-use nonrecursive::Thinning;
 use nonrecursive::nonrecursive_decimator::MAX_NEIGHBOURS;
 use nonrecursive::thinning::thin_at;
 use q15::FirMade;
@@ -205,7 +205,7 @@ fn counted(cuts: u32, scaled: bool, filtered: bool) -> u32
 
 // A sample into the decimator of this kind, and what it makes, scaled and cut, into the FIR.
 pub(crate) fn sample_in(
-    thinning: Thinning,
+    by_neighbours: bool,
     f: Fixed,
     s: Numbers,
     integrators: &mut [i32; MAX_STAGES],
@@ -221,14 +221,14 @@ pub(crate) fn sample_in(
 ) -> Sampled
     requires { ⌜ f .bits ≡ gainBits (f .stages) (f .r) ⌝ }
     ensures { λ r. ⌜ ((h : List Float) →
-        let before = T.together thinning f s (now (integrators .entry)) (now (combs .entry)) (now (neighbours .entry)) (now (taps .entry)) (now («fir_delay» .entry))
+        let before = T.together (E.kindOf «by_neighbours») f s (now (integrators .entry)) (now (combs .entry)) (now (neighbours .entry)) (now (taps .entry)) (now («fir_delay» .entry))
         (now (delays .entry)) (now (held .entry)) (now (counts .entry)) (now (delay .entry)) h in
-        let after = T.together thinning f (r .numbers) (now (integrators .exit)) (now (combs .exit)) (now (neighbours .exit)) (now (taps .entry)) (now («fir_delay» .exit))
+        let after = T.together (E.kindOf «by_neighbours») f (r .numbers) (now (integrators .exit)) (now (combs .exit)) (now (neighbours .exit)) (now (taps .entry)) (now («fir_delay» .exit))
         (now (delays .exit)) (now (held .exit)) (now (counts .exit)) (now (delay .exit)) h in
         T.Takes L.line before x (valueOf (r .out)) after) ⌝ }
 {
     let at = thin_at(
-        thinning,
+        by_neighbours,
         f.stages,
         f.r,
         s.sample_counter,

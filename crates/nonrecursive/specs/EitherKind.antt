@@ -1,6 +1,6 @@
 -- 02, §13: "the line may be opened with either". Section 1 as the line has it: which kind thins, the CIC decimator with the numbers that both kinds have, and the
 -- neighbours. Of integrators and combs, or neighbours, one part is off. Its opening, what a state must be not to be refused, and its scaled sums.
-use mathlib.Core.Bool.{Bool, true, cond, _&&_}
+use mathlib.Core.Bool.{Bool, true, false, cond, _&&_}
 use mathlib.Core.List.{List}
 use mathlib.Core.Option.{Option}
 use Prim.Native.Nat.{ℕ}
@@ -72,6 +72,11 @@ nextBy thinning.Neighbours t x = withBeside t (nonrecursive .next (beside t) x)
 abbrev pub outBy : Thinning → Thinner → ℤ → Option ℤ
 outBy thinning.Integrators t x = decimator .out (t .cic) x
 outBy thinning.Neighbours t x = nonrecursive .out (beside t) x
+
+-- the kind as the code hands it on
+abbrev pub kindOf : Bool → Thinning
+kindOf true = thinning.Neighbours
+kindOf false = thinning.Integrators
 
 -- the scaled sums
 unfoldable pub either : Section Thinner ℤ ℤ

@@ -2,13 +2,12 @@
 ghost use mathlib.Core.Path.{_≡_};
 ghost use Rattle.integer.specs.CicDecimator as C;
 ghost use Rattle.nonrecursive.specs.EitherKind as E;
-use crate::nonrecursive_decimator;
 use crate::nonrecursive_decimator::MAX_NEIGHBOURS;
 use crate::nonrecursive_decimator::nonrecursive_at;
 use crate::nonrecursive_decimator::power_of_two;
-use integer::cic_decimator;
 use integer::cic_decimator::CicAt;
 use integer::cic_decimator::sample_at;
+use integer::cic_decimator::valid;
 use integer::limits::MAX_STAGES;
 
 // The CIC decimator, or sums of neighbours.
@@ -31,15 +30,16 @@ pub fn factor_for(thinning: Thinning, r: usize) -> bool
 pub fn thinning_valid(thinning: Thinning, stages: usize, r: usize, sample_counter: usize) -> bool
     ensures { λ b. ⌜ b ≡ E.validAt thinning stages r «sample_counter» ⌝ }
 {
-    match thinning {
-        Thinning::Integrators => cic_decimator::valid(stages, r, sample_counter),
-        Thinning::Neighbours => nonrecursive_decimator::valid(stages, r, sample_counter),
+    if !valid(stages, r, sample_counter) {
+        return false;
     }
+    factor_for(thinning, r)
 }
 
-// One sample, the numbers by value and the arrays lent. The arrays of the other kind stay as they are.
+// One sample, the numbers by value and the arrays lent. The arrays of the other kind stay as they are. The kind is a bool, since the compiler folds a constant one
+// where it inlines the call: an enum is passed in memory.
 pub fn thin_at(
-    thinning: Thinning,
+    by_neighbours: bool,
     stages: usize,
     r: usize,
     sample_counter: usize,
@@ -49,19 +49,18 @@ pub fn thin_at(
     input: i32,
 ) -> CicAt
     ensures { λ a. ⌜ (
-        let before = E.thinnerOf thinning stages r (now (integrators .entry)) (now (combs .entry)) (now (neighbours .entry)) «sample_counter» in
-        let after = E.thinnerOf thinning stages r (now (integrators .exit)) (now (combs .exit)) (now (neighbours .exit)) (a .«sample_counter») in
-        (C.sumOf (a .sum) ≡ E.outBy thinning before input) × (after ≡ E.nextBy thinning before input)) ⌝ }
+        let kind = E.kindOf «by_neighbours» in
+        let before = E.thinnerOf kind stages r (now (integrators .entry)) (now (combs .entry)) (now (neighbours .entry)) «sample_counter» in
+        let after = E.thinnerOf kind stages r (now (integrators .exit)) (now (combs .exit)) (now (neighbours .exit)) (a .«sample_counter») in
+        (C.sumOf (a .sum) ≡ E.outBy kind before input) × (after ≡ E.nextBy kind before input)) ⌝ }
 {
-    match thinning {
-        Thinning::Integrators => sample_at(stages, r, sample_counter, integrators, combs, input),
-        Thinning::Neighbours => {
-            let at = nonrecursive_at(stages, r, sample_counter, neighbours, input);
-            let sum = at.sum;
-            CicAt {
-                sum,
-                sample_counter: at.place,
-            }
-        }
+    if by_neighbours {
+        let at = nonrecursive_at(stages, r, sample_counter, neighbours, input);
+        let sum = at.sum;
+        return CicAt {
+            sum,
+            sample_counter: at.place,
+        };
     }
+    sample_at(stages, r, sample_counter, integrators, combs, input)
 }

@@ -106,7 +106,7 @@ line-counts =
     counts-viewed (tallied mostCuts cutsAt chain) countedOf ofCounted (λ p. refl) (λ p. clock1 (p .0)) (λ p. Good1 (p .0)) (counts-tallied mostCuts cutsAt chain clock1 Good1 counts1)
 
 -- ---- feed after feed
-fed-counts : (l : Line) (xs : List ℤ) (n : ℕ) → Runs l → SameCounts clockOf (F.feed line l xs n) (countFeed (clockOf l) (length xs) n)
+pub fed-counts : (l : Line) (xs : List ℤ) (n : ℕ) → Runs l → SameCounts clockOf (F.feed line l xs n) (countFeed (clockOf l) (length xs) n)
 unfolding countFeed
 fed-counts l xs n g = feed-counts line clockOf Runs line-counts l xs n g
 

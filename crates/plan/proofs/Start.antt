@@ -141,7 +141,7 @@ module _ (o : Opening) (zero : opened o .number ≡ 0) where
       let h : stagesLeft (min (s .depth) 5) 0 (replicate 5 0) ≡ 2 ^ s .depth = half-start (min (s .depth) 5) 0 ∙ ap (λ (n : ℕ). 2 ^ n) d in
       same-start (s .r) r (f .0) (f .1) h (ap (λ (n : ℕ). 2 ^ n) d) (mu-start s (o .prototype))
 
-  fresh-runs : Runs (fresh o)
+  pub fresh-runs : Runs (fresh o)
   unfolding fresh
   fresh-runs =
       let s = o .settings in

@@ -14,8 +14,10 @@ feed-on-requires c κs =
 enum-told-2 : tie.Need-enum-told-2
 enum-told-2 c = search needs
 
-feed-by-steps-requires : tie.Need-feed-by-steps-requires
-feed-by-steps-requires c κs = search needs
+feed-neighbours-requires : tie.Need-feed-neighbours-requires
+feed-neighbours-requires c κs =
+    let told = c .before .before .before .before .before .before .before .before .before in
+    rw (told .enum-told2 .given .1) at (told .before .before .before .pre)
 
 same-length : tie.Need-same-length
 same-length c = search needs
@@ -27,7 +29,7 @@ same-length-2 : tie.Need-same-length-2
 same-length-2 c = search needs
 
 returns-2 : tie.Need-returns-2
-returns-2 c = c .before .before .feed-by-steps .ensures
+returns-2 c = rw (c .before .before .before .before .before .before .before .before .before .before .before .before .enum-told2 .given .1) (c .before .before .feed-neighbours .ensures)
 
 pub feed-by-spec : {M : Type 1} → statement M
 feed-by-spec =
@@ -36,7 +38,7 @@ feed-by-spec =
     enum-told
     feed-on-requires
     enum-told-2
-    feed-by-steps-requires
+    feed-neighbours-requires
     same-length
     returns
     same-length-2

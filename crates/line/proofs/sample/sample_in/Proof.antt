@@ -16,7 +16,7 @@ use Rattle.theory.specs.Sections.{each}
 use Rattle.theory.specs.Machines.{before}
 use Rattle.integer.specs.Gain.{gainBits}
 use Rattle.integer.specs.CicDecimator.{scaledBy, sumOf}
-use Rattle.nonrecursive.specs.EitherKind.{Thinner, thinnerOf, nextBy, outBy, either}
+use Rattle.nonrecursive.specs.EitherKind.{Thinner, thinnerOf, nextBy, outBy, kindOf, either}
 use Rattle.q15.specs.Fixed.{cut, isCut}
 use Rattle.q15.specs.FirDecimator.{cutIn, firSumOut}
 use Rattle.theory.specs.Tally.{heldSum}
@@ -34,20 +34,20 @@ start c = c .before .before .before .before
 
 -- section 1 as it was lent
 abbrev lent : tie.Start → Thinner
-lent s = let a = s .args in thinnerOf (a .thinning) (a .f .stages) (a .f .r) (now (a .integrators)) (now (a .combs)) (now (a .neighbours)) (a .s .«sample_counter»)
+lent s = let a = s .args in thinnerOf (kindOf (a .by-neighbours)) (a .f .stages) (a .f .r) (now (a .integrators)) (now (a .combs)) (now (a .neighbours)) (a .s .«sample_counter»)
 
 -- and the line with the prototype h
 abbrev lent-line : tie.Start → List Float → Line
 lent-line s h =
     let a = s .args in
-    together (a .thinning) (a .f) (a .s) (now (a .integrators)) (now (a .combs)) (now (a .neighbours)) (now (a .taps)) (now (a .fir-delay)) (now (a .delays)) (now (a .held)) (now (a .counts)) (now (a .delay)) h
+    together (kindOf (a .by-neighbours)) (a .f) (a .s) (now (a .integrators)) (now (a .combs)) (now (a .neighbours)) (now (a .taps)) (now (a .fir-delay)) (now (a .delays)) (now (a .held)) (now (a .counts)) (now (a .delay)) h
 
 -- what the decimator of this kind made of the sample
 made : (c : tie.After-thin-at) →
     let a = start c .args in
-    (sumOf (c .thin-at .result .sum) ≡ outBy (a .thinning) (lent (start c)) (a .x))
-    × (thinnerOf (a .thinning) (a .f .stages) (a .f .r) (c .thin-at .last .1 .1 .1 .1 .0) (c .thin-at .last .1 .1 .1 .1 .1 .0) (c .thin-at .last .1 .1 .1 .1 .1 .1 .0) (c .thin-at .result .«sample_counter»)
-    ≡ nextBy (a .thinning) (lent (start c)) (a .x))
+    (sumOf (c .thin-at .result .sum) ≡ outBy (kindOf (a .by-neighbours)) (lent (start c)) (a .x))
+    × (thinnerOf (kindOf (a .by-neighbours)) (a .f .stages) (a .f .r) (c .thin-at .last .1 .1 .1 .1 .0) (c .thin-at .last .1 .1 .1 .1 .1 .0) (c .thin-at .last .1 .1 .1 .1 .1 .1 .0) (c .thin-at .result .«sample_counter»)
+    ≡ nextBy (kindOf (a .by-neighbours)) (lent (start c)) (a .x))
 made c = rw (toZ-ofZ (start c .fits .x)) at (c .thin-at .ensures)
 
 -- the sum, scaled and cut

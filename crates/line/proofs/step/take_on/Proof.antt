@@ -11,6 +11,7 @@ use mir.Syntax.{w32}
 use mir.Val.{toZ, ofZ}
 use Rattle.theory.proofs.Steps.{step-full, step-took, step-ended}
 use Rattle.float.specs.PolyphaseResamp.{inLine, isOn}
+use Rattle.nonrecursive.specs.EitherKind.{kindOf}
 use Rattle.line.specs.Line.{line}
 use Rattle.line.specs.Together.{together, dueAt}
 use Rattle.line.specs.declared.gauge_line.Line.{Line}
@@ -21,7 +22,7 @@ use Rattle.line.proofs.step.take_on.Tie as tie
 abbrev at : tie.Start → List Float → Line
 at s h =
     let a = s .args in
-    together (a .thinning) (a .f) (a .s) (now (a .integrators)) (now (a .combs)) (now (a .neighbours)) (now (a .taps)) (now (a .fir-delay)) (now (a .delays)) (now (a .held)) (now (a .counts)) (now (a .delay)) h
+    together (kindOf (a .by-neighbours)) (a .f) (a .s) (now (a .integrators)) (now (a .combs)) (now (a .neighbours)) (now (a .taps)) (now (a .fir-delay)) (now (a .delays)) (now (a .held)) (now (a .counts)) (now (a .delay)) h
 
 -- the test of a due output is the machine's
 due-is : (s : tie.Start) (h : List Float) → line .due (at s h) ≡ dueAt (s .args .f) (s .args .s .mu)
