@@ -1,6 +1,6 @@
 -- What is taken up as the definition says is the line never parked, for every history that led to the sheet, one that goes on as any line that was parked to it, and one that
 -- parks to its entries.
-use mathlib.Core.Path.{_≡_, sym, ap, _∙_, subst}
+use mathlib.Core.Path.{_≡_, refl, sym, ap, _∙_, subst}
 use mathlib.Core.List.{List}
 use Prim.Native.Nat.{ℕ, _≤_}
 use native.Mathlib.Omega.{arith}
@@ -32,9 +32,9 @@ taken-twice b r e = (e, (record { back = back; lent = lent }, (as-parked b r e, 
     back :
         (o : Opening) (h : History) (span : List ℕ) → opened o .number ≡ 0 → Typed o → parkNumber panel (lineAfter panel o h) (length span) ≡ 0 → b ≡ sheetIn panel (lineAfter panel o h) span
         → r ≡ record { number = 0; state = D.lineOf o (unparked h) }
-    back o h span z t p q = e ∙ ap (takenUp panel) q ∙ taken-from panel limit o z t h span p
+    back o h span z t p q = e ∙ ap (takenUp panel) q ∙ taken-from panel limit refl o z t h span p
 
     lent : (l : Line) (span : List ℕ) → LineTyped l → parkNumber panel l (length span) ≡ 0 → b ≡ sheetIn panel l span → (r .number ≡ 0) × GoesOnAlike l (r .state)
     lent l span t p q =
         subst (λ (z : Opened Line). (z .number ≡ 0) × GoesOnAlike l (z .state)) (sym (e ∙ ap (takenUp panel) (q ∙ sheet-in panel l span p)))
-        (lent-goes-on l (parks-valid panel l (length span) p) t panel limit)
+        (lent-goes-on l (parks-valid panel l (length span) p) t panel limit refl)
