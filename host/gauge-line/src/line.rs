@@ -71,7 +71,7 @@ impl Default for Settings {
 /// use gauge_line::{Line, Refusal, Settings, Thinning};
 ///
 /// let settings = Settings { stages: 3, r: 4, ..Settings::default() };
-/// let samples: Vec<i32> = (0..64).map(|n| n * 67_108_859).collect();
+/// let samples: Vec<i32> = (0..64i32).map(|n| n.wrapping_mul(67_108_859)).collect();
 /// let levels = |thinning| {
 ///     let mut out = [0.0; 16];
 ///     Line::open(Settings { thinning, ..settings }, &[], &[])?.feed(&samples, &mut out)?;

@@ -4,12 +4,13 @@ use crate::archive::line;
 use crate::calls::{Free, Single, Written};
 use crate::case::{Case, Cases, Operation};
 use crate::field::{Fields, fields};
+use crate::fir_decimator::MOST_TAPS;
 use crate::gauge_line::Line;
 use crate::lent::{Lent, Slice};
 use crate::line_calls::Opened;
 use crate::line_cases;
 use crate::line_settings;
-use crate::parked_line::{self, Panel};
+use crate::parked_line::{self, PARKED, Panel};
 use crate::refusals::STATE;
 use crate::rng::Rng;
 use crate::samples;
@@ -252,6 +253,16 @@ const STORED: [&[u8]; 5] = [
     include_bytes!("../../../host/gauge-line/tests/parked/f5.parked"),
 ];
 
+/// One that was written when neighbours came to thin.
+const OF_NEIGHBOURS: &[u8] = include_bytes!("../../../host/gauge-line/tests/parked/f7.marked");
+
+/// A panel from between requests 9 and 13.
+const WITHOUT_NEIGHBOURS: Panel = Panel {
+    most_taps: MOST_TAPS,
+    rule: Rule::Present,
+    has_neighbours: false,
+};
+
 /// A panel from before request 7.
 const OLDER: Panel = Panel {
     most_taps: 64,
@@ -262,7 +273,8 @@ const OLDER: Panel = Panel {
 /// A count over 32, as a panel without the mark reads it.
 const DIRECTORY: u32 = 16;
 
-/// 02, request 7: such a panel takes each up, but for a longer one, which it answers with 15; request 9: with the mark it answers each with 16.
+/// 02, request 7: such a panel takes each up, but for a longer one, which it answers with 15; request 9: with the mark it answers each with 16; request 13: of eight entries a panel
+/// before it answers 21.
 pub fn stored() -> Cases {
     let mut cases = Vec::new();
     for sheet in STORED {
@@ -271,8 +283,15 @@ pub fn stored() -> Cases {
         assert_eq!(OLDER.taken_up(sheet).err(), is_longer.then_some(STATE));
         let marked = parked_line::parked(&line);
         assert_eq!(OLDER.taken_up(&marked).err(), Some(DIRECTORY));
+        assert!(WITHOUT_NEIGHBOURS.taken_up(&marked).is_ok());
         cases.extend([sheet.to_vec(), marked].map(take_up));
     }
+    assert_eq!(
+        WITHOUT_NEIGHBOURS.taken_up(OF_NEIGHBOURS).err(),
+        Some(PARKED)
+    );
+    assert_eq!(OLDER.taken_up(OF_NEIGHBOURS).err(), Some(DIRECTORY));
+    cases.push(take_up(OF_NEIGHBOURS.to_vec()));
     cases
 }
 

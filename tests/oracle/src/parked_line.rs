@@ -9,7 +9,7 @@ use crate::refusals::STATE;
 use crate::tap_sheet::{self, Rule};
 
 /// "another entry count or an entry of the wrong length"
-const PARKED: u32 = 21;
+pub const PARKED: u32 = 21;
 
 /// "a tap sheet of seven entries"; of request 13, "parked in eight entries".
 pub const ENTRIES: usize = 7;
