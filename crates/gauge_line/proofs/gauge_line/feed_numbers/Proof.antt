@@ -21,9 +21,10 @@ same-length c = search needs
 
 returns : tie.Need-returns
 returns c =
-    let taken = c .before .before in
+    let number = c .before in
+    let taken = number .before .before in
     let done = taken .before .before .before in
-    rw (c .counts-number .ensures) (rw (c .before .counts-written .ensures) (rw (taken .counts-taken .ensures) (done .feed-lent .ensures)))
+    rw (number .counts-number .ensures) (rw (number .before .counts-written .ensures) (rw (taken .counts-taken .ensures) (done .feed-lent .ensures)))
 
 pub feed-numbers-spec : {M : Type 1} → statement M
 feed-numbers-spec =
