@@ -176,10 +176,11 @@ fn with_numbers(w: &[u32], line: Line) -> Line {
     resampler.step = float(word(w, 28));
     resampler.mu = float(word(w, 29));
     let thinning = line.thinning;
+    let neighbours = line.neighbours;
     Line {
         thinning,
         cic,
-        neighbours: line.neighbours,
+        neighbours,
         fir,
         half_band,
         resampler,
