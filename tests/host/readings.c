@@ -267,6 +267,22 @@ static void line_members(void) {
     CHECK(taken == 1 && line.integrators[0] == 9 && line.combs[0] == 0 && line.sample_counter == 1);
 }
 
+// What thins: any number but 0 is neighbours, and a factor that is no power of two is then refused right after 2.
+static void line_thinning(void) {
+    GaugeLine line;
+    GaugeSettings settings = {3, 8, 0, 0, 0, 0, 0.0f, 0, 7};
+    const int32_t samples[2] = {9, 5};
+    float level;
+    uint64_t taken, written;
+    CHECK(GaugeLine_open(&line, &settings, NULL, 0, NULL, 0) == GAUGE_NOT_REFUSED && line.thinning == 1);
+    CHECK(GaugeLine_feed(&line, samples, 2, &level, 1, &taken, &written) == GAUGE_NOT_REFUSED && taken == 2);
+    CHECK(line.neighbours[0] == 5 && line.neighbours[3] == 32 && line.integrators[0] == 0 && line.sample_counter == 2);
+    settings.r = 48;
+    CHECK(GaugeLine_open(&line, &settings, NULL, 0, NULL, 0) == GAUGE_REFUSED_POWER_OF_TWO && line.thinning == 0);
+    settings.r = 5000;
+    CHECK(GaugeLine_open(&line, &settings, NULL, 0, NULL, 0) == GAUGE_REFUSED_FACTOR);
+}
+
 // What sections 2 and 3 cut of 40000 and of the FIR's sum, twice 32767; an end of the range is not cut.
 static void line_cuts(void) {
     GaugeLine line;
@@ -418,6 +434,7 @@ int main(void) {
     linear_phase_calls();
     resamplers();
     line_members();
+    line_thinning();
     line_cuts();
     line_readings();
     parked_line();
