@@ -67,9 +67,9 @@ typedef struct {
     uint64_t thinning;
 } GaugeSettings;
 
-// A line: its CIC decimator, its FIR, its half-band stages, its resampler, and how many values were cut to 16 bits; then
-// what thins, and its neighbours, where those do. sample_counter is the place of either kind. A program reads a member
-// if it likes and writes none.
+// A line: its CIC decimator, its FIR, its half-band stages, its resampler, and how many values were cut to 16 bits;
+// then what thins, and its neighbours, where those do. sample_counter is the place of either kind. A program reads a
+// member if it likes and writes none.
 //
 // This is its layout 3: layout 2 had no neighbours, and layout 1 room for 64 FIR taps. The functions that open a line
 // end in that number, so an object file that was compiled with another layout's header does not link.

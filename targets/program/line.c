@@ -54,8 +54,9 @@ static GaugeLine line;
 static uint8_t sheet[GAUGE_MOST_PARKED];
 
 static void put_line(void) {
-    const uint64_t numbers[11] = {line.stages, line.r,      line.sample_counter, line.tap_count, line.factor,  line.wait,
-                                  line.depth,  line.phases, line.phase_taps,     line.straight,  line.thinning};
+    const uint64_t numbers[11] = {line.stages,     line.r,        line.sample_counter, line.tap_count,
+                                  line.factor,     line.wait,     line.depth,          line.phases,
+                                  line.phase_taps, line.straight, line.thinning};
     const float floats[2] = {line.mu, line.step};
     put_values("numbers", U64, numbers, 11);
     put_values("integrators", I32, line.integrators, 8);
