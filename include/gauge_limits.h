@@ -6,7 +6,7 @@
 
 // Stages of a CIC converter, from 1.
 #define GAUGE_MOST_STAGES 8
-// Neighbours of a nonrecursive decimator.
+// Neighbours of a nonrecursive decimator or a line.
 #define GAUGE_MOST_NEIGHBOURS 96
 // Factor of a CIC converter or a FIR, from 1.
 #define GAUGE_MOST_FACTOR 4096

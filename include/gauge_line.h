@@ -62,13 +62,17 @@ typedef struct {
     // How the resampler reads its prototype: 0 in wrapped phase, as the Rust original, any other number in straight
     // phase. gauge_resampler.h says what each is good for.
     uint64_t straight;
+    // What thins by r: 0 the integrators and combs of the CIC decimator, any other number sums of neighbours, for which
+    // r is a power of two. Both give the same levels; docs/line.md says what each is good for.
+    uint64_t thinning;
 } GaugeSettings;
 
-// A line: its CIC decimator, its FIR, its half-band stages, its resampler, and how many values were cut to 16 bits. A
-// program reads a member if it likes and writes none.
+// A line: its CIC decimator, its FIR, its half-band stages, its resampler, and how many values were cut to 16 bits;
+// then what thins, and its neighbours, where those do. sample_counter is the place of either kind. A program reads a
+// member if it likes and writes none.
 //
-// This is its layout 2, with room for 128 FIR taps where layout 1 had 64. The functions that open a line end in that
-// number, so an object file that was compiled with another layout's header does not link.
+// This is its layout 3: layout 2 had no neighbours, and layout 1 room for 64 FIR taps. The functions that open a line
+// end in that number, so an object file that was compiled with another layout's header does not link.
 // printed: state line
 typedef struct {
     uint64_t stages;
@@ -93,25 +97,29 @@ typedef struct {
     float delay[GAUGE_MOST_PHASE_TAPS];
     float prototype[GAUGE_MOST_PROTOTYPE];
     uint32_t cuts;
+    uint64_t thinning;
+    int32_t neighbours[GAUGE_MOST_NEIGHBOURS];
 } GaugeLine;
 
 #define GAUGE_LINE_FIELDS(s)                                                                                           \
     &(s)->stages, &(s)->r, (s)->integrators, (s)->combs, &(s)->sample_counter, (s)->taps, &(s)->tap_count,             \
         &(s)->factor, (s)->fir_delay, &(s)->wait, &(s)->depth, (s)->delays, (s)->held, (s)->counts, &(s)->phases,      \
-        &(s)->phase_taps, &(s)->straight, &(s)->mu, &(s)->step, (s)->delay, (s)->prototype, &(s)->cuts
+        &(s)->phase_taps, &(s)->straight, &(s)->mu, &(s)->step, (s)->delay, (s)->prototype, &(s)->cuts,                \
+        &(s)->thinning, (s)->neighbours
 // printed until here
 
 // Opens a line. `taps` are the FIR's, in Q15 (32768ths), at most GAUGE_MOST_TAPS; none turn the FIR off. `prototype` is
 // the resampler's, phases times phase_taps long, tap t of phase p at t * phases + p: gauge_resampler.h says how a
 // filter design is laid into it. Both are copied. A part that is off hands its values on and is all zeros in the line.
-// Refusals: 1, 2, 3, 5, 6, 11, 12, 13, 14; the line is then all zeros.
+// Refusals: 1, 2, 23 of neighbours only, 3, 5, 6, 11, 12, 13, 14, in this order; the line is then all zeros.
 static inline uint64_t GaugeLine_open(
     GaugeLine *line, const GaugeSettings *settings, const int16_t *taps, uint64_t taps_len, const float *prototype,
     uint64_t prototype_len
 ) {
-    return gauge_raw_line_open_2(
+    return gauge_raw_line_open_3(
         settings->stages, settings->r, settings->factor, settings->depth, settings->phases, settings->phase_taps,
-        settings->straight, settings->step, taps, taps_len, prototype, prototype_len, GAUGE_LINE_FIELDS(line)
+        settings->straight, settings->step, settings->thinning, taps, taps_len, prototype, prototype_len,
+        GAUGE_LINE_FIELDS(line)
     );
 }
 
@@ -127,10 +135,10 @@ static inline uint64_t gauge_plan(
     uint64_t prototype_len, const uint64_t *pieces, const uint64_t *spans, uint64_t *taken, uint64_t *written,
     uint64_t calls
 ) {
-    return gauge_raw_plan(
+    return gauge_raw_plan_3(
         settings->stages, settings->r, settings->factor, settings->depth, settings->phases, settings->phase_taps,
-        settings->straight, settings->step, taps, taps_len, prototype, prototype_len, pieces, calls, spans, calls,
-        taken, calls, written, calls
+        settings->straight, settings->step, settings->thinning, taps, taps_len, prototype, prototype_len, pieces, calls,
+        spans, calls, taken, calls, written, calls
     );
 }
 
@@ -175,17 +183,18 @@ static inline uint32_t GaugeLine_cuts(const GaugeLine *line) {
     return line->cuts;
 }
 
-// No line needs more bytes when it is parked: a directory of seven entries, the settings, the CIC decimator, the FIR's
-// taps and its delay, five half-band stages, the prototype and the resampler.
+// No line needs more bytes when it is parked: a directory of eight entries, the settings, the FIR's taps and its delay,
+// five half-band stages, the prototype, the resampler, and a place with 30 neighbours, as of 3 stages and 10 halvings:
+// neighbours are as many as gain bits. With integrators and combs in place of these, and seven entries, it is shorter.
 #define GAUGE_MOST_PARKED                                                                                              \
-    (58 + 24 + (2 + 8 * GAUGE_MOST_STAGES) + 2 * GAUGE_MOST_TAPS + (2 + 2 * GAUGE_MOST_TAPS) + 750 +                   \
-     4 * GAUGE_MOST_PROTOTYPE + (4 + 4 * GAUGE_MOST_PHASE_TAPS))
+    (66 + 24 + 2 * GAUGE_MOST_TAPS + (2 + 2 * GAUGE_MOST_TAPS) + 750 + 4 * GAUGE_MOST_PROTOTYPE +                      \
+     (4 + 4 * GAUGE_MOST_PHASE_TAPS) + (2 + 4 * 30))
 
 // The members of a line that is only read.
 #define GAUGE_LINE_VALUES(s)                                                                                           \
     (s)->stages, (s)->r, (s)->integrators, (s)->combs, (s)->sample_counter, (s)->taps, (s)->tap_count, (s)->factor,    \
         (s)->fir_delay, (s)->wait, (s)->depth, (s)->delays, (s)->held, (s)->counts, (s)->phases, (s)->phase_taps,      \
-        (s)->straight, (s)->mu, (s)->step, (s)->delay, (s)->prototype, (s)->cuts
+        (s)->straight, (s)->mu, (s)->step, (s)->delay, (s)->prototype, (s)->cuts, (s)->thinning, (s)->neighbours
 
 // How many bytes GaugeLine_park writes. It depends on the settings alone.
 // Refusals: 15; `bytes` is then 0.
@@ -205,11 +214,11 @@ static inline uint64_t GaugeLine_park(const GaugeLine *line, uint8_t *span, uint
 }
 
 // Makes a line of a parked sheet.
-// Refusals: 16 and 17 where the bytes are no tap sheet; 21 where it has other than seven entries, or one of another
-// length than its settings make it; 15 where a line with such fields is refused, or parking writes no such fields. The
-// line is then all zeros.
+// Refusals: 16 and 17 where the bytes are no tap sheet; 21 where it has other than seven or eight entries, or one of
+// another length than its settings make it; 15 where a line with such fields is refused, or parking writes no such
+// fields. The line is then all zeros.
 static inline uint64_t GaugeLine_take_up(GaugeLine *line, const uint8_t *sheet, uint64_t sheet_len) {
-    return gauge_raw_line_take_up_2(sheet, sheet_len, GAUGE_LINE_FIELDS(line));
+    return gauge_raw_line_take_up_3(sheet, sheet_len, GAUGE_LINE_FIELDS(line));
 }
 
 #undef GAUGE_LINE_VALUES

@@ -60,9 +60,9 @@ uint64_t gauge_raw_cic_interpolator_process_sample(
     int32_t input, int32_t *out_buf, uint64_t out_buf_len, uint64_t *written
 );
 
-uint64_t gauge_raw_plan(
+uint64_t gauge_raw_plan_3(
     uint64_t stages, uint64_t r, uint64_t factor, uint64_t depth, uint64_t phases, uint64_t phase_taps,
-    uint64_t straight, float step, const int16_t *taps, uint64_t taps_len, const float *prototype,
+    uint64_t straight, float step, uint64_t thinning, const int16_t *taps, uint64_t taps_len, const float *prototype,
     uint64_t prototype_len, const uint64_t *pieces, uint64_t pieces_len, const uint64_t *spans, uint64_t spans_len,
     uint64_t *taken, uint64_t taken_len, uint64_t *written, uint64_t written_len
 );
@@ -79,15 +79,16 @@ uint64_t gauge_raw_fir_decimator_process_sample(
     uint64_t *wait, int16_t sample, uint64_t *made, int16_t *value, uint64_t *cut
 );
 
-uint64_t gauge_raw_line_open_2(
+uint64_t gauge_raw_line_open_3(
     uint64_t wanted_stages, uint64_t wanted_r, uint64_t wanted_factor, uint64_t wanted_depth, uint64_t wanted_phases,
-    uint64_t wanted_phase_taps, uint64_t wanted_straight, float wanted_step, const int16_t *wanted_taps,
-    uint64_t wanted_taps_len, const float *wanted_prototype, uint64_t wanted_prototype_len, uint64_t *stages,
-    uint64_t *r, int32_t integrators[GAUGE_MOST_STAGES], int32_t combs[GAUGE_MOST_STAGES], uint64_t *sample_counter,
-    int16_t taps[GAUGE_MOST_TAPS], uint64_t *tap_count, uint64_t *factor, int16_t fir_delay[GAUGE_MOST_TAPS],
-    uint64_t *wait, uint64_t *depth, float delays[GAUGE_HBF_DEC_DELAYS], float held[GAUGE_MOST_DEPTH],
-    uint64_t counts[GAUGE_MOST_DEPTH], uint64_t *phases, uint64_t *phase_taps, uint64_t *straight, float *mu,
-    float *step, float delay[GAUGE_MOST_PHASE_TAPS], float prototype[GAUGE_MOST_PROTOTYPE], uint32_t *cuts
+    uint64_t wanted_phase_taps, uint64_t wanted_straight, float wanted_step, uint64_t wanted_thinning,
+    const int16_t *wanted_taps, uint64_t wanted_taps_len, const float *wanted_prototype, uint64_t wanted_prototype_len,
+    uint64_t *stages, uint64_t *r, int32_t integrators[GAUGE_MOST_STAGES], int32_t combs[GAUGE_MOST_STAGES],
+    uint64_t *sample_counter, int16_t taps[GAUGE_MOST_TAPS], uint64_t *tap_count, uint64_t *factor,
+    int16_t fir_delay[GAUGE_MOST_TAPS], uint64_t *wait, uint64_t *depth, float delays[GAUGE_HBF_DEC_DELAYS],
+    float held[GAUGE_MOST_DEPTH], uint64_t counts[GAUGE_MOST_DEPTH], uint64_t *phases, uint64_t *phase_taps,
+    uint64_t *straight, float *mu, float *step, float delay[GAUGE_MOST_PHASE_TAPS],
+    float prototype[GAUGE_MOST_PROTOTYPE], uint32_t *cuts, uint64_t *thinning, int32_t neighbours[GAUGE_MOST_NEIGHBOURS]
 );
 uint64_t gauge_raw_line_reset(
     uint64_t *stages, uint64_t *r, int32_t integrators[GAUGE_MOST_STAGES], int32_t combs[GAUGE_MOST_STAGES],
@@ -95,7 +96,7 @@ uint64_t gauge_raw_line_reset(
     int16_t fir_delay[GAUGE_MOST_TAPS], uint64_t *wait, uint64_t *depth, float delays[GAUGE_HBF_DEC_DELAYS],
     float held[GAUGE_MOST_DEPTH], uint64_t counts[GAUGE_MOST_DEPTH], uint64_t *phases, uint64_t *phase_taps,
     uint64_t *straight, float *mu, float *step, float delay[GAUGE_MOST_PHASE_TAPS],
-    float prototype[GAUGE_MOST_PROTOTYPE], uint32_t *cuts
+    float prototype[GAUGE_MOST_PROTOTYPE], uint32_t *cuts, uint64_t *thinning, int32_t neighbours[GAUGE_MOST_NEIGHBOURS]
 );
 uint64_t gauge_raw_line_step(
     uint64_t *stages, uint64_t *r, int32_t integrators[GAUGE_MOST_STAGES], int32_t combs[GAUGE_MOST_STAGES],
@@ -103,7 +104,8 @@ uint64_t gauge_raw_line_step(
     int16_t fir_delay[GAUGE_MOST_TAPS], uint64_t *wait, uint64_t *depth, float delays[GAUGE_HBF_DEC_DELAYS],
     float held[GAUGE_MOST_DEPTH], uint64_t counts[GAUGE_MOST_DEPTH], uint64_t *phases, uint64_t *phase_taps,
     uint64_t *straight, float *mu, float *step, float delay[GAUGE_MOST_PHASE_TAPS],
-    float prototype[GAUGE_MOST_PROTOTYPE], uint32_t *cuts, const int32_t *samples, uint64_t samples_len, uint64_t at,
+    float prototype[GAUGE_MOST_PROTOTYPE], uint32_t *cuts, uint64_t *thinning,
+    int32_t neighbours[GAUGE_MOST_NEIGHBOURS], const int32_t *samples, uint64_t samples_len, uint64_t at,
     uint64_t places, uint64_t *taken, uint64_t *written, float *value
 );
 uint64_t gauge_raw_line_feed(
@@ -112,7 +114,8 @@ uint64_t gauge_raw_line_feed(
     int16_t fir_delay[GAUGE_MOST_TAPS], uint64_t *wait, uint64_t *depth, float delays[GAUGE_HBF_DEC_DELAYS],
     float held[GAUGE_MOST_DEPTH], uint64_t counts[GAUGE_MOST_DEPTH], uint64_t *phases, uint64_t *phase_taps,
     uint64_t *straight, float *mu, float *step, float delay[GAUGE_MOST_PHASE_TAPS],
-    float prototype[GAUGE_MOST_PROTOTYPE], uint32_t *cuts, const int32_t *samples, uint64_t samples_len, float *out,
+    float prototype[GAUGE_MOST_PROTOTYPE], uint32_t *cuts, uint64_t *thinning,
+    int32_t neighbours[GAUGE_MOST_NEIGHBOURS], const int32_t *samples, uint64_t samples_len, float *out,
     uint64_t out_len, uint64_t *taken, uint64_t *written
 );
 
@@ -235,7 +238,8 @@ uint64_t gauge_raw_line_parked_len(
     const int16_t fir_delay[GAUGE_MOST_TAPS], uint64_t wait, uint64_t depth, const float delays[GAUGE_HBF_DEC_DELAYS],
     const float held[GAUGE_MOST_DEPTH], const uint64_t counts[GAUGE_MOST_DEPTH], uint64_t phases, uint64_t phase_taps,
     uint64_t straight, float mu, float step, const float delay[GAUGE_MOST_PHASE_TAPS],
-    const float prototype[GAUGE_MOST_PROTOTYPE], uint32_t cuts, uint64_t *bytes
+    const float prototype[GAUGE_MOST_PROTOTYPE], uint32_t cuts, uint64_t thinning,
+    const int32_t neighbours[GAUGE_MOST_NEIGHBOURS], uint64_t *bytes
 );
 uint64_t gauge_raw_line_park(
     uint64_t stages, uint64_t r, const int32_t integrators[GAUGE_MOST_STAGES], const int32_t combs[GAUGE_MOST_STAGES],
@@ -243,15 +247,17 @@ uint64_t gauge_raw_line_park(
     const int16_t fir_delay[GAUGE_MOST_TAPS], uint64_t wait, uint64_t depth, const float delays[GAUGE_HBF_DEC_DELAYS],
     const float held[GAUGE_MOST_DEPTH], const uint64_t counts[GAUGE_MOST_DEPTH], uint64_t phases, uint64_t phase_taps,
     uint64_t straight, float mu, float step, const float delay[GAUGE_MOST_PHASE_TAPS],
-    const float prototype[GAUGE_MOST_PROTOTYPE], uint32_t cuts, uint8_t *span, uint64_t span_len, uint64_t *written
+    const float prototype[GAUGE_MOST_PROTOTYPE], uint32_t cuts, uint64_t thinning,
+    const int32_t neighbours[GAUGE_MOST_NEIGHBOURS], uint8_t *span, uint64_t span_len, uint64_t *written
 );
-uint64_t gauge_raw_line_take_up_2(
+uint64_t gauge_raw_line_take_up_3(
     const uint8_t *bytes, uint64_t bytes_len, uint64_t *stages, uint64_t *r, int32_t integrators[GAUGE_MOST_STAGES],
     int32_t combs[GAUGE_MOST_STAGES], uint64_t *sample_counter, int16_t taps[GAUGE_MOST_TAPS], uint64_t *tap_count,
     uint64_t *factor, int16_t fir_delay[GAUGE_MOST_TAPS], uint64_t *wait, uint64_t *depth,
     float delays[GAUGE_HBF_DEC_DELAYS], float held[GAUGE_MOST_DEPTH], uint64_t counts[GAUGE_MOST_DEPTH],
     uint64_t *phases, uint64_t *phase_taps, uint64_t *straight, float *mu, float *step,
-    float delay[GAUGE_MOST_PHASE_TAPS], float prototype[GAUGE_MOST_PROTOTYPE], uint32_t *cuts
+    float delay[GAUGE_MOST_PHASE_TAPS], float prototype[GAUGE_MOST_PROTOTYPE], uint32_t *cuts, uint64_t *thinning,
+    int32_t neighbours[GAUGE_MOST_NEIGHBOURS]
 );
 
 uint64_t gauge_raw_polyphase_resamp_from_taps(

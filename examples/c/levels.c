@@ -20,6 +20,7 @@ static uint64_t open_line(GaugeLine *line) {
     settings.phase_taps = 2;
     settings.step = 1.5f;
     settings.straight = 0;
+    settings.thinning = 0;
     return GaugeLine_open(line, &settings, taps, 4, prototype, 4);
 }
 

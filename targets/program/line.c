@@ -15,31 +15,35 @@ typedef struct {
     uint64_t prototype;
 } Opening;
 
-// Lines with each part on and off, then one refused for each reason.
+// Lines with each part on and off, some that neighbours thin, then one refused for each reason.
 // clang-format off
 static const Opening openings[] = {
-    {{1, 1, 0, 0, 0, 0, 0.0f, 0}, 0, 0},
-    {{3, 16, 2, 2, 0, 0, 0.0f, 0}, GAUGE_MOST_TAPS, 0},
-    {{8, 2, 1, 0, 0, 0, 0.0f, 0}, 5, 0},
-    {{2, 3, 0, 5, 0, 0, 0.0f, 0}, 0, 0},
-    {{1, 2, 0, 0, 2, 1, 0.5f, 0}, 0, 2},
-    {{4, 5, 3, 1, 64, 16, 0.734f, 0}, 20, 1024},
-    {{5, 7, 1, 3, 8, 4, 1.37f, 0}, 1, 32},
-    {{1, 4096, 4096, 0, 3, 2, 0.015625f, 0}, 2, 6},
-    {{2, 1, 1, 0, 7, 3, 64.0f, 0}, 3, 21},
-    {{7, 1, 2, 4, 5, 16, 3.3f, 0}, 33, 80},
-    {{4, 5, 3, 1, 64, 16, 0.734f, 1}, 20, 1024},
-    {{1, 2, 0, 0, 4, 3, 1.0f, 7}, 0, 12},
-    {{3, 16, 2, 2, 0, 0, 0.0f, 1}, 64, 0},
-    {{9, 1, 0, 0, 0, 0, 0.0f, 0}, 0, 0},
-    {{1, 4097, 0, 0, 0, 0, 0.0f, 0}, 0, 0},
-    {{8, 15, 0, 0, 0, 0, 0.0f, 0}, 0, 0},
-    {{1, 1, 0x100000001, 0, 0, 0, 0.0f, 0}, 1, 0},
-    {{1, 1, 1, 0, 0, 0, 0.0f, 0}, GAUGE_MOST_TAPS + 1, 0},
-    {{1, 1, 0, 6, 0, 0, 0.0f, 0}, 0, 0},
-    {{1, 1, 0, 0, 1, 1, 1.0f, 0}, 0, 1},
-    {{1, 1, 0, 0, 4, 4, 1.0f, 0}, 0, 15},
-    {{1, 1, 0, 0, 4, 4, 64.5f, 0}, 0, 16},
+    {{1, 1, 0, 0, 0, 0, 0.0f, 0, 0}, 0, 0},
+    {{3, 16, 2, 2, 0, 0, 0.0f, 0, 0}, GAUGE_MOST_TAPS, 0},
+    {{8, 2, 1, 0, 0, 0, 0.0f, 0, 0}, 5, 0},
+    {{2, 3, 0, 5, 0, 0, 0.0f, 0, 0}, 0, 0},
+    {{1, 2, 0, 0, 2, 1, 0.5f, 0, 0}, 0, 2},
+    {{4, 5, 3, 1, 64, 16, 0.734f, 0, 0}, 20, 1024},
+    {{5, 7, 1, 3, 8, 4, 1.37f, 0, 0}, 1, 32},
+    {{1, 4096, 4096, 0, 3, 2, 0.015625f, 0, 0}, 2, 6},
+    {{2, 1, 1, 0, 7, 3, 64.0f, 0, 0}, 3, 21},
+    {{7, 1, 2, 4, 5, 16, 3.3f, 0, 0}, 33, 80},
+    {{4, 5, 3, 1, 64, 16, 0.734f, 1, 0}, 20, 1024},
+    {{1, 2, 0, 0, 4, 3, 1.0f, 7, 0}, 0, 12},
+    {{3, 16, 2, 2, 0, 0, 0.0f, 1, 0}, 64, 0},
+    {{3, 16, 2, 2, 0, 0, 0.0f, 0, 1}, GAUGE_MOST_TAPS, 0},
+    {{1, 4096, 4096, 0, 3, 2, 0.015625f, 0, 7}, 2, 6},
+    {{7, 1, 2, 4, 5, 16, 3.3f, 1, 1}, 33, 80},
+    {{9, 1, 0, 0, 0, 0, 0.0f, 0, 0}, 0, 0},
+    {{1, 4097, 0, 0, 0, 0, 0.0f, 0, 0}, 0, 0},
+    {{1, 48, 0, 0, 0, 0, 0.0f, 0, 1}, 0, 0},
+    {{8, 15, 0, 0, 0, 0, 0.0f, 0, 0}, 0, 0},
+    {{1, 1, 0x100000001, 0, 0, 0, 0.0f, 0, 0}, 1, 0},
+    {{1, 1, 1, 0, 0, 0, 0.0f, 0, 0}, GAUGE_MOST_TAPS + 1, 0},
+    {{1, 1, 0, 6, 0, 0, 0.0f, 0, 0}, 0, 0},
+    {{1, 1, 0, 0, 1, 1, 1.0f, 0, 0}, 0, 1},
+    {{1, 1, 0, 0, 4, 4, 1.0f, 0, 0}, 0, 15},
+    {{1, 1, 0, 0, 4, 4, 64.5f, 0, 0}, 0, 16},
 };
 // clang-format on
 
@@ -50,12 +54,14 @@ static GaugeLine line;
 static uint8_t sheet[GAUGE_MOST_PARKED];
 
 static void put_line(void) {
-    const uint64_t numbers[10] = {line.stages, line.r,     line.sample_counter, line.tap_count,  line.factor,
-                                  line.wait,   line.depth, line.phases,         line.phase_taps, line.straight};
+    const uint64_t numbers[11] = {line.stages,     line.r,        line.sample_counter, line.tap_count,
+                                  line.factor,     line.wait,     line.depth,          line.phases,
+                                  line.phase_taps, line.straight, line.thinning};
     const float floats[2] = {line.mu, line.step};
-    put_values("numbers", U64, numbers, 10);
+    put_values("numbers", U64, numbers, 11);
     put_values("integrators", I32, line.integrators, 8);
     put_values("combs", I32, line.combs, 8);
+    put_values("neighbours", I32, line.neighbours, GAUGE_MOST_NEIGHBOURS);
     put_values("taps", I16, line.taps, GAUGE_MOST_TAPS);
     put_values("fir_delay", I16, line.fir_delay, GAUGE_MOST_TAPS);
     put_values("delays", F32, line.delays, 480);

@@ -251,7 +251,7 @@ static void resamplers(void) {
 // Each setting reaches the member of its name.
 static void line_members(void) {
     GaugeLine line;
-    const GaugeSettings settings = {3, 5, 7, 2, 4, 1, 1.5f, 1};
+    const GaugeSettings settings = {3, 5, 7, 2, 4, 1, 1.5f, 1, 0};
     const int16_t taps[2] = {11, 12};
     const float prototype[4] = {0.1f, 0.2f, 0.3f, 0.4f};
     const int32_t sample[1] = {9};
@@ -267,10 +267,26 @@ static void line_members(void) {
     CHECK(taken == 1 && line.integrators[0] == 9 && line.combs[0] == 0 && line.sample_counter == 1);
 }
 
+// What thins: any number but 0 is neighbours, and a factor that is no power of two is then refused right after 2.
+static void line_thinning(void) {
+    GaugeLine line;
+    GaugeSettings settings = {3, 8, 0, 0, 0, 0, 0.0f, 0, 7};
+    const int32_t samples[2] = {9, 5};
+    float level;
+    uint64_t taken, written;
+    CHECK(GaugeLine_open(&line, &settings, NULL, 0, NULL, 0) == GAUGE_NOT_REFUSED && line.thinning == 1);
+    CHECK(GaugeLine_feed(&line, samples, 2, &level, 1, &taken, &written) == GAUGE_NOT_REFUSED && taken == 2);
+    CHECK(line.neighbours[0] == 5 && line.neighbours[3] == 32 && line.integrators[0] == 0 && line.sample_counter == 2);
+    settings.r = 48;
+    CHECK(GaugeLine_open(&line, &settings, NULL, 0, NULL, 0) == GAUGE_REFUSED_POWER_OF_TWO && line.thinning == 0);
+    settings.r = 5000;
+    CHECK(GaugeLine_open(&line, &settings, NULL, 0, NULL, 0) == GAUGE_REFUSED_FACTOR);
+}
+
 // What sections 2 and 3 cut of 40000 and of the FIR's sum, twice 32767; an end of the range is not cut.
 static void line_cuts(void) {
     GaugeLine line;
-    const GaugeSettings settings = {1, 1, 1, 0, 0, 0, 0.0f, 0};
+    const GaugeSettings settings = {1, 1, 1, 0, 0, 0, 0.0f, 0, 0};
     const int16_t taps[2] = {32767, 32767};
     const int32_t samples[3] = {40000, 32767, 0};
     float out[3];
@@ -287,7 +303,7 @@ static void line_cuts(void) {
 // 01's reading of a line, then the same by steps.
 static void line_readings(void) {
     GaugeLine line;
-    GaugeSettings settings = {1, 1, 0, 0, 2, 1, 0.5f, 0};
+    GaugeSettings settings = {1, 1, 0, 0, 2, 1, 0.5f, 0, 0};
     const float prototype[2] = {1.0f, 0.0f};
     const int32_t samples[2] = {16384, 0};
     float out[3], value;
@@ -313,7 +329,7 @@ static void line_readings(void) {
 static void parked_line(void) {
     static GaugeLine line, taken_up;
     static uint8_t sheet[GAUGE_MOST_PARKED], again[GAUGE_MOST_PARKED];
-    const GaugeSettings settings = {2, 2, 1, 1, 2, 2, 0.75f, 1};
+    const GaugeSettings settings = {2, 2, 1, 1, 2, 2, 0.75f, 1, 0};
     const int16_t taps[2] = {16384, 16384};
     const float prototype[4] = {0.0f, 0.5f, 1.0f, 0.5f};
     const int32_t samples[11] = {100, -200, 300, 40000, 500, 600, -700, 800, 900, 1000, 1100};
@@ -345,7 +361,7 @@ static void parked_line(void) {
 static void feeding_plan(void) {
     static GaugeLine line;
     static uint64_t lengths[GAUGE_MOST_CALLS + 1], more[GAUGE_MOST_CALLS + 1], least[GAUGE_MOST_CALLS + 1];
-    GaugeSettings settings = {2, 2, 1, 1, 2, 2, 0.75f, 1};
+    GaugeSettings settings = {2, 2, 1, 1, 2, 2, 0.75f, 1, 0};
     const int16_t taps[2] = {16384, 16384};
     const float prototype[4] = {0.0f, 0.5f, 1.0f, 0.5f};
     const uint64_t pieces[3] = {11, 11, 5}, spans[3] = {1, 2, 0}, longest = GAUGE_MOST_BLOCK + 1;
@@ -418,6 +434,7 @@ int main(void) {
     linear_phase_calls();
     resamplers();
     line_members();
+    line_thinning();
     line_cuts();
     line_readings();
     parked_line();

@@ -8,6 +8,8 @@ use lib.Ieee.{Float}
 use Rattle.theory.specs.Feeds.{Event, took, wrote, both, stopped}
 use Rattle.refusal.specs.Table.{numberOf}
 use Rattle.refusal.specs.Outcome.{Outcome}
+use Rattle.nonrecursive.specs.declared.thinning.Thinning.{Thinning}
+use Rattle.nonrecursive.specs.declared.thinning.Thinning.the-variants as thinning
 use Rattle.q15.specs.FirDecimator.{Filtered}
 use Rattle.float.specs.F32.{zero32}
 use Rattle.half_band.specs.declared.hbf_stream.HbfStreamOut.{HbfStreamOut}
@@ -28,6 +30,15 @@ isSet n = not (eqb n 0)
 -- and the number that is written for it
 abbrev pub flagOf : Bool → ℕ
 flagOf b = cond b 1 0
+
+-- 02, §13: which kind thins a line crosses as a number: 0 is the integrators, any other the neighbours
+abbrev pub kindOf : ℕ → Thinning
+kindOf n = cond (isSet n) thinning.Neighbours thinning.Integrators
+
+-- and the number that is written for it
+abbrev pub kindNumber : Thinning → ℕ
+kindNumber thinning.Integrators = 0
+kindNumber thinning.Neighbours = 1
 
 -- 02, §4: a FIR output that may be missing, and whether it was cut
 abbrev pub crossedFir : {S : Type 0} → Outcome Filtered S → Outcome (ℕ × (ℤ × ℕ)) S

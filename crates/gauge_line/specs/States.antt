@@ -25,7 +25,7 @@ use Rattle.half_band.specs.declared.hbf_stream.HbfStream.{HbfStream}
 use Rattle.float.specs.declared.polyphase_resamp.PolyphaseResampF32.{PolyphaseResampF32}
 use Rattle.linear_phase.specs.declared.linear_phase_fir.LinearPhaseFir.{LinearPhaseFir}
 use Rattle.line.specs.declared.gauge_line.Line.{Line}
-use Rattle.gauge_line.specs.Crossing.{isSet, flagOf}
+use Rattle.gauge_line.specs.Crossing.{isSet, flagOf, kindOf}
 
 -- the two moments of a call
 pub data Moment : Type 0 where
@@ -80,17 +80,20 @@ abbrev pub phaseAt : Moment → Place ℕ → Place ℕ → Place ℕ → Place 
 phaseAt m M odd antisymmetric taps delay =
     phaseOf (at m M) (isSet (at m odd)) (isSet (at m antisymmetric)) (at m taps) (at m delay)
 
--- the line of its fields: its decimator, its FIR, its half-band stages, its resampler and its count of cut values
+-- the line of its fields: its decimator, its FIR, its half-band stages, its resampler and its count of cut values; which kind thins, and the neighbours
 abbrev pub lineBy :
     ℕ → ℕ → List ℤ → List ℤ → ℕ
     → List ℤ → ℕ → ℕ → List ℤ → ℕ
     → ℕ → List Float → List Float → List ℕ
     → ℕ → ℕ → ℕ → Float → Float → List Float → List Float
     → ℕ
+    → ℕ → List ℤ
     → Line
-lineBy stages r integrators combs counter taps tapCount factor firDelay wait depth delays held counts phases phaseTaps straight mu step delay prototype cuts =
+lineBy stages r integrators combs counter taps tapCount factor firDelay wait depth delays held counts phases phaseTaps straight mu step delay prototype cuts kind neighbours =
     record {
+      thinning = kindOf kind;
       cic = decimatorOf stages r integrators combs counter;
+      neighbours = neighbours;
       fir = firState taps tapCount factor firDelay wait;
       «half_band» = streamOf depth delays held counts;
       resampler = together (isSet straight) phases phaseTaps mu step delay prototype;
@@ -104,7 +107,8 @@ abbrev pub lineAt :
     → Place ℕ → Place (List Float) → Place (List Float) → Place (List ℕ)
     → Place ℕ → Place ℕ → Place ℕ → Place Float → Place Float → Place (List Float) → Place (List Float)
     → Place ℕ
+    → Place ℕ → Place (List ℤ)
     → Line
-lineAt m stages r integrators combs counter taps tapCount factor firDelay wait depth delays held counts phases phaseTaps straight mu step delay prototype cuts =
+lineAt m stages r integrators combs counter taps tapCount factor firDelay wait depth delays held counts phases phaseTaps straight mu step delay prototype cuts kind neighbours =
     lineBy (at m stages) (at m r) (at m integrators) (at m combs) (at m counter) (at m taps) (at m tapCount) (at m factor) (at m firDelay) (at m wait)
-    (at m depth) (at m delays) (at m held) (at m counts) (at m phases) (at m phaseTaps) (at m straight) (at m mu) (at m step) (at m delay) (at m prototype) (at m cuts)
+    (at m depth) (at m delays) (at m held) (at m counts) (at m phases) (at m phaseTaps) (at m straight) (at m mu) (at m step) (at m delay) (at m prototype) (at m cuts) (at m kind) (at m neighbours)

@@ -13,10 +13,12 @@ use crate::answers::opening_number;
 use crate::states::decimator;
 use crate::states::fir;
 use crate::states::is_set;
+use crate::states::kind;
 use crate::states::put_decimator;
 use crate::states::put_fir;
 use crate::states::put_resampler;
 use crate::states::put_stream;
+use crate::states::put_thinning;
 use crate::states::resampler;
 use crate::states::stream;
 use float::polyphase_resamp::MOST_CELLS;
@@ -25,6 +27,7 @@ use half_band::DEC_CASCADE_DELAYS;
 use half_band::MOST_STAGES;
 use integer::limits::MAX_STAGES;
 use line::Line;
+use nonrecursive::nonrecursive_decimator::MAX_NEIGHBOURS;
 use parking::park;
 use parking::parked_len;
 use q15::MOST_TAPS;
@@ -54,12 +57,16 @@ fn line_of(
     delay: [f32; MOST_PHASE_TAPS],
     prototype: [f32; MOST_CELLS],
     cuts: u32,
+    thinning: usize,
+    neighbours: [i32; MAX_NEIGHBOURS],
 ) -> Line
     ensures { λ l. ⌜ l ≡ lineBy stages r integrators combs «sample_counter» taps «tap_count» factor «fir_delay» wait depth delays held counts
-        phases «phase_taps» straight mu step delay prototype cuts ⌝ }
+        phases «phase_taps» straight mu step delay prototype cuts thinning neighbours ⌝ }
 {
     Line {
+        thinning: kind(thinning),
         cic: decimator(stages, r, integrators, combs, sample_counter),
+        neighbours,
         fir: fir(taps, tap_count, factor, fir_delay, wait),
         half_band: stream(depth, delays, held, counts),
         resampler: resampler(
@@ -100,12 +107,14 @@ pub extern "C" fn gauge_raw_line_parked_len(
     delay: &[f32; MOST_PHASE_TAPS],
     prototype: &[f32; MOST_CELLS],
     cuts: u32,
+    thinning: usize,
+    neighbours: &[i32; MAX_NEIGHBOURS],
     bytes: &mut usize,
 ) -> usize
     ensures answer { λ n. ⌜ (
         let line = lineBy stages r (now (integrators .entry)) (now (combs .entry)) «sample_counter» (now (taps .entry)) «tap_count» factor (now («fir_delay» .entry)) wait
         depth (now (delays .entry)) (now (held .entry)) (now (counts .entry))
-        phases «phase_taps» straight mu step (now (delay .entry)) (now (prototype .entry)) cuts in
+        phases «phase_taps» straight mu step (now (delay .entry)) (now (prototype .entry)) cuts thinning (now (neighbours .entry)) in
         record { number = n; value = now (bytes .exit) } ≡ K.lengthAnswer P.panel line) ⌝ }
 {
     let line = line_of(
@@ -131,6 +140,8 @@ pub extern "C" fn gauge_raw_line_parked_len(
         *delay,
         *prototype,
         cuts,
+        thinning,
+        *neighbours,
     );
     let answer = parked_len(line);
     *bytes = count_written(answer);
@@ -162,23 +173,25 @@ pub extern "C" fn gauge_raw_line_park(
     delay: &[f32; MOST_PHASE_TAPS],
     prototype: &[f32; MOST_CELLS],
     cuts: u32,
+    thinning: usize,
+    neighbours: &[i32; MAX_NEIGHBOURS],
     span: &mut [u8],
     written: &mut usize,
 ) -> usize
     ensures answer { λ n. ⌜ (
         let line = lineBy stages r (now (integrators .entry)) (now (combs .entry)) «sample_counter» (now (taps .entry)) «tap_count» factor (now («fir_delay» .entry)) wait
         depth (now (delays .entry)) (now (held .entry)) (now (counts .entry))
-        phases «phase_taps» straight mu step (now (delay .entry)) (now (prototype .entry)) cuts in
+        phases «phase_taps» straight mu step (now (delay .entry)) (now (prototype .entry)) cuts thinning (now (neighbours .entry)) in
         record { number = n; value = now (written .exit) } ≡ K.parkAnswer P.panel line (length (now (span .entry)))) ⌝ }
     ensures span { λ n. ⌜ (
         let line = lineBy stages r (now (integrators .entry)) (now (combs .entry)) «sample_counter» (now (taps .entry)) «tap_count» factor (now («fir_delay» .entry)) wait
         depth (now (delays .entry)) (now (held .entry)) (now (counts .entry))
-        phases «phase_taps» straight mu step (now (delay .entry)) (now (prototype .entry)) cuts in
+        phases «phase_taps» straight mu step (now (delay .entry)) (now (prototype .entry)) cuts thinning (now (neighbours .entry)) in
         now (span .exit) ≡ K.parkSpan P.panel line (now (span .entry))) ⌝ }
     ensures older { λ n. ⌜ (
         let line = lineBy stages r (now (integrators .entry)) (now (combs .entry)) «sample_counter» (now (taps .entry)) «tap_count» factor (now («fir_delay» .entry)) wait
         depth (now (delays .entry)) (now (held .entry)) (now (counts .entry))
-        phases «phase_taps» straight mu step (now (delay .entry)) (now (prototype .entry)) cuts in
+        phases «phase_taps» straight mu step (now (delay .entry)) (now (prototype .entry)) cuts thinning (now (neighbours .entry)) in
         n ≡ 0 → ForOlder line (take (now (written .exit)) (now (span .exit)))) ⌝ }
 {
     let line = line_of(
@@ -204,6 +217,8 @@ pub extern "C" fn gauge_raw_line_park(
         *delay,
         *prototype,
         cuts,
+        thinning,
+        *neighbours,
     );
     let answer = park(line, span);
     *written = count_written(answer);
@@ -214,7 +229,7 @@ pub extern "C" fn gauge_raw_line_park(
 // is taken up parks to the entries that it was taken from. The clause `earlier`: what a panel before request 7 takes up is taken up, as the same line. The number in the
 // name is that of the line's layout.
 #[no_mangle]
-pub extern "C" fn gauge_raw_line_take_up_2(
+pub extern "C" fn gauge_raw_line_take_up_3(
     bytes: &[u8],
     stages: &mut usize,
     r: &mut usize,
@@ -238,23 +253,25 @@ pub extern "C" fn gauge_raw_line_take_up_2(
     delay: &mut [f32; MOST_PHASE_TAPS],
     prototype: &mut [f32; MOST_CELLS],
     cuts: &mut u32,
+    thinning: &mut usize,
+    neighbours: &mut [i32; MAX_NEIGHBOURS],
 ) -> usize
-    ensures setting { λ n. ⌜ IsFlag (now (straight .exit)) ⌝ }
+    ensures setting { λ n. ⌜ IsFlag (now (straight .exit)) × IsFlag (now (thinning .exit)) ⌝ }
     ensures answer { λ n. ⌜ (
         let after = lineAt exit stages r integrators combs «sample_counter» taps «tap_count» factor «fir_delay» wait
-        depth delays held counts phases «phase_taps» straight mu step delay prototype cuts in
+        depth delays held counts phases «phase_taps» straight mu step delay prototype cuts thinning neighbours in
         record { number = n; state = after } ≡ K.takenUp P.panel (now (bytes .entry))) ⌝ }
     ensures back { λ n. ⌜ (
         let after = lineAt exit stages r integrators combs «sample_counter» taps «tap_count» factor «fir_delay» wait
-        depth delays held counts phases «phase_taps» straight mu step delay prototype cuts in
+        depth delays held counts phases «phase_taps» straight mu step delay prototype cuts thinning neighbours in
         TakenBack (now (bytes .entry)) (record { number = n; state = after })) ⌝ }
     ensures parked { λ n. ⌜ (
         let after = lineAt exit stages r integrators combs «sample_counter» taps «tap_count» factor «fir_delay» wait
-        depth delays held counts phases «phase_taps» straight mu step delay prototype cuts in
+        depth delays held counts phases «phase_taps» straight mu step delay prototype cuts thinning neighbours in
         AsParked (now (bytes .entry)) (record { number = n; state = after })) ⌝ }
     ensures earlier { λ n. ⌜ (
         let after = lineAt exit stages r integrators combs «sample_counter» taps «tap_count» factor «fir_delay» wait
-        depth delays held counts phases «phase_taps» straight mu step delay prototype cuts in
+        depth delays held counts phases «phase_taps» straight mu step delay prototype cuts thinning neighbours in
         StillTaken (now (bytes .entry)) (record { number = n; state = after })) ⌝ }
 {
     let opened = take_up(bytes);
@@ -273,6 +290,9 @@ pub extern "C" fn gauge_raw_line_take_up_2(
         prototype,
     );
     *cuts = next.cuts;
+    let thins = next.thinning;
+    let next_neighbours = next.neighbours;
+    put_thinning(thins, next_neighbours, thinning, neighbours);
     let answer = opened.answer;
     opening_number(answer)
 }

@@ -7,7 +7,7 @@ ghost use Rattle.q15.specs.FirDecimator.{firState};
 ghost use Rattle.half_band.specs.HbfStream.{streamOf};
 ghost use Rattle.float.specs.PolyphaseResamp.{together};
 ghost use Rattle.linear_phase.specs.LinearPhaseFir.{phaseOf};
-ghost use Rattle.gauge_line.specs.Crossing.{isSet, flagOf};
+ghost use Rattle.gauge_line.specs.Crossing.{isSet, flagOf, kindOf, kindNumber};
 ghost use Rattle.gauge_line.specs.States.{exit, decimatorAt, nonrecursiveAt, interpolatorAt, firAt, decAt, intAt, decCascadeAt, intCascadeAt, streamAt, IsFlag, resamplerAt};
 use float::PolyphaseResampF32;
 use float::polyphase_resamp::MOST_CELLS;
@@ -30,6 +30,7 @@ use linear_phase::LINEAR_PHASE_DELAYS;
 use linear_phase::LinearPhaseFir;
 use linear_phase::MOST_LINEAR_PHASE_TAPS;
 use nonrecursive::NonrecursiveDecimator;
+use nonrecursive::Thinning;
 use nonrecursive::nonrecursive_decimator::MAX_NEIGHBOURS;
 use q15::FirDecimator;
 use q15::MOST_TAPS;
@@ -300,6 +301,40 @@ pub(crate) fn flag(yes: bool) -> usize
         return 1;
     }
     0
+}
+
+// Which kind thins a line crosses as a number: 0 is the integrators, any other the neighbours.
+pub(crate) fn kind(n: usize) -> Thinning
+    ensures { λ k. ⌜ k ≡ kindOf n ⌝ }
+{
+    if is_set(n) {
+        return Thinning::Neighbours;
+    }
+    Thinning::Integrators
+}
+
+// The number that is written for it.
+pub(crate) fn kind_number(kind: Thinning) -> usize
+    ensures { λ n. ⌜ n ≡ kindNumber kind ⌝ }
+{
+    match kind {
+        Thinning::Integrators => 0,
+        Thinning::Neighbours => 1,
+    }
+}
+
+// Which kind thins, and the neighbours.
+pub(crate) fn put_thinning(
+    next: Thinning,
+    next_neighbours: [i32; MAX_NEIGHBOURS],
+    thinning: &mut usize,
+    neighbours: &mut [i32; MAX_NEIGHBOURS],
+)
+    ensures state { λ _. ⌜ (kindOf (now (thinning .exit)) ≡ next) × (now (neighbours .exit) ≡ «next_neighbours») ⌝ }
+    ensures setting { λ _. ⌜ IsFlag (now (thinning .exit)) ⌝ }
+{
+    *thinning = kind_number(next);
+    *neighbours = next_neighbours;
 }
 
 pub(crate) fn resampler(

@@ -18,10 +18,9 @@ use Rattle.theory.specs.Tally.{heldSum}
 use Rattle.theory.proofs.Sections.{outs-each}
 use Rattle.theory.proofs.Tally.{weights, Tallies, Told, history-told}
 use Rattle.integer.specs.MovingSums.{scaledSums}
-use Rattle.integer.specs.CicDecimator.{scaledDecimator}
-use Rattle.integer.specs.CicDecimator as C
-use Rattle.integer.specs.declared.cic_decimator.CicDecimator.{CicDecimator}
-use Rattle.integer.proofs.Streaming.{streams}
+use Rattle.nonrecursive.specs.EitherKind.{Thinner, either}
+use Rattle.nonrecursive.specs.EitherKind as E
+use Rattle.nonrecursive.proofs.EitherKind.{either-made}
 use Rattle.q15.specs.Fixed.{cut, cutOne, cutCount}
 use Rattle.q15.specs.PolyphaseDecimate.{firSums}
 use Rattle.q15.specs.FirDecimator.{fir, firNext, firSumOut, summing}
@@ -29,35 +28,35 @@ use Rattle.q15.specs.FirDecimator as Q
 use Rattle.q15.specs.declared.fir_decimator.FirDecimator.{FirDecimator}
 use Rattle.q15.proofs.FirStream.{line-summed}
 use Rattle.line.specs.Outputs.{Opening, mostCuts, cutsOf, heldCuts}
-use Rattle.line.specs.Line.{Parts, partsOf, from3, chain, sumCut, cutsFor, cutsAt, line, fresh}
+use Rattle.line.specs.Line.{Parts, thinnerOf, partsOf, from3, chain, sumCut, cutsFor, cutsAt, line, fresh}
 use Rattle.line.specs.declared.gauge_line.Line.{Line}
 use Rattle.line.proofs.Openings.{Accepted}
 
 -- sections 1 to 3, which a due output does not touch
 abbrev Front : Type 0
-Front = CicDecimator × (Unit {0} × FirDecimator)
+Front = Thinner × (Unit {0} × FirDecimator)
 
 abbrev front : Section Front ℤ ℤ
-front = andThen scaledDecimator (andThen (each (cut w16)) fir)
+front = andThen either (andThen (each (cut w16)) fir)
 
 abbrev frontOf : Line → Front
-frontOf l = (l .cic, (tt, l .fir))
+frontOf l = (thinnerOf l, (tt, l .fir))
 
 abbrev weight : Front → ℤ → ℕ
-weight t x = cutsFor (t .1 .1) (scaledDecimator .out (t .0) x)
+weight t x = cutsFor (t .1 .1) (either .out (t .0) x)
 
 tallies : Tallies mostCuts front weight line frontOf (λ l. l .cuts)
 tallies =
     record {
       view-after = λ l. refl;
-      view-next = λ l x. go l x (scaledDecimator .out (l .cic) x);
+      view-next = λ l x. go l x (either .out (thinnerOf l) x);
       count-after = λ l. refl;
       count-next = λ l x. refl;
     }
   where
     go :
         (l : Line) (x : ℤ) (o : Option ℤ)
-        → _≡_ {A = Front} (scaledDecimator .next (l .cic) x, (tt, nextFor scaledDecimator (before (each (cut w16)) from3) (partsOf l .1) o .1 .0)) (scaledDecimator .next (l .cic) x, nextBy scaledDecimator (andThen (each (cut w16)) fir) (tt, l .fir) o)
+        → _≡_ {A = Front} (either .next (thinnerOf l) x, (tt, nextFor either (before (each (cut w16)) from3) (partsOf l .1) o .1 .0)) (either .next (thinnerOf l) x, nextBy either (andThen (each (cut w16)) fir) (tt, l .fir) o)
     go l x none = refl
     go l x (some v) = refl
 
@@ -67,20 +66,20 @@ count-onto (some z) l = refl
 
 -- over a whole list
 weights-are :
-    (w : List ℤ) (d : CicDecimator) (s : FirDecimator)
-    → weights front weight (d, (tt, s)) w ≡ cutCount w16 (outs scaledDecimator d w) + cutCount w16 (outs summing s (map (cut w16) (outs scaledDecimator d w)))
+    (w : List ℤ) (d : Thinner) (s : FirDecimator)
+    → weights front weight (d, (tt, s)) w ≡ cutCount w16 (outs either d w) + cutCount w16 (outs summing s (map (cut w16) (outs either d w)))
 weights-are [] d s = refl
-weights-are (x ∷ w) d s = go (scaledDecimator .out d x) (λ s′. weights-are w (scaledDecimator .next d x) s′)
+weights-are (x ∷ w) d s = go (either .out d x) (λ s′. weights-are w (either .next d x) s′)
   where
     rest : List ℤ
-    rest = outs scaledDecimator (scaledDecimator .next d x) w
+    rest = outs either (either .next d x) w
 
     go :
         (o : Option ℤ)
-        → ((s′ : FirDecimator) → weights front weight (scaledDecimator .next d x, (tt, s′)) w ≡ cutCount w16 rest + cutCount w16 (outs summing s′ (map (cut w16) rest)))
-        → cutsFor s o + weights front weight (scaledDecimator .next d x, nextBy scaledDecimator (andThen (each (cut w16)) fir) (tt, s) o) w
+        → ((s′ : FirDecimator) → weights front weight (either .next d x, (tt, s′)) w ≡ cutCount w16 rest + cutCount w16 (outs summing s′ (map (cut w16) rest)))
+        → cutsFor s o + weights front weight (either .next d x, nextBy either (andThen (each (cut w16)) fir) (tt, s) o) w
         ≡ cutCount w16 (onto o rest) + cutCount w16 (outs summing s (map (cut w16) (onto o rest)))
-    go none ih = let i = ih s in let q : 0 + weights front weight (scaledDecimator .next d x, (tt, s)) w ≡ cutCount w16 rest + cutCount w16 (outs summing s (map (cut w16) rest)) = omega (arith, i) in q
+    go none ih = let i = ih s in let q : 0 + weights front weight (either .next d x, (tt, s)) w ≡ cutCount w16 rest + cutCount w16 (outs summing s (map (cut w16) rest)) = omega (arith, i) in q
     go (some v) ih =
         let i = ih (firNext s (cut w16 v)) in
         let a : ℕ = cutOne w16 v in
@@ -96,9 +95,9 @@ module _ (o : Opening) (ok : Accepted o) where
   unfolding fresh cutsOf
   fresh-cuts w =
       let sums = scaledSums (o .settings .stages) (o .settings .r) w in
-      weights-are w (C.fresh (o .settings .stages) (o .settings .r)) (Q.freshInLine (o .taps) (o .settings .factor))
+      weights-are w (E.fresh (o .settings .thinning) (o .settings .stages) (o .settings .r)) (Q.freshInLine (o .taps) (o .settings .factor))
       ∙ ap (λ (v : List ℤ). cutCount w16 v + cutCount w16 (outs summing (Q.freshInLine (o .taps) (o .settings .factor)) (map (cut w16) v)))
-      (streams (o .settings .stages) (o .settings .r) (ok .stages) (ok .factor) .scaled-made w)
+      (either-made (o .settings .thinning) (o .settings .stages) (o .settings .r) (ok .thinned) w)
       ∙ ap (λ (n : ℕ). cutCount w16 sums + n)
       (ap (cutCount w16) (line-summed (o .taps) (o .settings .factor) (ok .filter) (map (cut w16) sums))
       ∙ by (eqb (length (o .taps)) 0) (firSums (o .taps) (o .settings .factor) (map (cut w16) sums)))

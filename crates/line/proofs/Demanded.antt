@@ -25,7 +25,7 @@ use Rattle.line.proofs.Cuts.{cuts-held}
 use Rattle.line.proofs.Openings.{Accepted, accepted, fresh-valid, makes, one-list}
 
 -- the same feeds, as the machine's theory has them
-abbrev modelled : History → F.History ℤ
+abbrev pub modelled : History → F.History ℤ
 modelled none-yet = F.opened
 modelled (fed h xs span) = F.fed (modelled h) xs (length span)
 
@@ -33,14 +33,14 @@ modelled (fed h xs span) = F.fed (modelled h) xs (length span)
 abbrev pub answered : F.Fed Line Float → Outcome Moved Line
 answered f = record { number = 0; value = record { taken = f .taken; written = length (f .written) }; state = f .line }
 
-abbrev spanned : F.Fed Line Float → List Float → List Float
+abbrev pub spanned : F.Fed Line Float → List Float → List Float
 spanned f span = f .written ++ drop (length (f .written)) span
 
 pub outcome-is : (l : Line) (xs : List ℤ) (n : ℕ) → valid l ≡ true → feedOutcome l xs n ≡ answered (F.feed line l xs n)
 unfolding feedOutcome fedLine
 outcome-is l xs n v = rw v
 
-span-is : (l : Line) (xs : List ℤ) (span : List Float) → valid l ≡ true → feedSpan l xs span ≡ spanned (F.feed line l xs (length span)) span
+pub span-is : (l : Line) (xs : List ℤ) (span : List Float) → valid l ≡ true → feedSpan l xs span ≡ spanned (F.feed line l xs (length span)) span
 unfolding feedSpan fedLine
 span-is l xs span v = rw v
 
@@ -54,10 +54,10 @@ module _ (o : Opening) (zero : opened o .number ≡ 0) where
   pub valid-fresh : valid (fresh o) ≡ true
   valid-fresh = fresh-valid o ok
 
-  valid-at : (h : F.History ℤ) → valid (F.lineOf line (fresh o) h) ≡ true
+  pub valid-at : (h : F.History ℤ) → valid (F.lineOf line (fresh o) h) ≡ true
   valid-at = line-good line 64 Good line-lawful (fresh o) valid-fresh
 
-  same-line : (h : History) → lineOf o h ≡ F.lineOf line (fresh o) (modelled h)
+  pub same-line : (h : History) → lineOf o h ≡ F.lineOf line (fresh o) (modelled h)
   same-line none-yet = start
   same-line (fed h xs span) =
       ap (λ (l : Line). feedOutcome l xs (length span) .state) (same-line h)

@@ -17,6 +17,7 @@ use Rattle.float.specs.PolyphaseOutput.{output}
 use Rattle.float.specs.PolyphaseResamp.{inLimits, inLine, isOn, outputOf, passed, Emitted, emitted, emittedFrom}
 use Rattle.float.proofs.PolyphaseOutput.{limits-say}
 use Rattle.float.proofs.DueOutputs.{emitted-keeps, emitted-all}
+use Rattle.nonrecursive.specs.declared.thinning.Thinning.{Thinning}
 use Rattle.line.specs.Line.{line}
 use Rattle.line.specs.Together.{together, dueAt}
 use Rattle.line.specs.declared.gauge_line.Line.{Line}
@@ -26,10 +27,10 @@ use Rattle.line.proofs.Lawful.{Good, line-lawful}
 use Rattle.line.proofs.Flags.{and-false}
 use Rattle.line.proofs.Numbers.{due-limits}
 
-module _ (l₀ : Line) (xs : List ℤ) (out₀ : List Float) (f : Fixed) (s : Numbers) (sums combs taps firDelay : List ℤ) (delays held : List Float) (counts : List ℕ) (delay prototype : List Float) (t : ℕ) where
+module _ (l₀ : Line) (xs : List ℤ) (out₀ : List Float) (k : Thinning) (f : Fixed) (s : Numbers) (sums combs neighbours taps firDelay : List ℤ) (delays held : List Float) (counts : List ℕ) (delay prototype : List Float) (t : ℕ) where
   -- the line with another mu
   abbrev at : Float → Line
-  at mu = together f (record { «sample_counter» = s .«sample_counter»; wait = s .wait; mu = mu; cuts = s .cuts }) sums combs taps firDelay delays held counts delay prototype
+  at mu = together k f (record { «sample_counter» = s .«sample_counter»; wait = s .wait; mu = mu; cuts = s .cuts }) sums combs neighbours taps firDelay delays held counts delay prototype
 
   abbrev Mid : Float → ℕ → List Float → Type 0
   Mid mu w o = Midway line 64 Good line-lawful l₀ xs out₀ o (at mu) t w
@@ -60,7 +61,7 @@ module _ (l₀ : Line) (xs : List ℤ) (out₀ : List Float) (f : Fixed) (s : Nu
   drained w out mid e q = go (inLimits (f .phases) (f .taps)) refl
     where
       off : inLimits (f .phases) (f .taps) ≡ false → (b : Bool) → dueAt f (s .mu) ≡ b → b ≡ false
-      off l true d = absurd (true≢false (sym (due-limits _ _ _ _ _ _ _ _ _ _ _ (mid .good) d) ∙ l))
+      off l true d = absurd (true≢false (sym (due-limits _ _ _ _ _ _ _ _ _ _ _ _ _ (mid .good) d) ∙ l))
       off l false d = refl
 
       go : (b : Bool) → inLimits (f .phases) (f .taps) ≡ b → Drained w e

@@ -1,9 +1,7 @@
 -- Each section keeps its state valid, so the line does, and 64 outputs a value are enough: the resampler's law with the sections put before it one by one.
-use mathlib.Core.Path.{_≡_, refl, sym, ap, ap₂, _∙_}
+use mathlib.Core.Path.{_≡_, refl, _∙_}
 use mathlib.Core.Bool.{Bool, true, false, _&&_, not}
 use mathlib.Core.List.{List}
-use Prim.Native.Nat.{ℕ}
-use lib.Dec.{leb}
 use lib.IntN.{ℤ}
 use lib.Ieee.{Float}
 use mir.Syntax.{w16}
@@ -14,11 +12,8 @@ use Rattle.theory.proofs.Tally.{lawful-tallied, all-tallied}
 use Rattle.line.specs.Outputs.{mostCuts}
 use Rattle.theory.proofs.Machines.{Lawful, all, all-before, lawful-before, lawful-viewed, all-viewed, lawful-as}
 use Rattle.theory.specs.Sections.{outs}
-use Rattle.integer.specs.Gain.{gainBits, mostBits}
-use Rattle.integer.specs.CicDecimator.{decimator, scaledDecimator}
-use Rattle.integer.specs.CicDecimator as C
-use Rattle.integer.specs.declared.cic_decimator.CicDecimator.{CicDecimator}
-use Rattle.integer.proofs.Streaming.{valid-kept, settings-kept}
+use Rattle.nonrecursive.specs.EitherKind.{fine, either}
+use Rattle.nonrecursive.proofs.EitherKind.{either-kept}
 use Rattle.q15.specs.Fixed.{cut}
 use Rattle.q15.specs.FirDecimator.{fir}
 use Rattle.q15.specs.FirDecimator as Q
@@ -31,16 +26,9 @@ use Rattle.float.specs.declared.polyphase_resamp.PolyphaseResampF32.{PolyphaseR
 use Rattle.half_band.proofs.HeldOnes.{line-next-not-refused}
 use Rattle.float.proofs.PolyphaseRange as Res
 use Rattle.float.specs.Level.{level}
-use Rattle.line.specs.Line.{Parts, partsOf, countedOf, ofCounted, cutsAt, from3, from4, from5, chain, line, cicFine, halfBandFine, valid}
+use Rattle.line.specs.Line.{Parts, thinnerOf, partsOf, countedOf, ofCounted, cutsAt, from3, from4, from5, chain, line, halfBandFine, valid}
 use Rattle.line.specs.declared.gauge_line.Line.{Line}
 use Rattle.line.proofs.Flags.{and-left, and-right, and-both, not-says, not-is}
-
-cic-kept : (d : CicDecimator) (x : ℤ) → cicFine d ≡ true → cicFine (scaledDecimator .next d x) ≡ true
-unfolding cicFine scaledDecimator
-cic-kept d x h =
-    let s = settings-kept (d .stages) (d .r) d x (refl, refl) in
-    and-both (C.valid (decimator .next d x)) _ (valid-kept d x (and-left (C.valid d) _ h))
-    (ap₂ {C = Bool} (λ (N r : ℕ). leb (gainBits N r) mostBits) (s .0) (s .1) ∙ and-right (C.valid d) _ h)
 
 half-band-kept : (s : HbfStream) (x : Float) → halfBandFine s ≡ true → halfBandFine (hbfStream .next s x) ≡ true
 unfolding halfBandFine
@@ -63,7 +51,7 @@ abbrev Good2 : Unit {0} × (FirDecimator × (Unit {0} × (HbfStream × Polyphase
 Good2 p = Unit {0} × Good3 (p .1)
 
 abbrev Good1 : Parts → Type 0
-Good1 p = (cicFine (p .0) ≡ true) × Good2 (p .1)
+Good1 p = (fine (p .0) ≡ true) × Good2 (p .1)
 
 law4 : Lawful from4 64 Good4
 law4 = lawful-before hbfStream from5 64 Good5 Res.line-lawful (λ s. halfBandFine s ≡ true) half-band-kept
@@ -78,12 +66,12 @@ law2 : Lawful (before (each (cut w16)) from3) 64 Good2
 law2 = lawful-before (each (cut w16)) from3 64 Good3 law3 (λ s. Unit {0}) (λ s a g. tt)
 
 law1 : Lawful chain 64 Good1
-law1 = lawful-before scaledDecimator (before (each (cut w16)) from3) 64 Good2 law2 (λ d. cicFine d ≡ true) cic-kept
+law1 = lawful-before either (before (each (cut w16)) from3) 64 Good2 law2 (λ t. fine t ≡ true) either-kept
 
 pub to-parts : (l : Line) → valid l ≡ true → Good1 (partsOf l)
 unfolding valid
 to-parts l h =
-    let a : Bool = cicFine (l .cic) in
+    let a : Bool = fine (thinnerOf l) in
     let b : Bool = Q.validInLine (l .fir) in
     let d : Bool = halfBandFine (l .«half_band») in
     let e : Bool = validInLine (l .resampler) in
@@ -108,16 +96,16 @@ line-lawful = lawful-as Good to-parts of-parts (lawful-viewed (tallied mostCuts 
 -- what the line makes of a whole list is what each section makes of the whole list of the section before
 pub line-all : (l : Line) → valid l ≡ true → (w : List ℤ) →
     all line 64 l w
-    ≡ all inLine 64 (l .resampler) (outs hbfStream (l .«half_band») (outs (each level) (tt {0}) (outs fir (l .fir) (outs (each (cut w16)) (tt {0}) (outs scaledDecimator (l .cic) w)))))
+    ≡ all inLine 64 (l .resampler) (outs hbfStream (l .«half_band») (outs (each level) (tt {0}) (outs fir (l .fir) (outs (each (cut w16)) (tt {0}) (outs either (thinnerOf l) w)))))
 line-all l v w =
     let g : Good1 (partsOf l) = to-parts l v in
-    let w2 : List ℤ = outs scaledDecimator (l .cic) w in
+    let w2 : List ℤ = outs either (thinnerOf l) w in
     let w3 : List ℤ = outs (each (cut w16)) (tt {0}) w2 in
     let w4 : List ℤ = outs fir (l .fir) w3 in
     let w5 : List Float = outs (each level) (tt {0}) w4 in
     all-viewed (tallied mostCuts cutsAt chain) countedOf ofCounted (λ p. refl) 64 (λ p. Good1 (p .0)) law0 l w g
     ∙ all-tallied mostCuts cutsAt chain 64 Good1 law1 (countedOf l) w g
-    ∙ all-before scaledDecimator (before (each (cut w16)) from3) 64 Good2 law2 (l .cic) (partsOf l .1) w (g .1)
+    ∙ all-before either (before (each (cut w16)) from3) 64 Good2 law2 (thinnerOf l) (partsOf l .1) w (g .1)
     ∙ all-before (each (cut w16)) from3 64 Good3 law3 (tt {0}) (partsOf l .1 .1) w2 (g .1 .1)
     ∙ all-before fir (before (each level) from4) 64 GoodLevel law-level (l .fir) (partsOf l .1 .1 .1) w3 (g .1 .1 .1)
     ∙ all-before (each level) from4 64 Good4 law4 (tt {0}) (l .«half_band», l .resampler) w4 (g .1 .1 .1 .1)

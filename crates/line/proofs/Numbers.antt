@@ -12,8 +12,9 @@ use lib.ListN.{length}
 use lib.Seq.{length-take-le}
 use borrow.Author.Tests.{le-ltb, eq-eqb}
 use Rattle.integer.specs.Gain.{gainBits, mostBits}
-use Rattle.integer.specs.CicDecimator as C
-use Rattle.integer.proofs.Within.{sound}
+use Rattle.nonrecursive.specs.EitherKind as E
+use Rattle.nonrecursive.specs.declared.thinning.Thinning.{Thinning}
+use Rattle.nonrecursive.proofs.EitherKind.{either-below, either-settings}
 use Rattle.q15.specs.FirDecimator as Q
 use Rattle.float.specs.PolyphaseResamp.{inLimits, isOn, validInLine}
 use Rattle.q15.specs.FirDecimator.{mostTaps, settingsNumberInLine}
@@ -21,7 +22,7 @@ use Rattle.q15.proofs.FirSteps.{valid-few, settings-valid}
 use Rattle.half_band.proofs.HeldOnes.{line-few}
 use Rattle.float.proofs.PolyphaseOutput.{limits-say}
 use Rattle.float.proofs.PolyphaseRange.{on-in-limits, on-step}
-use Rattle.line.specs.Line.{valid, cicFine, halfBandFine, cicNumber, depthNumber, resamplerNumber, numberAt, opened, openingOf, reset}
+use Rattle.line.specs.Line.{valid, thinnerOf, halfBandFine, depthNumber, resamplerNumber, numberAt, opened, openingOf, reset}
 use Rattle.line.specs.Together.{together, resamplerOf, dueAt, bitsAt, validAt}
 use Rattle.line.specs.Lent.{numbersIn, fixedIn, changingIn}
 use Rattle.line.specs.declared.gauge_line.Line.{Line}
@@ -30,30 +31,34 @@ use Rattle.line.specs.declared.sample.Numbers.{Numbers}
 use Rattle.line.proofs.Flags.{and-left, and-right, not-says}
 use Rattle.line.proofs.Lawful.{to-parts}
 
+-- row 15 of section 1, but for its gain bits
+abbrev validOf : Line → Bool
+validOf l = E.validAt (l .thinning) (l .cic .stages) (l .cic .r) (l .cic .«sample_counter»)
+
 pub counter-below : (l : Line) → valid l ≡ true → l .cic .«sample_counter» < l .cic .r
-unfolding cicFine
-counter-below l v = sound (l .cic .stages) (l .cic .r) (l .cic .«sample_counter») (and-left (C.valid (l .cic)) _ (to-parts l v .0)) .below
+unfolding E.fine
+counter-below l v = either-below (l .thinning) (l .cic .stages) (l .cic .r) (l .cic .«sample_counter») (and-left (validOf l) _ (to-parts l v .0))
 
 pub due-limits :
-    (f : Fixed) (s : Numbers) (integrators combs taps firDelay : List ℤ) (delays held : List Float) (counts : List ℕ) (delay prototype : List Float)
-    → valid (together f s integrators combs taps firDelay delays held counts delay prototype) ≡ true → dueAt f (s .mu) ≡ true → inLimits (f .phases) (f .taps) ≡ true
+    (k : Thinning) (f : Fixed) (s : Numbers) (integrators combs neighbours taps firDelay : List ℤ) (delays held : List Float) (counts : List ℕ) (delay prototype : List Float)
+    → valid (together k f s integrators combs neighbours taps firDelay delays held counts delay prototype) ≡ true → dueAt f (s .mu) ≡ true → inLimits (f .phases) (f .taps) ≡ true
 unfolding dueAt isOn
-due-limits f s integrators combs taps firDelay delays held counts delay prototype v d =
+due-limits k f s integrators combs neighbours taps firDelay delays held counts delay prototype v d =
     on-in-limits (resamplerOf f (s .mu) delay prototype) (and-left (not (eqb (f .phases) 0)) _ d)
-    (to-parts (together f s integrators combs taps firDelay delays held counts delay prototype) v .1 .1 .1 .1 .1)
+    (to-parts (together k f s integrators combs neighbours taps firDelay delays held counts delay prototype) v .1 .1 .1 .1 .1)
 
 -- the tests of a line held apart are those of the line
 pub valid-apart : (l : Line) → validAt (fixedIn (numbersIn l)) (changingIn (numbersIn l)) (l .«half_band» .counts) ≡ valid l
-unfolding validAt valid cicFine halfBandFine bitsAt validInLine
-valid-apart l = ap (λ (b : Bool). b && (Q.validInLine (l .fir) && (halfBandFine (l .«half_band») && validInLine (l .resampler)))) (go (C.valid (l .cic)))
+unfolding validAt valid E.fine halfBandFine bitsAt validInLine
+valid-apart l = ap (λ (b : Bool). b && (Q.validInLine (l .fir) && (halfBandFine (l .«half_band») && validInLine (l .resampler)))) (go (validOf l))
   where
     go : (v : Bool) → leb (cond v (gainBits (l .cic .stages) (l .cic .r)) 64) mostBits ≡ (v && leb (gainBits (l .cic .stages) (l .cic .r)) mostBits)
     go true = refl
     go false = refl
 
 pub bits-apart : (l : Line) → valid l ≡ true → fixedIn (numbersIn l) .bits ≡ gainBits (l .cic .stages) (l .cic .r)
-unfolding cicFine bitsAt
-bits-apart l v = ap (λ (b : Bool). cond b (gainBits (l .cic .stages) (l .cic .r)) 64) (and-left (C.valid (l .cic)) _ (to-parts l v .0))
+unfolding E.fine bitsAt
+bits-apart l v = ap (λ (b : Bool). cond b (gainBits (l .cic .stages) (l .cic .r)) 64) (and-left (validOf l) _ (to-parts l v .0))
 
 -- the taps and the prototype of a valid line lie in its arrays
 pub few-taps : (l : Line) → valid l ≡ true → l .fir .«tap_count» ≤ mostTaps
@@ -70,14 +75,8 @@ pub few-cells : (l : Line) → valid l ≡ true → l .resampler .phases * l .re
 few-cells l v = cells-by l v (l .resampler .phases) refl
 
 -- a valid line's own settings are none that an opening refuses, where its taps and its prototype lie in its arrays
-cic-fine : (l : Line) → valid l ≡ true → cicNumber (l .cic .stages) (l .cic .r) ≡ 0
-unfolding cicNumber cicFine
-cic-fine l v =
-    let d = l .cic in
-    let h = to-parts l v .0 in
-    let s = sound (d .stages) (d .r) (d .«sample_counter») (and-left (C.valid d) _ h) in
-    let b : leb (gainBits (d .stages) (d .r)) mostBits ≡ true = and-right (C.valid d) _ h in
-    rw (s .stages, s .factor, b)
+thinning-fine : (l : Line) → valid l ≡ true → E.settingsNumber (l .thinning) (l .cic .stages) (l .cic .r) ≡ 0
+thinning-fine l v = either-settings (thinnerOf l) (to-parts l v .0)
 
 fir-fine : (l : Line) → valid l ≡ true → settingsNumberInLine (l .fir .«tap_count») (l .fir .factor) ≡ 0
 fir-fine l v = settings-valid (l .fir .«tap_count») (l .fir .factor) (l .fir .wait) (to-parts l v .1 .1 .0)
@@ -103,7 +102,7 @@ reset-opens l v t p =
       v,
       length-take-le (l .fir .«tap_count») (l .fir .taps) t,
       length-take-le (l .resampler .phases * l .resampler .taps) (l .resampler .prototype) p,
-      cic-fine l v,
+      thinning-fine l v,
       fir-fine l v,
       half-band-fine l v,
       resampler-fine l v (l .resampler .phases) refl,

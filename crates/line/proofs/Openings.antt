@@ -1,11 +1,11 @@
 -- An opening that is not refused: its settings are in their limits, its line is valid, and what the line makes of any list are the outputs that 01 defines for it.
 use mathlib.Core.Path.{_≡_, refl, sym, ap, _∙_, subst, subst⁻¹}
 use mathlib.Core.Bool.{Bool, true, false, cond, _&&_, not, false≢true}
-use mathlib.Core.List.{List, [], map}
+use mathlib.Core.List.{List, map}
 use Prim.Native.Nat.{ℕ, zero, suc, _*_, _≤_}
 use native.Mathlib.Omega.{arith}
 use borrow.Author.Tests.{ltb-false, ne-eqb, eqb-true}
-use lib.Dec.{leb, ltb, eqb}
+use lib.Dec.{ltb, eqb}
 use lib.IntN.{ℤ}
 use lib.Ieee.{Float}
 use lib.ListN.{length}
@@ -14,12 +14,12 @@ use Rattle.theory.specs.Sections.{each, outs}
 use Rattle.theory.proofs.Sections.{outs-each}
 use Rattle.theory.proofs.Machines.{all}
 use Rattle.integer.specs.Limits.{stagesOk, factorOk}
-use Rattle.integer.specs.Gain.{gainBits, mostBits}
 use Rattle.integer.specs.Opening as CicOpening
-use Rattle.integer.specs.MovingSums.{scaledSums}
-use Rattle.integer.specs.CicDecimator.{scaledDecimator}
 use Rattle.integer.specs.CicDecimator as C
-use Rattle.integer.proofs.Streaming.{streams}
+use Rattle.nonrecursive.specs.EitherKind.{either}
+use Rattle.nonrecursive.specs.EitherKind as E
+use Rattle.nonrecursive.proofs.EitherKind.{either-made, either-opens}
+use Rattle.nonrecursive.proofs.EitherKind as EP
 use Rattle.q15.specs.Fixed.{cut}
 use Rattle.q15.specs.FirDecimator.{fir, firWhole, settingsNumberInLine}
 use Rattle.q15.specs.FirDecimator as Q
@@ -38,7 +38,7 @@ use Rattle.float.specs.Level.{level}
 use Rattle.refusal.specs.Rows.{outside}
 use Rattle.refusal.proofs.Limits.{first-none, not-outside}
 use Rattle.line.specs.Outputs.{Opening, levels, Resampled, Outputs}
-use Rattle.line.specs.Line.{line, cicFine, halfBandFine, valid, cicNumber, depthNumber, resamplerNumber, numberAt, openingNumberOf, resamplerFresh, fresh}
+use Rattle.line.specs.Line.{line, halfBandFine, valid, depthNumber, resamplerNumber, numberAt, openingNumberOf, resamplerFresh, fresh}
 use Rattle.line.specs.declared.gauge_line.Line.{Line}
 use Rattle.line.proofs.Flags.{and-both, not-is}
 use Rattle.line.proofs.Lawful.{line-all}
@@ -57,25 +57,23 @@ pub record On (o : Opening) : Type 0 where
 pub record Accepted (o : Opening) : Type 0 where
   pub stages : stagesOk (o .settings .stages) ≡ true
   pub factor : factorOk (o .settings .r) ≡ true
-  pub bits : leb (gainBits (o .settings .stages) (o .settings .r)) mostBits ≡ true
+  pub thinned : E.settingsNumber (o .settings .thinning) (o .settings .stages) (o .settings .r) ≡ 0
   pub filter : settingsNumberInLine (length (o .taps)) (o .settings .factor) ≡ 0
   pub depth : o .settings .depth ≤ 5
   pub resampler : (o .settings .phases ≡ 0 → ⊥) → On o
 
 pub accepted : (o : Opening) → openingNumberOf o ≡ 0 → Accepted o
-unfolding numberAt cicNumber depthNumber resamplerNumber
+unfolding numberAt depthNumber resamplerNumber
 accepted o e =
     let s = o .settings in
-    let p = first-none (cicNumber (s .stages) (s .r)) _ e in
+    let p = first-none (E.settingsNumber (s .thinning) (s .stages) (s .r)) _ e in
     let q = first-none (settingsNumberInLine (length (o .taps)) (s .factor)) _ (p .1) in
     let t = first-none (depthNumber (s .depth)) _ (q .1) in
-    let a = passed (stagesOk (s .stages)) _ 0 (p .0) in
-    let b = passed (factorOk (s .r)) _ 1 (a .1) in
-    let c = passed (leb (gainBits (s .stages) (s .r)) mostBits) 0 2 (b .1) in
+    let a = EP.accepted (s .thinning) (s .stages) (s .r) (p .0) in
     record {
-      stages = a .0;
-      factor = b .0;
-      bits = c .0;
+      stages = a .stages;
+      factor = a .factor;
+      thinned = p .0;
       filter = q .0;
       depth = ltb-false 5 (s .depth) (not-deep (ltb 5 (s .depth)) (t .0));
       resampler = λ n. on (rw (ne-eqb (s .phases) 0 n) at (t .1));
@@ -109,9 +107,9 @@ module _ (o : Opening) (ok : Accepted o) where
       rw (ne-eqb (o .settings .phases) 0 (some-phases n e)) (line-fresh (o .settings .straight) (o .settings .phases) (o .settings .taps) (o .prototype) (o .settings .step) (on .limits) (on .step))
 
   pub fresh-valid : valid (fresh o) ≡ true
-  unfolding valid fresh resamplerFresh cicFine halfBandFine
+  unfolding valid fresh resamplerFresh halfBandFine
   fresh-valid =
-      and-both _ _ (and-both _ _ (streams (o .settings .stages) (o .settings .r) (ok .stages) (ok .factor) .unrefused []) (ok .bits))
+      and-both _ _ (either-opens (o .settings .thinning) (o .settings .stages) (o .settings .r) (ok .thinned))
       (and-both _ _ (FirOpening.line-fresh-valid (o .taps) (o .settings .factor) (ok .filter))
       (and-both _ _ (not-is _ (line-fresh-not-refused (o .settings .depth) (ok .depth))) (resampler-valid (o .settings .phases) refl)))
 
@@ -128,11 +126,11 @@ module _ (o : Opening) (ok : Accepted o) where
           (becomes-all (o .settings .straight) (suc n) (o .settings .taps) (o .prototype) (subst (λ (k : ℕ). inLimits k (o .settings .taps) ≡ true) e (on .limits)) (on .long ∙ ap (λ (k : ℕ). k * o .settings .taps) e) (o .settings .step) (on .step) v))
 
   reaches : (w : List ℤ) →
-      outs hbfStream (streamFresh (o .settings .depth)) (outs (each level) (tt {0}) (outs fir (Q.freshInLine (o .taps) (o .settings .factor)) (outs (each (cut w16)) (tt {0}) (outs scaledDecimator (C.fresh (o .settings .stages) (o .settings .r)) w))))
+      outs hbfStream (streamFresh (o .settings .depth)) (outs (each level) (tt {0}) (outs fir (Q.freshInLine (o .taps) (o .settings .factor)) (outs (each (cut w16)) (tt {0}) (outs either (E.fresh (o .settings .thinning) (o .settings .stages) (o .settings .r)) w))))
       ≡ levels o w
   unfolding levels
   reaches w =
-      let sums = outs scaledDecimator (C.fresh (o .settings .stages) (o .settings .r)) w in
+      let sums = outs either (E.fresh (o .settings .thinning) (o .settings .stages) (o .settings .r)) w in
       let cuts = outs (each (cut w16)) (tt {0}) sums in
       let values = outs fir (Q.freshInLine (o .taps) (o .settings .factor)) cuts in
       fresh-whole (o .settings .depth) (ok .depth) (outs (each level) (tt {0}) values)
@@ -141,7 +139,7 @@ module _ (o : Opening) (ok : Accepted o) where
       ∙ ap (map level)
       (line-streamed (o .taps) (o .settings .factor) (ok .filter) cuts
       ∙ ap (firWhole (o .taps) (o .settings .factor))
-      (outs-each (cut w16) (tt {0}) sums ∙ ap (map (cut w16)) (streams (o .settings .stages) (o .settings .r) (ok .stages) (ok .factor) .scaled-made w))))
+      (outs-each (cut w16) (tt {0}) sums ∙ ap (map (cut w16)) (either-made (o .settings .thinning) (o .settings .stages) (o .settings .r) (ok .thinned) w))))
 
   pub makes : (w : List ℤ) → Outputs o w (all line 64 (fresh o) w)
   unfolding Outputs fresh resamplerFresh

@@ -19,10 +19,12 @@ use Rattle.line.specs.declared.sample.Fixed.{Fixed}
 use Rattle.line.specs.declared.sample.Numbers.{Numbers}
 
 -- the line of these numbers and arrays
-abbrev pub lineOf : LineNumbers → List ℤ → List ℤ → List ℤ → List ℤ → List Float → List Float → List ℕ → List Float → List Float → Line
-lineOf n integrators combs taps firDelay delays held counts delay prototype =
+abbrev pub lineOf : LineNumbers → List ℤ → List ℤ → List ℤ → List ℤ → List ℤ → List Float → List Float → List ℕ → List Float → List Float → Line
+lineOf n integrators combs neighbours taps firDelay delays held counts delay prototype =
     record {
+      thinning = n .thinning;
       cic = decimatorOf (n .stages) (n .r) integrators combs (n .«sample_counter»);
+      neighbours = neighbours;
       fir = firState taps (n .«tap_count») (n .factor) firDelay (n .wait);
       «half_band» = streamOf (n .depth) delays held counts;
       resampler = R.together (n .straight) (n .phases) (n .taps) (n .mu) (n .step) delay prototype;
@@ -46,6 +48,7 @@ numbersIn l =
       mu = l .resampler .mu;
       step = l .resampler .step;
       cuts = l .cuts;
+      thinning = l .thinning;
     }
 
 -- what a call answered, with the line that it left
@@ -61,7 +64,7 @@ fixedIn n =
     record {
       stages = n .stages;
       r = n .r;
-      bits = bitsAt (n .stages) (n .r) (n .«sample_counter»);
+      bits = bitsAt (n .thinning) (n .stages) (n .r) (n .«sample_counter»);
       «tap_count» = n .«tap_count»;
       factor = n .factor;
       depth = n .depth;
@@ -90,4 +93,5 @@ goneOn n s =
       mu = s .mu;
       step = n .step;
       cuts = s .cuts;
+      thinning = n .thinning;
     }

@@ -5,9 +5,9 @@ use mathlib.Core.Bool.{Bool, true, false, cond, _&&_, not}
 use mathlib.Core.List.{List, [], _∷_, _++_}
 use mathlib.Core.Option.{Option, none, some}
 use Prim.Native.Nat.{ℕ, zero, suc, _+_, _*_}
-use lib.Dec.{leb, ltb, eqb}
-use lib.ListN.{length, take, drop}
-use lib.IntN.{ℤ}
+use lib.Dec.{ltb, eqb}
+use lib.ListN.{length, take, drop, replicate}
+use lib.IntN.{ℤ, pos}
 use lib.Ieee.{Float}
 use mir.Syntax.{w16}
 use Rattle.theory.specs.Sections.{Section, each}
@@ -17,11 +17,11 @@ use Rattle.theory.specs.Feeds as F
 use Rattle.refusal.specs.Table.{numberOf}
 use Rattle.refusal.specs.Outcome.{Outcome, Opened, openingNumber, Moved, countsAnswer}
 use Rattle.refusal.specs.Rows.{firstOf}
-use Rattle.integer.specs.Limits.{stagesOk, factorOk}
-use Rattle.integer.specs.Gain.{gainBits, mostBits}
-use Rattle.integer.specs.CicDecimator.{scaledDecimator}
 use Rattle.integer.specs.CicDecimator as C
-use Rattle.integer.specs.declared.cic_decimator.CicDecimator.{CicDecimator}
+use Rattle.nonrecursive.specs.NonrecursiveDecimator.{mostNeighbours}
+use Rattle.nonrecursive.specs.EitherKind.{Thinner, either}
+use Rattle.nonrecursive.specs.EitherKind as E
+use Rattle.nonrecursive.specs.declared.thinning.Thinning.the-variants as thinning
 use Rattle.q15.specs.Fixed.{cut, cutOne}
 use Rattle.q15.specs.FirDecimator.{fir, firSumOut, settingsNumberInLine}
 use Rattle.q15.specs.FirDecimator as Q
@@ -44,17 +44,30 @@ use Rattle.line.specs.declared.gauge_line.LineOpened.{LineOpened}
 
 -- the sections' states, in their order; those that only map a value have none
 abbrev pub Parts : Type 0
-Parts = CicDecimator × (Unit {0} × (FirDecimator × (Unit {0} × (HbfStream × PolyphaseResampF32))))
+Parts = Thinner × (Unit {0} × (FirDecimator × (Unit {0} × (HbfStream × PolyphaseResampF32))))
+
+-- section 1's: which kind thins, and what both kinds hold
+abbrev pub thinnerOf : Line → Thinner
+thinnerOf l = record { kind = l .thinning; cic = l .cic; neighbours = l .neighbours }
 
 abbrev pub partsOf : Line → Parts
-partsOf l = (l .cic, (tt, (l .fir, (tt, (l .«half_band», l .resampler)))))
+partsOf l = (thinnerOf l, (tt, (l .fir, (tt, (l .«half_band», l .resampler)))))
 
 -- the same with the count of cut values
 abbrev pub countedOf : Line → Parts × ℕ
 countedOf l = (partsOf l, l .cuts)
 
 abbrev pub ofCounted : Parts × ℕ → Line
-ofCounted p = record { cic = p .0 .0; fir = p .0 .1 .1 .0; «half_band» = p .0 .1 .1 .1 .1 .0; resampler = p .0 .1 .1 .1 .1 .1; cuts = p .1 }
+ofCounted p =
+    record {
+      thinning = p .0 .0 .kind;
+      cic = p .0 .0 .cic;
+      neighbours = p .0 .0 .neighbours;
+      fir = p .0 .1 .1 .0;
+      «half_band» = p .0 .1 .1 .1 .1 .0;
+      resampler = p .0 .1 .1 .1 .1 .1;
+      cuts = p .1;
+    }
 
 -- "the next sample is taken through sections 1 to 5 (with the resampler off, a value that results is written)": the machine, from section k on
 abbrev pub from5 : Machine PolyphaseResampF32 Float Float
@@ -67,7 +80,7 @@ abbrev pub from3 : Machine (FirDecimator × (Unit {0} × (HbfStream × Polyphase
 from3 = before fir (before (each level) from4)
 
 abbrev pub chain : Machine Parts ℤ Float
-chain = before scaledDecimator (before (each (cut w16)) from3)
+chain = before either (before (each (cut w16)) from3)
 
 -- 02, §4: how many values are cut where a scaled sum reaches sections 2 and 3: the sum itself, and the FIR's, if it makes one
 abbrev pub sumCut : Option ℤ → ℕ
@@ -80,21 +93,18 @@ cutsFor s (some v) = cutOne w16 v + sumCut (firSumOut s (cut w16 v))
 
 -- and where a sample is taken
 abbrev pub cutsAt : Parts → ℤ → ℕ
-cutsAt p x = cutsFor (p .1 .1 .0) (scaledDecimator .out (p .0) x)
+cutsAt p x = cutsFor (p .1 .1 .0) (either .out (p .0) x)
 
 abbrev pub line : Machine Line ℤ Float
 line = viewed (tallied mostCuts cutsAt chain) countedOf ofCounted
 
 -- row 15 of the table, part by part: "settings that its opening refuses; `sample_counter` not below r; more than one held sample at one half-band stage; FIR wait 0
 -- or above both T and D; mu not in .. (line: 0..1+step); a part that is off is not checked"
-unfoldable pub cicFine : CicDecimator → Bool
-cicFine d = C.valid d && leb (gainBits (d .stages) (d .r)) mostBits
-
 unfoldable pub halfBandFine : HbfStream → Bool
 halfBandFine s = not (streamRefusedInLine (s .depth) (s .counts))
 
 unfoldable pub valid : Line → Bool
-valid l = cicFine (l .cic) && (Q.validInLine (l .fir) && (halfBandFine (l .«half_band») && validInLine (l .resampler)))
+valid l = E.fine (thinnerOf l) && (Q.validInLine (l .fir) && (halfBandFine (l .«half_band») && validInLine (l .resampler)))
 
 -- each case of LineStep in the words of section 6: "it took a sample, wrote one float sample, did both, or stopped", and its number
 abbrev pub eventOf : LineStep → F.Event Float
@@ -142,10 +152,6 @@ feedSpan l xs span =
 
 -- ---- openings
 
--- rows 1, 2 and 3
-unfoldable pub cicNumber : ℕ → ℕ → ℕ
-cicNumber N r = cond (stagesOk N) (cond (factorOk r) (cond (leb (gainBits N r) mostBits) 0 3) 2) 1
-
 -- row 11, "depth over 5"; 0 means off
 unfoldable pub depthNumber : ℕ → ℕ
 depthNumber depth = cond (ltb mostStages depth) 11 0
@@ -154,10 +160,10 @@ depthNumber depth = cond (ltb mostStages depth) 11 0
 unfoldable pub resamplerNumber : ℕ → ℕ → ℕ → Float → ℕ
 resamplerNumber P T cells step = cond (eqb P 0) 0 (cond (inLimits P T) (cond (eqb cells (P * T)) (cond (stepInLine step) 0 14) 13) 12)
 
--- in the table's order; 5 and 6 stand in the Q15 layer
+-- in the table's order; 1, 2, 23 and 3 stand beside the kinds of thinning, 5 and 6 in the Q15 layer
 unfoldable pub numberAt : Settings → ℕ → ℕ → ℕ
 numberAt s tapCount cells =
-    firstOf (cicNumber (s .stages) (s .r))
+    firstOf (E.settingsNumber (s .thinning) (s .stages) (s .r))
     (firstOf (settingsNumberInLine tapCount (s .factor)) (firstOf (depthNumber (s .depth)) (resamplerNumber (s .phases) (s .taps) cells (s .step))))
 
 abbrev pub openingNumberOf : Opening → ℕ
@@ -170,7 +176,9 @@ resamplerFresh s prototype = cond (eqb (s .phases) 0) R.zeros (R.fresh (s .strai
 unfoldable pub fresh : Opening → Line
 fresh o =
     record {
+      thinning = o .settings .thinning;
       cic = C.fresh (o .settings .stages) (o .settings .r);
+      neighbours = replicate mostNeighbours (pos 0);
       fir = Q.freshInLine (o .taps) (o .settings .factor);
       «half_band» = streamFresh (o .settings .depth);
       resampler = resamplerFresh (o .settings) (o .prototype);
@@ -179,7 +187,16 @@ fresh o =
 
 -- "a refused opening's state is all zeros"
 unfoldable pub zeros : Line
-zeros = record { cic = C.fresh 0 0; fir = Q.firZeros; «half_band» = streamFresh 0; resampler = R.zeros; cuts = 0 }
+zeros =
+    record {
+      thinning = thinning.Integrators;
+      cic = C.fresh 0 0;
+      neighbours = replicate mostNeighbours (pos 0);
+      fir = Q.firZeros;
+      «half_band» = streamFresh 0;
+      resampler = R.zeros;
+      cuts = 0;
+    }
 
 abbrev pub openedBy : ℕ → Opening → Line
 openedBy zero o = fresh o
@@ -205,6 +222,7 @@ openingOf l =
             taps = l .resampler .taps;
             straight = l .resampler .straight;
             step = l .resampler .step;
+            thinning = l .thinning;
           };
       taps = take (l .fir .«tap_count») (l .fir .taps);
       prototype = take (l .resampler .phases * l .resampler .taps) (l .resampler .prototype);

@@ -12,8 +12,9 @@ use Rattle.theory.specs.Machines.{Machine}
 use Rattle.theory.specs.Feeds as F
 use Rattle.integer.specs.Gain.{gainBits, mostBits}
 use Rattle.integer.specs.CicDecimator.{decimatorOf}
-use Rattle.integer.specs.CicDecimator as C
 use Rattle.integer.specs.declared.cic_decimator.CicDecimator.{CicDecimator}
+use Rattle.nonrecursive.specs.EitherKind as E
+use Rattle.nonrecursive.specs.declared.thinning.Thinning.{Thinning}
 use Rattle.q15.specs.FirDecimator.{firState, firValidInLine}
 use Rattle.q15.specs.declared.fir_decimator.FirDecimator.{FirDecimator}
 use Rattle.float.specs.F32.{one32}
@@ -48,10 +49,12 @@ abbrev pub resamplerOf : Fixed → Float → List Float → List Float → Polyp
 resamplerOf f mu delay prototype = R.together (f .straight) (f .phases) (f .taps) mu (f .step) delay prototype
 
 -- the whole
-abbrev pub together : Fixed → Numbers → List ℤ → List ℤ → List ℤ → List ℤ → List Float → List Float → List ℕ → List Float → List Float → Line
-together f s integrators combs taps firDelay delays held counts delay prototype =
+abbrev pub together : Thinning → Fixed → Numbers → List ℤ → List ℤ → List ℤ → List ℤ → List ℤ → List Float → List Float → List ℕ → List Float → List Float → Line
+together k f s integrators combs neighbours taps firDelay delays held counts delay prototype =
     record {
+      thinning = k;
       cic = cicOf f (s .«sample_counter») integrators combs;
+      neighbours = neighbours;
       fir = firOf f (s .wait) taps firDelay;
       «half_band» = halfBandOf f delays held counts;
       resampler = resamplerOf f (s .mu) delay prototype;
@@ -71,9 +74,10 @@ takenOf (taken.TookAndWrote y) = F.both y
 takenOf taken.Stopped = F.stopped
 
 -- a step: its event, and the line put together after it
-abbrev pub steppedAt : Fixed → F.Event Float → Numbers → List ℤ → List ℤ → List ℤ → List ℤ → List Float → List Float → List ℕ → List Float → List Float → F.Stepped Line Float
-steppedAt f event numbers integrators combs taps firDelay delays held counts delay prototype =
-    record { event = event; line = together f numbers integrators combs taps firDelay delays held counts delay prototype }
+abbrev pub steppedAt :
+    Thinning → Fixed → F.Event Float → Numbers → List ℤ → List ℤ → List ℤ → List ℤ → List ℤ → List Float → List Float → List ℕ → List Float → List Float → F.Stepped Line Float
+steppedAt k f event numbers integrators combs neighbours taps firDelay delays held counts delay prototype =
+    record { event = event; line = together k f numbers integrators combs neighbours taps firDelay delays held counts delay prototype }
 
 -- "An output is due when the resampler is on and mu < 1."
 unfoldable pub dueAt : Fixed → Float → Bool
@@ -88,8 +92,8 @@ abbrev pub counted : Numbers → ℕ → Numbers
 counted s k = record { «sample_counter» = s .«sample_counter» + k; wait = s .wait; mu = s .mu; cuts = s .cuts }
 
 -- row 15 of the line held apart: the gain bits of a valid decimator, 64 of another
-unfoldable pub bitsAt : ℕ → ℕ → ℕ → ℕ
-bitsAt N r counter = cond (C.validAt N r counter) (gainBits N r) 64
+unfoldable pub bitsAt : Thinning → ℕ → ℕ → ℕ → ℕ
+bitsAt k N r counter = cond (E.validAt k N r counter) (gainBits N r) 64
 
 unfoldable pub validAt : Fixed → Numbers → List ℕ → Bool
 validAt f s counts =

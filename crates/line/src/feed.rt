@@ -7,8 +7,10 @@ ghost use lib.IntN.{pos};
 ghost use lib.ListN.{length, take, drop};
 ghost use Rattle.integer.specs.Stages.{ran};
 ghost use Rattle.integer.specs.Gain.{gainBits};
+ghost use Rattle.nonrecursive.specs.declared.thinning.Thinning.the-variants as kind;
 ghost use Rattle.line.specs.Line as L;
 ghost use Rattle.line.specs.Together as T;
+use crate::neighbour_feed::feed_neighbours;
 use crate::sample::Fixed;
 use crate::sample::Numbers;
 use crate::step::Taken;
@@ -20,6 +22,8 @@ use half_band::DEC_CASCADE_DELAYS;
 use half_band::MOST_STAGES;
 use integer::limits::MAX_STAGES;
 use integer::stages::run;
+use nonrecursive::Thinning;
+use nonrecursive::nonrecursive_decimator::MAX_NEIGHBOURS;
 use q15::MOST_TAPS;
 
 // How far a feed came.
@@ -59,12 +63,13 @@ fn at_once(
     m
 }
 
-// Steps until stopped.
-pub(crate) fn feed_on(
+// Steps until stopped, of a line of integrators.
+fn feed_on(
     f: Fixed,
     s: Numbers,
     integrators: &mut [i32; MAX_STAGES],
     combs: &mut [i32; MAX_STAGES],
+    neighbours: &mut [i32; MAX_NEIGHBOURS],
     taps: &[i16; MOST_TAPS],
     fir_delay: &mut [i16; MOST_TAPS],
     delays: &mut [f32; DEC_CASCADE_DELAYS],
@@ -76,12 +81,12 @@ pub(crate) fn feed_on(
     out: &mut [f32],
 ) -> Ran
     requires { ⌜ (
-        let before = T.together f s (now integrators) (now combs) (now taps) (now «fir_delay») (now delays) (now held) (now counts) (now delay) (now prototype) in
+        let before = T.together kind.Integrators f s (now integrators) (now combs) (now neighbours) (now taps) (now «fir_delay») (now delays) (now held) (now counts) (now delay) (now prototype) in
         (f .bits ≡ gainBits (f .stages) (f .r)) × (L.valid before ≡ true)) ⌝ }
     ensures { λ r. ⌜ (
-        let before = T.together f s (now (integrators .entry)) (now (combs .entry)) (now (taps .entry)) (now («fir_delay» .entry))
+        let before = T.together kind.Integrators f s (now (integrators .entry)) (now (combs .entry)) (now (neighbours .entry)) (now (taps .entry)) (now («fir_delay» .entry))
         (now (delays .entry)) (now (held .entry)) (now (counts .entry)) (now (delay .entry)) (now (prototype .entry)) in
-        let after = T.together f (r .numbers) (now (integrators .exit)) (now (combs .exit)) (now (taps .entry)) (now («fir_delay» .exit))
+        let after = T.together kind.Integrators f (r .numbers) (now (integrators .exit)) (now (combs .exit)) (now (neighbours .exit)) (now (taps .entry)) (now («fir_delay» .exit))
         (now (delays .exit)) (now (held .exit)) (now (counts .exit)) (now (delay .exit)) (now (prototype .entry)) in
         T.RanTo before (now (samples .entry)) (now (out .entry)) (now (out .exit)) (r .taken) (r .written) after) ⌝ }
 {
@@ -106,10 +111,12 @@ pub(crate) fn feed_on(
         n.sample_counter = n.sample_counter + m;
         taken += m;
         let on = take_on(
+            false,
             f,
             n,
             integrators,
             combs,
+            neighbours,
             taps,
             fir_delay,
             delays,
@@ -140,5 +147,69 @@ pub(crate) fn feed_on(
                 };
             }
         }
+    }
+}
+
+// Steps until stopped, by the kind of the line.
+pub(crate) fn feed_by(
+    thinning: Thinning,
+    f: Fixed,
+    s: Numbers,
+    integrators: &mut [i32; MAX_STAGES],
+    combs: &mut [i32; MAX_STAGES],
+    neighbours: &mut [i32; MAX_NEIGHBOURS],
+    taps: &[i16; MOST_TAPS],
+    fir_delay: &mut [i16; MOST_TAPS],
+    delays: &mut [f32; DEC_CASCADE_DELAYS],
+    held: &mut [f32; MOST_STAGES],
+    counts: &mut [usize; MOST_STAGES],
+    delay: &mut [f32; MOST_PHASE_TAPS],
+    prototype: &[f32; MOST_CELLS],
+    samples: &[i32],
+    out: &mut [f32],
+) -> Ran
+    requires { ⌜ (
+        let before = T.together thinning f s (now integrators) (now combs) (now neighbours) (now taps) (now «fir_delay») (now delays) (now held) (now counts) (now delay) (now prototype) in
+        (f .bits ≡ gainBits (f .stages) (f .r)) × (L.valid before ≡ true)) ⌝ }
+    ensures { λ r. ⌜ (
+        let before = T.together thinning f s (now (integrators .entry)) (now (combs .entry)) (now (neighbours .entry)) (now (taps .entry)) (now («fir_delay» .entry))
+        (now (delays .entry)) (now (held .entry)) (now (counts .entry)) (now (delay .entry)) (now (prototype .entry)) in
+        let after = T.together thinning f (r .numbers) (now (integrators .exit)) (now (combs .exit)) (now (neighbours .exit)) (now (taps .entry)) (now («fir_delay» .exit))
+        (now (delays .exit)) (now (held .exit)) (now (counts .exit)) (now (delay .exit)) (now (prototype .entry)) in
+        T.RanTo before (now (samples .entry)) (now (out .entry)) (now (out .exit)) (r .taken) (r .written) after) ⌝ }
+{
+    match thinning {
+        Thinning::Integrators => feed_on(
+            f,
+            s,
+            integrators,
+            combs,
+            neighbours,
+            taps,
+            fir_delay,
+            delays,
+            held,
+            counts,
+            delay,
+            prototype,
+            samples,
+            out,
+        ),
+        Thinning::Neighbours => feed_neighbours(
+            f,
+            s,
+            integrators,
+            combs,
+            neighbours,
+            taps,
+            fir_delay,
+            delays,
+            held,
+            counts,
+            delay,
+            prototype,
+            samples,
+            out,
+        ),
     }
 }

@@ -24,15 +24,20 @@ use half_band::HbfStream;
 use half_band::MOST_STAGES;
 use integer::CicDecimator;
 use integer::limits::MAX_STAGES;
+use nonrecursive::Thinning;
+use nonrecursive::nonrecursive_decimator::MAX_NEIGHBOURS;
 use q15::FirDecimator;
 use q15::MOST_TAPS;
 use refusal::Counts;
 use refusal::Opening;
 use refusal::Refusal;
 
-// The parts of a line, each as its layer has it, and how many values were cut to 16 bits. A part that is off is zeros, settings too.
+// The parts of a line, each as its layer has it, and how many values were cut to 16 bits. A part that is off is zeros, settings too. `thinning` says which of two
+// parts thins: the integrators and combs of `cic`, or the neighbours. The numbers of `cic` are those of either: its `sample_counter` is the neighbours' place.
 pub struct Line {
+    pub thinning: Thinning,
     pub cic: CicDecimator,
+    pub neighbours: [i32; MAX_NEIGHBOURS],
     pub fir: FirDecimator,
     pub half_band: HbfStream,
     pub resampler: PolyphaseResampF32,
@@ -60,13 +65,17 @@ pub struct LineFed {
 pub fn zeros() -> Line
     ensures { λ l. ⌜ l ≡ L.zeros ⌝ }
 {
+    let thinning = Thinning::Integrators;
     let cic = CicDecimator::new(0, 0).state;
+    let neighbours = [0i32; MAX_NEIGHBOURS];
     let none = [0i16; 0];
     let fir = FirDecimator::new(&none, 0).state;
     let half_band = HbfStream::new(0).state;
     let resampler = PolyphaseResampF32::zeros();
     Line {
+        thinning,
         cic,
+        neighbours,
         fir,
         half_band,
         resampler,
@@ -88,12 +97,16 @@ fn fresh(s: Settings, taps: &[i16], prototype: &[f32]) -> Line
     requires { ⌜ L.numberAt s (length (now taps)) (length (now prototype)) ≡ 0 ⌝ }
     ensures { λ l. ⌜ l ≡ L.fresh (record { settings = s; taps = now (taps .entry); prototype = now (prototype .entry) }) ⌝ }
 {
+    let thinning = s.thinning;
     let cic = CicDecimator::new(s.stages, s.r).state;
+    let neighbours = [0i32; MAX_NEIGHBOURS];
     let fir = FirDecimator::new(taps, s.factor).state;
     let half_band = HbfStream::new(s.depth).state;
     let resampler = resampler_of(s, prototype);
     Line {
+        thinning,
         cic,
+        neighbours,
         fir,
         half_band,
         resampler,
@@ -113,6 +126,7 @@ fn numbers_in(l: Line) -> LineNumbers
     let fir = l.fir;
     let half_band = l.half_band;
     let resampler = l.resampler;
+    let thinning = l.thinning;
     LineNumbers {
         stages: cic.stages,
         r: cic.r,
@@ -127,6 +141,7 @@ fn numbers_in(l: Line) -> LineNumbers
         mu: resampler.mu,
         step: resampler.step,
         cuts: l.cuts,
+        thinning,
     }
 }
 
@@ -147,6 +162,7 @@ fn assembled(
     n: LineNumbers,
     integrators: [i32; MAX_STAGES],
     combs: [i32; MAX_STAGES],
+    neighbours: [i32; MAX_NEIGHBOURS],
     taps: [i16; MOST_TAPS],
     fir_delay: [i16; MOST_TAPS],
     delays: [f32; DEC_CASCADE_DELAYS],
@@ -155,8 +171,9 @@ fn assembled(
     delay: [f32; MOST_PHASE_TAPS],
     prototype: [f32; MOST_CELLS],
 ) -> Line
-    ensures { λ l. ⌜ l ≡ N.lineOf n integrators combs taps «fir_delay» delays held counts delay prototype ⌝ }
+    ensures { λ l. ⌜ l ≡ N.lineOf n integrators combs neighbours taps «fir_delay» delays held counts delay prototype ⌝ }
 {
+    let thinning = n.thinning;
     let cic = CicDecimator {
         stages: n.stages,
         r: n.r,
@@ -187,7 +204,9 @@ fn assembled(
         prototype,
     };
     Line {
+        thinning,
         cic,
+        neighbours,
         fir,
         half_band,
         resampler,
@@ -224,6 +243,7 @@ impl Line {
         let resampler = self.resampler;
         let mut integrators = cic.integrator_state;
         let mut combs = cic.comb_state;
+        let mut neighbours = self.neighbours;
         let taps = fir.taps;
         let mut fir_delay = fir.delay;
         let mut delays = half_band.delays;
@@ -235,6 +255,7 @@ impl Line {
             n,
             &mut integrators,
             &mut combs,
+            &mut neighbours,
             &taps,
             &mut fir_delay,
             &mut delays,
@@ -251,6 +272,7 @@ impl Line {
             numbers,
             integrators,
             combs,
+            neighbours,
             taps,
             fir_delay,
             delays,
@@ -277,6 +299,7 @@ impl Line {
         let resampler = self.resampler;
         let mut integrators = cic.integrator_state;
         let mut combs = cic.comb_state;
+        let mut neighbours = self.neighbours;
         let taps = fir.taps;
         let mut fir_delay = fir.delay;
         let mut delays = half_band.delays;
@@ -288,6 +311,7 @@ impl Line {
             n,
             &mut integrators,
             &mut combs,
+            &mut neighbours,
             &taps,
             &mut fir_delay,
             &mut delays,
@@ -303,6 +327,7 @@ impl Line {
             numbers,
             integrators,
             combs,
+            neighbours,
             taps,
             fir_delay,
             delays,
@@ -327,6 +352,7 @@ impl Line {
                 line: self,
             };
         }
+        let thinning = n.thinning;
         let settings = Settings {
             stages: n.stages,
             r: n.r,
@@ -336,6 +362,7 @@ impl Line {
             taps: n.taps,
             straight: n.straight,
             step: n.step,
+            thinning,
         };
         let fir = self.fir;
         let resampler = self.resampler;

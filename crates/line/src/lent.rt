@@ -6,7 +6,7 @@ ghost use Rattle.line.specs.Line as L;
 ghost use Rattle.line.specs.Together as T;
 ghost use Rattle.line.specs.Lent as N;
 ghost use Rattle.line.specs.Demand3.{Demand3};
-use crate::feed::feed_on;
+use crate::feed::feed_by;
 use crate::sample::Fixed;
 use crate::sample::Numbers;
 use crate::step::Did;
@@ -18,6 +18,8 @@ use float::polyphase_resamp::MOST_TAPS as MOST_PHASE_TAPS;
 use half_band::DEC_CASCADE_DELAYS;
 use half_band::MOST_STAGES;
 use integer::limits::MAX_STAGES;
+use nonrecursive::Thinning;
+use nonrecursive::nonrecursive_decimator::MAX_NEIGHBOURS;
 use q15::MOST_TAPS;
 use refusal::Counts;
 use refusal::Refusal;
@@ -37,6 +39,7 @@ pub struct LineNumbers {
     pub mu: f32,
     pub step: f32,
     pub cuts: u32,
+    pub thinning: Thinning,
 }
 
 // What a step did: it took a sample, wrote one float sample, did both, stopped, or was refused.
@@ -63,10 +66,11 @@ pub struct LentFed {
 pub(crate) fn fixed(n: LineNumbers) -> Fixed
     ensures { λ f. ⌜ f ≡ N.fixedIn n ⌝ }
 {
+    let thinning = n.thinning;
     Fixed {
         stages: n.stages,
         r: n.r,
-        bits: bits_at(n.stages, n.r, n.sample_counter),
+        bits: bits_at(thinning, n.stages, n.r, n.sample_counter),
         tap_count: n.tap_count,
         factor: n.factor,
         depth: n.depth,
@@ -91,6 +95,7 @@ pub(crate) fn changing(n: LineNumbers) -> Numbers
 fn gone_on(n: LineNumbers, s: Numbers) -> LineNumbers
     ensures { λ m. ⌜ m ≡ N.goneOn n s ⌝ }
 {
+    let thinning = n.thinning;
     LineNumbers {
         stages: n.stages,
         r: n.r,
@@ -105,6 +110,7 @@ fn gone_on(n: LineNumbers, s: Numbers) -> LineNumbers
         mu: s.mu,
         step: n.step,
         cuts: s.cuts,
+        thinning,
     }
 }
 
@@ -124,6 +130,7 @@ pub fn step_lent(
     n: LineNumbers,
     integrators: &mut [i32; MAX_STAGES],
     combs: &mut [i32; MAX_STAGES],
+    neighbours: &mut [i32; MAX_NEIGHBOURS],
     taps: &[i16; MOST_TAPS],
     fir_delay: &mut [i16; MOST_TAPS],
     delays: &mut [f32; DEC_CASCADE_DELAYS],
@@ -136,9 +143,9 @@ pub fn step_lent(
     place: bool,
 ) -> LentStepped
     ensures answer { λ r. ⌜ (
-        let before = N.lineOf n (now (integrators .entry)) (now (combs .entry)) (now (taps .entry)) (now («fir_delay» .entry)) (now (delays .entry))
+        let before = N.lineOf n (now (integrators .entry)) (now (combs .entry)) (now (neighbours .entry)) (now (taps .entry)) (now («fir_delay» .entry)) (now (delays .entry))
         (now (held .entry)) (now (counts .entry)) (now (delay .entry)) (now (prototype .entry)) in
-        let after = N.lineOf (r .numbers) (now (integrators .exit)) (now (combs .exit)) (now (taps .entry)) (now («fir_delay» .exit))
+        let after = N.lineOf (r .numbers) (now (integrators .exit)) (now (combs .exit)) (now (neighbours .exit)) (now (taps .entry)) (now («fir_delay» .exit))
         (now (delays .exit)) (now (held .exit)) (now (counts .exit)) (now (delay .exit)) (now (prototype .entry)) in
         N.toldStep r after ≡ L.stepOutcome before place (headOf (drop at (now (samples .entry))))) ⌝ }
 {
@@ -150,11 +157,14 @@ pub fn step_lent(
             numbers: n,
         };
     }
+    let thinning = n.thinning;
     let on = step_on(
+        thinning,
         f,
         s,
         integrators,
         combs,
+        neighbours,
         taps,
         fir_delay,
         delays,
@@ -180,6 +190,7 @@ pub fn feed_lent(
     n: LineNumbers,
     integrators: &mut [i32; MAX_STAGES],
     combs: &mut [i32; MAX_STAGES],
+    neighbours: &mut [i32; MAX_NEIGHBOURS],
     taps: &[i16; MOST_TAPS],
     fir_delay: &mut [i16; MOST_TAPS],
     delays: &mut [f32; DEC_CASCADE_DELAYS],
@@ -191,19 +202,19 @@ pub fn feed_lent(
     out: &mut [f32],
 ) -> LentFed
     ensures answer { λ r. ⌜ (
-        let before = N.lineOf n (now (integrators .entry)) (now (combs .entry)) (now (taps .entry)) (now («fir_delay» .entry)) (now (delays .entry))
+        let before = N.lineOf n (now (integrators .entry)) (now (combs .entry)) (now (neighbours .entry)) (now (taps .entry)) (now («fir_delay» .entry)) (now (delays .entry))
         (now (held .entry)) (now (counts .entry)) (now (delay .entry)) (now (prototype .entry)) in
-        let after = N.lineOf (r .numbers) (now (integrators .exit)) (now (combs .exit)) (now (taps .entry)) (now («fir_delay» .exit))
+        let after = N.lineOf (r .numbers) (now (integrators .exit)) (now (combs .exit)) (now (neighbours .exit)) (now (taps .entry)) (now («fir_delay» .exit))
         (now (delays .exit)) (now (held .exit)) (now (counts .exit)) (now (delay .exit)) (now (prototype .entry)) in
         N.toldFeed r after ≡ L.feedOutcome before (now (samples .entry)) (length (now (out .entry)))) ⌝ }
     ensures span { λ r. ⌜ (
-        let before = N.lineOf n (now (integrators .entry)) (now (combs .entry)) (now (taps .entry)) (now («fir_delay» .entry)) (now (delays .entry))
+        let before = N.lineOf n (now (integrators .entry)) (now (combs .entry)) (now (neighbours .entry)) (now (taps .entry)) (now («fir_delay» .entry)) (now (delays .entry))
         (now (held .entry)) (now (counts .entry)) (now (delay .entry)) (now (prototype .entry)) in
         now (out .exit) ≡ L.feedSpan before (now (samples .entry)) (now (out .entry))) ⌝ }
     ensures demand3 { λ r. ⌜ (
-        let before = N.lineOf n (now (integrators .entry)) (now (combs .entry)) (now (taps .entry)) (now («fir_delay» .entry)) (now (delays .entry))
+        let before = N.lineOf n (now (integrators .entry)) (now (combs .entry)) (now (neighbours .entry)) (now (taps .entry)) (now («fir_delay» .entry)) (now (delays .entry))
         (now (held .entry)) (now (counts .entry)) (now (delay .entry)) (now (prototype .entry)) in
-        let after = N.lineOf (r .numbers) (now (integrators .exit)) (now (combs .exit)) (now (taps .entry)) (now («fir_delay» .exit))
+        let after = N.lineOf (r .numbers) (now (integrators .exit)) (now (combs .exit)) (now (neighbours .exit)) (now (taps .entry)) (now («fir_delay» .exit))
         (now (delays .exit)) (now (held .exit)) (now (counts .exit)) (now (delay .exit)) (now (prototype .entry)) in
         Demand3 before (now (samples .entry)) (now (out .entry)) (now (out .exit)) (N.toldFeed r after)) ⌝ }
 {
@@ -215,11 +226,14 @@ pub fn feed_lent(
             numbers: n,
         };
     }
-    let ran = feed_on(
+    let thinning = n.thinning;
+    let ran = feed_by(
+        thinning,
         f,
         s,
         integrators,
         combs,
+        neighbours,
         taps,
         fir_delay,
         delays,

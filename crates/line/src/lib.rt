@@ -2,6 +2,7 @@
 mod feed;
 pub mod gauge_line;
 pub mod lent;
+mod neighbour_feed;
 pub mod opening;
 mod pieces;
 mod sample;

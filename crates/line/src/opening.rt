@@ -2,6 +2,7 @@
 ghost use mathlib.Core.Path.{_≡_};
 ghost use Rattle.refusal.specs.Outcome.{openingNumber};
 ghost use Rattle.refusal.specs.Rows.{firstOf};
+ghost use Rattle.nonrecursive.specs.EitherKind.{settingsNumber};
 ghost use Rattle.line.specs.Line as L;
 use crate::settings::Settings;
 use float::polyphase_resamp::in_limits;
@@ -11,6 +12,8 @@ use integer::gain::bits_of;
 use integer::gain::gain_of;
 use integer::limits::factor_ok;
 use integer::limits::stages_ok;
+use nonrecursive::Thinning;
+use nonrecursive::thinning::factor_for;
 use q15::fir_decimator::settings_answer_in_line;
 use refusal::Opening;
 use refusal::Refusal;
@@ -18,14 +21,17 @@ use refusal::Refusal;
 // 01, section 1: "for g up to 31".
 pub const MAX_BITS: u32 = 31;
 
-fn cic_answer(stages: usize, r: usize) -> Opening
-    ensures { λ a. ⌜ openingNumber a ≡ L.cicNumber stages r ⌝ }
+fn thinning_answer(thinning: Thinning, stages: usize, r: usize) -> Opening
+    ensures { λ a. ⌜ openingNumber a ≡ settingsNumber thinning stages r ⌝ }
 {
     if !stages_ok(stages) {
         return Opening::Refused(Refusal::Stages);
     }
     if !factor_ok(r) {
         return Opening::Refused(Refusal::Factor);
+    }
+    if !factor_for(thinning, r) {
+        return Opening::Refused(Refusal::PowerOfTwo);
     }
     let bits = bits_of(gain_of(stages, r));
     if MAX_BITS < bits {
@@ -74,11 +80,12 @@ fn first(a: Opening, b: Opening) -> Opening
 pub fn answer(s: Settings, tap_count: usize, cells: usize) -> Opening
     ensures { λ a. ⌜ openingNumber a ≡ L.numberAt s «tap_count» cells ⌝ }
 {
-    let cic = cic_answer(s.stages, s.r);
+    let thinning = s.thinning;
+    let thinned = thinning_answer(thinning, s.stages, s.r);
     let fir = settings_answer_in_line(tap_count, s.factor);
     let half_band = depth_answer(s.depth);
     let resampler = resampler_answer(s.phases, s.taps, cells, s.step);
     let behind = first(half_band, resampler);
     let after = first(fir, behind);
-    first(cic, after)
+    first(thinned, after)
 }

@@ -6,6 +6,7 @@ ghost use Prim.Native.Nat.{_+_};
 ghost use lib.Ieee.{Float};
 ghost use Rattle.theory.specs.Tally.{heldSum};
 ghost use Rattle.integer.specs.Gain.{gainBits};
+ghost use Rattle.nonrecursive.specs.EitherKind as E;
 ghost use Rattle.q15.specs.FirDecimator.{firSumOut, cutIn};
 ghost use Rattle.half_band.specs.HbfStream.{streamOf, hbfStream, valueOf};
 ghost use Rattle.line.specs.Outputs.{mostCuts};
@@ -19,9 +20,10 @@ use half_band::MOST_STAGES;
 use half_band::hbf_stream::HbfOut;
 use half_band::hbf_stream::hbf_stream_at;
 use integer::cic_decimator::CicSum;
-use integer::cic_decimator::sample_at;
 use integer::gain::scaled;
 use integer::limits::MAX_STAGES;
+use nonrecursive::nonrecursive_decimator::MAX_NEIGHBOURS;
+use nonrecursive::thinning::thin_at;
 use q15::FirMade;
 use q15::MOST_TAPS;
 use q15::Q15;
@@ -201,12 +203,14 @@ fn counted(cuts: u32, scaled: bool, filtered: bool) -> u32
     cuts + more
 }
 
-// A sample into the CIC decimator, and what it makes, scaled and cut, into the FIR.
+// A sample into the decimator of this kind, and what it makes, scaled and cut, into the FIR.
 pub(crate) fn sample_in(
+    by_neighbours: bool,
     f: Fixed,
     s: Numbers,
     integrators: &mut [i32; MAX_STAGES],
     combs: &mut [i32; MAX_STAGES],
+    neighbours: &mut [i32; MAX_NEIGHBOURS],
     taps: &[i16; MOST_TAPS],
     fir_delay: &mut [i16; MOST_TAPS],
     delays: &mut [f32; DEC_CASCADE_DELAYS],
@@ -217,13 +221,22 @@ pub(crate) fn sample_in(
 ) -> Sampled
     requires { ⌜ f .bits ≡ gainBits (f .stages) (f .r) ⌝ }
     ensures { λ r. ⌜ ((h : List Float) →
-        let before = T.together f s (now (integrators .entry)) (now (combs .entry)) (now (taps .entry)) (now («fir_delay» .entry))
+        let before = T.together (E.kindOf «by_neighbours») f s (now (integrators .entry)) (now (combs .entry)) (now (neighbours .entry)) (now (taps .entry)) (now («fir_delay» .entry))
         (now (delays .entry)) (now (held .entry)) (now (counts .entry)) (now (delay .entry)) h in
-        let after = T.together f (r .numbers) (now (integrators .exit)) (now (combs .exit)) (now (taps .entry)) (now («fir_delay» .exit))
+        let after = T.together (E.kindOf «by_neighbours») f (r .numbers) (now (integrators .exit)) (now (combs .exit)) (now (neighbours .exit)) (now (taps .entry)) (now («fir_delay» .exit))
         (now (delays .exit)) (now (held .exit)) (now (counts .exit)) (now (delay .exit)) h in
         T.Takes L.line before x (valueOf (r .out)) after) ⌝ }
 {
-    let at = sample_at(f.stages, f.r, s.sample_counter, integrators, combs, x);
+    let at = thin_at(
+        by_neighbours,
+        f.stages,
+        f.r,
+        s.sample_counter,
+        integrators,
+        combs,
+        neighbours,
+        x,
+    );
     let made = at.sum;
     match made {
         CicSum::Nothing => Sampled {

@@ -6,6 +6,7 @@ ghost use lib.ListN.{drop};
 ghost use lib.Ieee.{Float};
 ghost use Rattle.theory.specs.Feeds.{step, headOf, taking};
 ghost use Rattle.integer.specs.Gain.{gainBits};
+ghost use Rattle.nonrecursive.specs.EitherKind as E;
 ghost use Rattle.half_band.specs.HbfStream.{valueOf};
 ghost use Rattle.float.specs.PolyphaseResamp.{inLimits};
 ghost use Rattle.line.specs.Line as L;
@@ -20,6 +21,8 @@ use half_band::DEC_CASCADE_DELAYS;
 use half_band::MOST_STAGES;
 use half_band::hbf_stream::HbfOut;
 use integer::limits::MAX_STAGES;
+use nonrecursive::Thinning;
+use nonrecursive::nonrecursive_decimator::MAX_NEIGHBOURS;
 use q15::MOST_TAPS;
 
 // What a step of a valid line did.
@@ -79,10 +82,12 @@ fn step_of(step: Taken) -> Did
 
 // A step where no output is due: a full span stops it, else the next sample is taken, else it stops.
 pub(crate) fn take_on(
+    by_neighbours: bool,
     f: Fixed,
     s: Numbers,
     integrators: &mut [i32; MAX_STAGES],
     combs: &mut [i32; MAX_STAGES],
+    neighbours: &mut [i32; MAX_NEIGHBOURS],
     taps: &[i16; MOST_TAPS],
     fir_delay: &mut [i16; MOST_TAPS],
     delays: &mut [f32; DEC_CASCADE_DELAYS],
@@ -95,9 +100,9 @@ pub(crate) fn take_on(
 ) -> NumberTaken
     requires { ⌜ (f .bits ≡ gainBits (f .stages) (f .r)) × (place ≡ true → T.dueAt f (s .mu) ≡ false) ⌝ }
     ensures steps { λ r. ⌜ ((h : List Float) →
-        let before = T.together f s (now (integrators .entry)) (now (combs .entry)) (now (taps .entry)) (now («fir_delay» .entry))
+        let before = T.together (E.kindOf «by_neighbours») f s (now (integrators .entry)) (now (combs .entry)) (now (neighbours .entry)) (now (taps .entry)) (now («fir_delay» .entry))
         (now (delays .entry)) (now (held .entry)) (now (counts .entry)) (now (delay .entry)) h in
-        let stepped = T.steppedAt f (T.takenOf (r .step)) (r .numbers) (now (integrators .exit)) (now (combs .exit)) (now (taps .entry))
+        let stepped = T.steppedAt (E.kindOf «by_neighbours») f (T.takenOf (r .step)) (r .numbers) (now (integrators .exit)) (now (combs .exit)) (now (neighbours .exit)) (now (taps .entry))
         (now («fir_delay» .exit)) (now (delays .exit)) (now (held .exit)) (now (counts .exit)) (now (delay .exit)) h in
         stepped ≡ step L.line place before (headOf (drop at (now (samples .entry))))) ⌝ }
 {
@@ -115,10 +120,12 @@ pub(crate) fn take_on(
     }
     let x = samples[at];
     let on = sample_in(
+        by_neighbours,
         f,
         s,
         integrators,
         combs,
+        neighbours,
         taps,
         fir_delay,
         delays,
@@ -135,12 +142,78 @@ pub(crate) fn take_on(
     }
 }
 
-// One step, the numbers by value and the arrays lent.
-pub(crate) fn step_on(
+// The same, by the kind of a line: each of the two calls has a constant.
+fn take_by(
+    thinning: Thinning,
     f: Fixed,
     s: Numbers,
     integrators: &mut [i32; MAX_STAGES],
     combs: &mut [i32; MAX_STAGES],
+    neighbours: &mut [i32; MAX_NEIGHBOURS],
+    taps: &[i16; MOST_TAPS],
+    fir_delay: &mut [i16; MOST_TAPS],
+    delays: &mut [f32; DEC_CASCADE_DELAYS],
+    held: &mut [f32; MOST_STAGES],
+    counts: &mut [usize; MOST_STAGES],
+    delay: &mut [f32; MOST_PHASE_TAPS],
+    samples: &[i32],
+    at: usize,
+    place: bool,
+) -> NumberTaken
+    requires { ⌜ (f .bits ≡ gainBits (f .stages) (f .r)) × (place ≡ true → T.dueAt f (s .mu) ≡ false) ⌝ }
+    ensures steps { λ r. ⌜ ((h : List Float) →
+        let before = T.together thinning f s (now (integrators .entry)) (now (combs .entry)) (now (neighbours .entry)) (now (taps .entry)) (now («fir_delay» .entry))
+        (now (delays .entry)) (now (held .entry)) (now (counts .entry)) (now (delay .entry)) h in
+        let stepped = T.steppedAt thinning f (T.takenOf (r .step)) (r .numbers) (now (integrators .exit)) (now (combs .exit)) (now (neighbours .exit)) (now (taps .entry))
+        (now («fir_delay» .exit)) (now (delays .exit)) (now (held .exit)) (now (counts .exit)) (now (delay .exit)) h in
+        stepped ≡ step L.line place before (headOf (drop at (now (samples .entry))))) ⌝ }
+{
+    match thinning {
+        Thinning::Integrators => take_on(
+            false,
+            f,
+            s,
+            integrators,
+            combs,
+            neighbours,
+            taps,
+            fir_delay,
+            delays,
+            held,
+            counts,
+            delay,
+            samples,
+            at,
+            place,
+        ),
+        Thinning::Neighbours => take_on(
+            true,
+            f,
+            s,
+            integrators,
+            combs,
+            neighbours,
+            taps,
+            fir_delay,
+            delays,
+            held,
+            counts,
+            delay,
+            samples,
+            at,
+            place,
+        ),
+    }
+}
+
+// One step, the numbers by value and the arrays lent.
+pub(crate) fn step_on(
+    thinning: Thinning,
+    f: Fixed,
+    s: Numbers,
+    integrators: &mut [i32; MAX_STAGES],
+    combs: &mut [i32; MAX_STAGES],
+    neighbours: &mut [i32; MAX_NEIGHBOURS],
     taps: &[i16; MOST_TAPS],
     fir_delay: &mut [i16; MOST_TAPS],
     delays: &mut [f32; DEC_CASCADE_DELAYS],
@@ -154,9 +227,9 @@ pub(crate) fn step_on(
 ) -> NumberStep
     requires { ⌜ (f .bits ≡ gainBits (f .stages) (f .r)) × (T.dueAt f (s .mu) ≡ true → inLimits (f .phases) (f .taps) ≡ true) ⌝ }
     ensures steps { λ r. ⌜ (
-        let before = T.together f s (now (integrators .entry)) (now (combs .entry)) (now (taps .entry)) (now («fir_delay» .entry))
+        let before = T.together thinning f s (now (integrators .entry)) (now (combs .entry)) (now (neighbours .entry)) (now (taps .entry)) (now («fir_delay» .entry))
         (now (delays .entry)) (now (held .entry)) (now (counts .entry)) (now (delay .entry)) (now (prototype .entry)) in
-        let stepped = T.steppedAt f (T.didOf (r .step)) (r .numbers) (now (integrators .exit)) (now (combs .exit)) (now (taps .entry))
+        let stepped = T.steppedAt thinning f (T.didOf (r .step)) (r .numbers) (now (integrators .exit)) (now (combs .exit)) (now (neighbours .exit)) (now (taps .entry))
         (now («fir_delay» .exit)) (now (delays .exit)) (now (held .exit)) (now (counts .exit)) (now (delay .exit)) (now (prototype .entry)) in
         stepped ≡ step L.line place before (headOf (drop at (now (samples .entry))))) ⌝ }
 {
@@ -178,11 +251,13 @@ pub(crate) fn step_on(
             },
         };
     }
-    let on = take_on(
+    let on = take_by(
+        thinning,
         f,
         s,
         integrators,
         combs,
+        neighbours,
         taps,
         fir_delay,
         delays,

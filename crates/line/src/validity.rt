@@ -7,16 +7,17 @@ use crate::sample::Numbers;
 use float::polyphase_resamp::is_valid_in_line;
 use half_band::MOST_STAGES;
 use half_band::hbf_stream::hbf_stream_refused_in_line;
-use integer::cic_decimator::valid;
 use integer::gain::bits_of;
 use integer::gain::gain_of;
+use nonrecursive::Thinning;
+use nonrecursive::thinning::thinning_valid;
 use q15::fir_valid_in_line;
 
 // The gain bits of a valid decimator; 64 for another, whose gain is not looked at.
-pub(crate) fn bits_at(stages: usize, r: usize, sample_counter: usize) -> u32
-    ensures { λ b. ⌜ b ≡ T.bitsAt stages r «sample_counter» ⌝ }
+pub(crate) fn bits_at(thinning: Thinning, stages: usize, r: usize, sample_counter: usize) -> u32
+    ensures { λ b. ⌜ b ≡ T.bitsAt thinning stages r «sample_counter» ⌝ }
 {
-    if !valid(stages, r, sample_counter) {
+    if !thinning_valid(thinning, stages, r, sample_counter) {
         return 64;
     }
     bits_of(gain_of(stages, r))

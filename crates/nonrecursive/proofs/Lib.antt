@@ -10,3 +10,4 @@ pub mod OnTape
 pub mod TapeSteps
 pub mod Chunks
 pub mod BlockEnds
+pub mod EitherKind

@@ -93,6 +93,22 @@ module _ (N : ℕ) where
   pairs-count (a ∷ []) s = refl
   pairs-count (a ∷ b ∷ w) s = let e = pairs-count w (both s a b .state) in omega (arith, e)
 
+  -- so their halving may hold them apart, h behind them, and put them back
+  module _ (w s h : List ℤ) (enough : N ≤ length s) where
+    abbrev apart : List ℤ
+    apart = take N s ++ drop N h
+
+    same-front : take N apart ≡ take N s
+    same-front = take-at (take N s) (drop N h) N (length-take-le N s enough)
+
+    pub apart-vals : pairs N apart w .vals ≡ pairs N s w .vals
+    apart-vals = pairs-vals w apart s same-front
+
+    pub apart-state : take N (pairs N apart w .state) ++ drop N s ≡ pairs N s w .state
+    apart-state =
+        ap₂ (λ (a b : List ℤ). a ++ b) (pairs-front w apart s same-front) (sym (pairs-behind w s))
+        ∙ take-append-drop N (pairs N s w .state)
+
   -- m halvings as a section over the neighbours and the place
   abbrev pub thinner : ℕ → Section (List ℤ × ℕ) ℤ ℤ
   thinner m =
@@ -273,3 +289,12 @@ module _ (N : ℕ) where
       go : (p / 2 + 1 < 2 ^ m → thinned N m (drop N (summed N s v .state)) (p / 2) (summed N s v .val) .out ≡ none) → Dec (p % 2 < 1) → thinned N (suc m) s p v .out ≡ none
       go ih (yes l) = ap (λ (z : Thinned). z .out) (first-step m s p v (omega arith))
       go ih (no l) = ap (λ (z : Thinned). z .out) (second-step m s p v (omega arith)) ∙ ih (omega (arith, double m))
+
+  -- and one whose place is the last makes a sum
+  pub last-out : (m : ℕ) (s : List ℤ) (p : ℕ) (v : ℤ) → p + 1 ≡ 2 ^ m → (y : ℤ) × (thinned N m s p v .out ≡ some y)
+  unfolding thinned
+  last-out zero s p v h = (v, refl)
+  last-out (suc m) s p v h =
+      let odd : p % 2 ≡ 0 → ⊥ = omega (arith, double m) in
+      let y = last-out m (drop N (summed N s v .state)) (p / 2) (summed N s v .val) (omega (arith, double m)) in
+      (y .0, ap (λ (z : Thinned). z .out) (second-step m s p v odd) ∙ y .1)

@@ -9,7 +9,7 @@ use native.Mathlib.Omega.{arith}
 use borrow.Author.Tests.{eqb-true}
 use borrow.Rule.Slice.PartMut.{midOf, putMid, same-len-mid}
 use lib.IntN.{ℤ}
-use lib.ListN.{length, take, drop, take-append-drop}
+use lib.ListN.{length, take, drop, length-drop, take-append-drop}
 use lib.Seq.{length-take-le, take-append-add, drop-append-add}
 use Rattle.nonrecursive.specs.NonrecursiveDecimator.{halvings, powerOfTwo}
 use Rattle.nonrecursive.specs.Tape.{Lined, pairs, lined}
@@ -62,11 +62,21 @@ module _ (N r count : ℕ) (s₀ tape₀ : List ℤ) where
           let e : from + suc (halvings (left / 2)) * N ≤ length s = rw (halvings-half left more (h .fits)) at (h .neighbours-left) in
           omega (arith, suc-mul (halvings (left / 2)) N)
 
+      inside : from ≤ length s
+      inside = omega (arith, neighbours-there)
+
+      least-is : from ≡ min from (length s)
+      least-is = sym (min-eq-left inside)
+
+      abbrev part : List ℤ
+      part = midOf from (length s - from) s
+
+      -- the part of the neighbours that the code lends has those of a halving
+      pub part-enough : N ≤ length part
+      part-enough = omega (arith, ap length (part-is from s from least-is), length-drop from s, neighbours-there)
+
       -- as the code leaves it: the part of the neighbours from `from` on became Y, and the tape `thinner`
       module _ (Y thinner : List ℤ) where
-        abbrev part : List ℤ
-        part = midOf from (length s - from) s
-
         abbrev values : List ℤ
         values = take (count * (left / 2)) thinner
 
@@ -75,12 +85,6 @@ module _ (N r count : ℕ) (s₀ tape₀ : List ℤ) where
 
         abbrev goes-on : List ℤ → List ℤ → Lined
         goes-on y v = record { state = take N y ++ lined N (halvings (left / 2)) (drop N y) v .state; vals = lined N (halvings (left / 2)) (drop N y) v .vals }
-
-        inside : from ≤ length s
-        inside = omega (arith, neighbours-there)
-
-        least-is : from ≡ min from (length s)
-        least-is = sym (min-eq-left inside)
 
         front-long : length (take from s) ≡ from
         front-long = length-take-le from s inside

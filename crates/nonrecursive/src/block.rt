@@ -2,7 +2,7 @@
 ghost use mathlib.Core.Path.{_≡_};
 ghost use mathlib.Core.Bool.{true};
 ghost use mathlib.Core.Logic.{_⊎_};
-ghost use mathlib.Core.List.{List, [], map};
+ghost use mathlib.Core.List.{List, [], _++_, map};
 ghost use Prim.Native.Nat.{ℕ, _+_, _*_, _≤_, _<_};
 ghost use lib.IntN.{ℤ};
 ghost use lib.ListN.{length, take, drop};
@@ -21,6 +21,7 @@ use crate::nonrecursive_decimator::nonrecursive_at;
 use crate::nonrecursive_decimator::sum_neighbours;
 use crate::nonrecursive_decimator::valid;
 use integer::cic_decimator::CicSum;
+use integer::limits::MAX_STAGES;
 use integer::limits::least;
 use refusal::Counts;
 use refusal::Refusal;
@@ -29,7 +30,7 @@ use refusal::Refusal;
 const TAPE: usize = 256;
 
 // Pairs of values at the front of the tape each hand one on, in their order.
-fn halve(stages: usize, neighbours: &mut [i32], tape: &mut [i32], count: usize)
+fn halve_on(stages: usize, neighbours: &mut [i32], tape: &mut [i32], count: usize)
     requires { ⌜ count * 2 ≤ length (now tape) ⌝ }
     ensures { λ _. ⌜ (now (neighbours .exit) ≡ pairs stages (now (neighbours .entry)) (take (count * 2) (now (tape .entry))) .state) × (take count (now (tape .exit)) ≡ pairs stages (now (neighbours .entry)) (take (count * 2) (now (tape .entry))) .vals) × (length (now (tape .exit)) ≡ length (now (tape .entry))) ⌝ }
 {
@@ -41,6 +42,53 @@ fn halve(stages: usize, neighbours: &mut [i32], tape: &mut [i32], count: usize)
         tape[i] = second;
         at += 2;
         i += 1;
+    }
+}
+
+fn none_held() -> [i32; MAX_STAGES]
+    ensures { λ h. ⌜ length h ≡ 8 ⌝ }
+{
+    [0; MAX_STAGES]
+}
+
+// So many values at the front of one slice, over those of another.
+fn copy_front(count: usize, from: &[i32], to: &mut [i32])
+    requires { ⌜ (count ≤ length (now from)) × (count ≤ length (now to)) ⌝ }
+    ensures { λ _. ⌜ now (to .exit) ≡ take count (now (from .entry)) ++ drop count (now (to .entry)) ⌝ }
+{
+    let mut i = 0;
+    while i < count {
+        to[i] = from[i];
+        i += 1;
+    }
+}
+
+// The same, the neighbours held in a local.
+fn halve_of(stages: usize, neighbours: &mut [i32], tape: &mut [i32], count: usize)
+    requires { ⌜ (stages ≤ 8) × (stages ≤ length (now neighbours)) × (count * 2 ≤ length (now tape)) ⌝ }
+    ensures { λ _. ⌜ (now (neighbours .exit) ≡ pairs stages (now (neighbours .entry)) (take (count * 2) (now (tape .entry))) .state) × (take count (now (tape .exit)) ≡ pairs stages (now (neighbours .entry)) (take (count * 2) (now (tape .entry))) .vals) × (length (now (tape .exit)) ≡ length (now (tape .entry))) ⌝ }
+{
+    let mut held = none_held();
+    copy_front(stages, neighbours, &mut held);
+    halve_on(stages, &mut held, tape, count);
+    copy_front(stages, &held, neighbours);
+}
+
+// The same, the number of stages a constant in each arm, so that the compiler unrolls the sums and holds the neighbours in registers.
+fn halve(stages: usize, neighbours: &mut [i32], tape: &mut [i32], count: usize)
+    requires { ⌜ (stages ≤ length (now neighbours)) × (count * 2 ≤ length (now tape)) ⌝ }
+    ensures { λ _. ⌜ (now (neighbours .exit) ≡ pairs stages (now (neighbours .entry)) (take (count * 2) (now (tape .entry))) .state) × (take count (now (tape .exit)) ≡ pairs stages (now (neighbours .entry)) (take (count * 2) (now (tape .entry))) .vals) × (length (now (tape .exit)) ≡ length (now (tape .entry))) ⌝ }
+{
+    match stages {
+        1 => halve_of(1, neighbours, tape, count),
+        2 => halve_of(2, neighbours, tape, count),
+        3 => halve_of(3, neighbours, tape, count),
+        4 => halve_of(4, neighbours, tape, count),
+        5 => halve_of(5, neighbours, tape, count),
+        6 => halve_of(6, neighbours, tape, count),
+        7 => halve_of(7, neighbours, tape, count),
+        8 => halve_of(8, neighbours, tape, count),
+        _ => halve_on(stages, neighbours, tape, count),
     }
 }
 

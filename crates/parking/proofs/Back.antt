@@ -10,7 +10,11 @@ use lib.Ieee.{Float, binary32, toBits}
 use lib.Ieee.Bits.{ofBits-toBits, ofBits-fits}
 use lib.ListN.{length, getD, set, take, drop, replicate, length-append, length-drop, take-append-drop, replicate-append-replicate}
 use lib.Seq.{drop-at, take-at, set-at, drop-drop, drop-append-le, drop-append-add, take-suc, take-add, length-take-le}
+use Rattle.integer.specs.CicDecimator.{decimatorOf}
 use Rattle.integer.specs.declared.cic_decimator.CicDecimator.{CicDecimator}
+use lib.IntN.{ℤ}
+use Rattle.nonrecursive.specs.NonrecursiveDecimator.{mostNeighbours}
+use Rattle.nonrecursive.specs.declared.thinning.Thinning.the-variants as thinning
 use Rattle.q15.specs.FirDecimator.{mostTaps}
 use Rattle.q15.specs.declared.fir_decimator.FirDecimator.{FirDecimator}
 use Rattle.half_band.specs.declared.hbf_stream.HbfStream.{HbfStream}
@@ -19,11 +23,11 @@ use Rattle.float.specs.declared.polyphase_resamp.PolyphaseResampF32.{PolyphaseR
 use Rattle.sheet.specs.Sheet.{le16, bytes16}
 use Rattle.sheet.specs.Laid.{laid}
 use Rattle.sheet.proofs.Laying.{laid-front}
-use Rattle.parking.specs.Parked.{Settings, halfBandBytes}
+use Rattle.parking.specs.Parked.{Settings, halfBandBytes, neighbourCount}
 use Rattle.parking.specs.Fields.{i16Bytes, i32Bytes, f32Bytes, joined, f32At, valuesAt, floatsAt, All, IsFloat}
-use Rattle.parking.specs.Entries.{cicBytes, tapBytes, delayBytes, windowOf, stageBytes, stagesBytes, prototypeBytes, resamplerBytes, cicFrom, firFrom, countsFrom, heldFrom, delaysFrom, resamplerFrom, stagesWritten}
+use Rattle.parking.specs.Entries.{cicBytes, neighboursBytes, tapBytes, delayBytes, windowOf, stageBytes, stagesBytes, prototypeBytes, resamplerBytes, cicFrom, placeFrom, neighboursFrom, firFrom, countsFrom, heldFrom, delaysFrom, resamplerFrom, stagesWritten}
 use Rattle.parking.proofs.Fields.{all-take, all-drop, all-getD, word-at, Reads, reads-i16, reads-i32, reads-f32, joined-length, values-back, floats-are}
-use Rattle.parking.proofs.Whole.{Used, used-fresh, CicWhole, FirWhole}
+use Rattle.parking.proofs.Whole.{Used, used-fresh, CicWhole, ThinWholeBy, FirWhole}
 use Rattle.parking.proofs.WholeFloats.{HalfUsed, ResamplerWhole, window-most}
 
 -- ---- an array
@@ -85,6 +89,23 @@ module _ (d : CicDecimator) (w : CicWhole d) (few : d .stages ≤ 8) (small : d 
       let b = array-length reads-i32 N 8 (d .«comb_state») (w .combs) few in
       let c = length-append ints combs in
       omega arith
+
+module _ (d : CicDecimator) (n : List ℤ) (w : ThinWholeBy thinning.Neighbours d n) (few : neighbourCount (d .stages) (d .r) ≤ 96) (small : d .«sample_counter» < 65536) where
+  pub place-back : (q : Settings) → q .stages ≡ d .stages → q .r ≡ d .r → placeFrom q (neighboursBytes d n) ≡ d
+  unfolding placeFrom neighboursBytes
+  place-back q e f =
+      rw (e, f, word-at (neighboursBytes d n) 0 (d .«sample_counter») (joined i32Bytes (take (neighbourCount (d .stages) (d .r)) n)) refl small)
+      (sym (ap₂ {C = CicDecimator} (λ (i c : List ℤ). decimatorOf (d .stages) (d .r) i c (d .«sample_counter»)) (w .0) (w .1 .0)))
+
+  pub neighbours-back : (q : Settings) → q .stages ≡ d .stages → q .r ≡ d .r → neighboursFrom q (neighboursBytes d n) ≡ n
+  unfolding neighboursFrom neighboursBytes
+  neighbours-back q e f =
+      rw (e, f)
+      (array-back reads-i32 (neighbourCount (d .stages) (d .r)) mostNeighbours n (neighboursBytes d n) 2 [] (w .1 .1) few (sym (append-nil (joined i32Bytes (take (neighbourCount (d .stages) (d .r)) n)))))
+
+  pub neighbours-length : length (neighboursBytes d n) ≡ 2 + 4 * neighbourCount (d .stages) (d .r)
+  unfolding neighboursBytes
+  neighbours-length = let a = array-length reads-i32 (neighbourCount (d .stages) (d .r)) mostNeighbours n (w .1 .1) few in omega arith
 
 -- ---- section 3
 

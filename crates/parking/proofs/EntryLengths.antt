@@ -1,15 +1,17 @@
 -- How long each entry is, for arrays of their length and numbers in their limits.
 use mathlib.Core.Path.{_≡_, refl, _∙_}
-use mathlib.Core.List.{_++_}
+use mathlib.Core.List.{List, _++_}
 use Prim.Native.Nat.{_+_, _*_, _≤_}
 use native.Mathlib.Omega.{arith}
+use lib.IntN.{ℤ}
 use lib.ListN.{length, take, length-append}
 use Rattle.integer.specs.declared.cic_decimator.CicDecimator.{CicDecimator}
 use Rattle.q15.specs.FirDecimator.{mostTaps}
 use Rattle.q15.specs.declared.fir_decimator.FirDecimator.{FirDecimator}
 use Rattle.float.specs.declared.polyphase_resamp.PolyphaseResampF32.{PolyphaseResampF32}
+use Rattle.parking.specs.Parked.{neighbourCount}
 use Rattle.parking.specs.Fields.{joined, i16Bytes, i32Bytes, f32Bytes}
-use Rattle.parking.specs.Entries.{cicBytes, tapBytes, delayBytes, prototypeBytes, resamplerBytes}
+use Rattle.parking.specs.Entries.{cicBytes, neighboursBytes, tapBytes, delayBytes, prototypeBytes, resamplerBytes}
 use Rattle.parking.proofs.Loops.{joined-taken}
 
 pub cic-long : (d : CicDecimator) → d .stages ≤ 8 → length (d .«integrator_state») ≡ 8 → length (d .«comb_state») ≡ 8 → length (cicBytes d) ≡ 2 + 8 * d .stages
@@ -44,3 +46,9 @@ delay-long f h j =
 pub cells-long : (p : PolyphaseResampF32) → p .phases * p .taps ≤ 1024 → length (p .prototype) ≡ 1024 → length (prototypeBytes p) ≡ 4 * (p .phases * p .taps)
 unfolding prototypeBytes
 cells-long p k j = joined-taken f32Bytes 4 (λ x. refl) (p .phases * p .taps) (p .prototype) (omega arith)
+
+pub neighbours-long : (d : CicDecimator) (n : List ℤ) → neighbourCount (d .stages) (d .r) ≤ 96 → length n ≡ 96 → length (neighboursBytes d n) ≡ 2 + 4 * neighbourCount (d .stages) (d .r)
+unfolding neighboursBytes
+neighbours-long d n h l =
+    let a : length (joined i32Bytes (take (neighbourCount (d .stages) (d .r)) n)) ≡ 4 * neighbourCount (d .stages) (d .r) = joined-taken i32Bytes 4 (λ x. refl) (neighbourCount (d .stages) (d .r)) n (omega arith) in
+    omega arith

@@ -1,6 +1,8 @@
 pub mod Panels
 pub mod Fields
+pub mod Fronts
 pub mod Behind
+pub mod Thinned
 pub mod Whole
 pub mod WholeFloats
 pub mod WholeLine
@@ -12,3 +14,6 @@ pub mod EntryLengths
 pub mod WholeSheet
 pub mod ParkedLine
 pub mod Older
+pub mod Alike
+pub mod AlikeParts
+pub mod Trimmed

@@ -1,6 +1,6 @@
 -- What holds between panels, over any test `fine` of the FIR limit and the entries: parked entries are found again, and an older panel answers 15, 16 or 21.
 use mathlib.Core.Path.{_≡_, refl, sym, ap, _∙_}
-use mathlib.Core.Bool.{Bool, true, false, cond, true≢false}
+use mathlib.Core.Bool.{Bool, true, false, cond, _&&_, true≢false}
 use mathlib.Core.List.{List, [], _∷_, _++_}
 use Prim.Native.Nat.{ℕ, zero, suc, _+_, _*_, _-_, _^_, _%_, _/_, _≤_, _<_}
 use native.Mathlib.Omega.{arith}
@@ -16,7 +16,8 @@ use Rattle.sheet.proofs.Answering.{entry-part}
 use Rattle.sheet.proofs.Writing.{Laid}
 use Rattle.sheet.proofs.RoundTrip.{found-at, reads-back}
 use Rattle.sheet.proofs.Rules.{count-same, number-same, marked-refused, written-marked}
-use Rattle.parking.specs.Parked.{Panel, at6, at7, at9, Settings, settingsBytes, settingsOf, sizes, same, flat, lengthsOf, parked, entriesOf, shaped, takeUpNumber}
+use Rattle.parking.specs.Older.{formerly}
+use Rattle.parking.specs.Parked.{Panel, at6, at7, panel, Settings, settingsBytes, settingsOf, sizes, thinSizes, same, flat, lengthsOf, parked, entriesOf, shaped, takeUpNumber}
 
 -- ---- the settings are read as they were written
 
@@ -142,6 +143,26 @@ pub seven-shaped : (v : Panel) (q : Settings) → Fits q → (es : List (List �
 unfolding shaped
 seven-shaped v q f es e n l = rw (eq-eqb (length es) 7 n, e, settings-back q f, l) (same-refl (sizes q))
 
+-- of eight, where the panel knows neighbours
+pub eight-shaped : (v : Panel) → v .thinning ≡ true → (q : Settings) → Fits q → (es : List (List ℕ)) → getD es 0 [] ≡ settingsBytes q → length es ≡ 8 → lengthsOf es ≡ thinSizes q → shaped v es ≡ true
+unfolding shaped
+eight-shaped v t q f es e n l = rw (n, t, e, settings-back q f, l) (same-refl (thinSizes q))
+
+-- what a panel without neighbours takes for shaped is shaped for one with them
+pub shaped-wider : (v w : Panel) → v .thinning ≡ false → (es : List (List ℕ)) → shaped v es ≡ true → shaped w es ≡ true
+unfolding shaped
+shaped-wider v w t es e = go (eqb (length es) 7) refl
+  where
+    sevens : Bool
+    sevens = same (lengthsOf es) (sizes (settingsOf (getD es 0 [])))
+
+    eights : Panel → Bool
+    eights u = cond (u .thinning && eqb (length es) 8) (same (lengthsOf es) (thinSizes (settingsOf (getD es 0 [])))) false
+
+    go : (b : Bool) → eqb (length es) 7 ≡ b → cond (eqb (length es) 7) sevens (eights w) ≡ true
+    go true p = rw p (rw p at e)
+    go false p = (let q : false ≡ true = rw (p, t) at e in absurd (true≢false (sym q)))
+
 -- request 13: eight entries, "so a panel made after §9 and before this answers 21"
 pub eight-misshapen : (v : Panel) → v .thinning ≡ false → (es : List (List ℕ)) → length es ≡ 8 → shaped v es ≡ false
 unfolding shaped
@@ -168,7 +189,7 @@ unfolding parked
 parked-marked es s = written-marked (flat es) (lengthsOf es) (rw (count-of-lengths es) (s .few))
 
 -- sheets parked before request 9 are taken up as they were
-pub unmarked-same : (fine : ℕ → List (List ℕ) → Bool) (b : List ℕ) → le16 b 0 < mark → takeUpNumber fine at9 b ≡ takeUpNumber fine at7 b
+pub unmarked-same : (fine : ℕ → List (List ℕ) → Bool) (b : List ℕ) → le16 b 0 < mark → takeUpNumber fine panel b ≡ takeUpNumber fine (formerly panel) b
 unfolding takeUpNumber sheetNumber entriesOf shaped
 unmarked-same fine b h = rw (number-same b h (countOf present b), count-same b h)
 
@@ -185,3 +206,20 @@ still-case x false false g h e = e
 pub still-taken : (fine : ℕ → List (List ℕ) → Bool) → ((es : List (List ℕ)) → fine 64 es ≡ true → fine 128 es ≡ true) → (b : List ℕ) → takeUpNumber fine at6 b ≡ 0 → takeUpNumber fine at7 b ≡ 0
 unfolding takeUpNumber shaped
 still-taken fine h b e = still-case (sheetNumber former b) (shaped at6 (entriesOf former b)) (fine 64 (entriesOf former b)) (fine 128 (entriesOf former b)) (h (entriesOf former b)) e
+
+-- and those of a panel that knew no neighbours
+wider-case : (x : ℕ) (s t f : Bool) → (s ≡ true → t ≡ true) → cond (eqb x 0) (cond s (cond f 0 15) 21) x ≡ 0 → cond (eqb x 0) (cond t (cond f 0 15) 21) x ≡ 0
+wider-case x true t f h e = rw (h refl) e
+wider-case x false t f h e = absurd (no (eqb x 0) refl)
+  where
+    no : (b : Bool) → eqb x 0 ≡ b → ⊥
+    no true q = let w : _≡_ {A = ℕ} 21 0 = rw q at e in omega (arith, w)
+    no false q = let w : x ≡ 0 = rw q at e in true≢false (sym (eq-eqb x 0 w) ∙ q)
+
+pub wider-taken :
+    (fine : ℕ → List (List ℕ) → Bool) (most : ℕ) (rule : Rule) (b : List ℕ) → takeUpNumber fine (record { mostTaps = most; rule = rule; thinning = false }) b ≡ 0
+    → takeUpNumber fine (record { mostTaps = most; rule = rule; thinning = true }) b ≡ 0
+unfolding takeUpNumber
+wider-taken fine most rule b e =
+    wider-case (sheetNumber rule b) (shaped (record { mostTaps = most; rule = rule; thinning = false }) (entriesOf rule b)) (shaped (record { mostTaps = most; rule = rule; thinning = true }) (entriesOf rule b))
+    (fine most (entriesOf rule b)) (shaped-wider _ _ refl (entriesOf rule b)) e

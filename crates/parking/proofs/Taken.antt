@@ -8,6 +8,7 @@ use native.Mathlib.Omega.{arith}
 use native.Mathlib.Decide.{decLt}
 use borrow.Author.Tests.{eq-eqb, ne-eqb, eqb-true, eqb-false, le-leb}
 use lib.Dec.{leb, ltb, eqb}
+use lib.IntN.{ℤ}
 use lib.Ieee.{binary32, toBits, ofBits}
 use lib.Ieee.Bits.{ofBits-toBits}
 use lib.ListN.{length, getD, take, drop}
@@ -15,9 +16,9 @@ use lib.Seq.{take-at}
 use Rattle.refusal.specs.Outcome.{Opened}
 use Rattle.refusal.specs.Rows.{outside}
 use Rattle.refusal.proofs.Limits.{within}
-use Rattle.integer.specs.CicDecimator as C
 use Rattle.integer.specs.declared.cic_decimator.CicDecimator.{CicDecimator}
-use Rattle.integer.proofs.Within.{sound}
+use Rattle.nonrecursive.specs.declared.thinning.Thinning.{Thinning}
+use Rattle.nonrecursive.specs.declared.thinning.Thinning.the-variants as thinning
 use Rattle.q15.specs.FirDecimator.{mostTaps, firZeros, settingsNumber}
 use Rattle.q15.specs.FirDecimator as Q
 use Rattle.q15.specs.declared.fir_decimator.FirDecimator.{FirDecimator}
@@ -28,39 +29,28 @@ use Rattle.float.specs.PolyphaseResamp.{validInLine}
 use Rattle.float.specs.PolyphaseResamp as R
 use Rattle.float.specs.declared.polyphase_resamp.PolyphaseResampF32.{PolyphaseResampF32}
 use Rattle.line.specs.Outputs.{Opening}
-use Rattle.line.specs.Line.{cicFine, halfBandFine, valid, zeros, opened, feedOutcome, feedSpan, reset}
+use Rattle.line.specs.Line.{thinnerOf, halfBandFine, valid, zeros, opened, feedOutcome, feedSpan, reset}
 use Rattle.line.specs.Demand3 as D
 use Rattle.line.specs.declared.gauge_line.Line.{Line}
 use Rattle.line.proofs.Flags.{and-left, and-both, not-says}
 use Rattle.line.proofs.Lawful.{to-parts}
 use Rattle.sheet.specs.Sheet.{le16, le32, sum, dataFrom, mostEntries}
-use Rattle.parking.specs.Parked.{Panel, Settings, settingsBytes, settingsOf, halfBandBytes, sizes, flat, lengthsOf, parked, shaped, takeUpNumber}
+use Rattle.parking.specs.Parked.{Panel, Settings, settingsBytes, settingsOf, halfBandBytes, neighbourCount, sizes, thinSizes, flat, lengthsOf, parked, shaped, takeUpNumber}
 use Rattle.parking.specs.Fields.{isFloat, floatsAt, joined, i16Bytes}
-use Rattle.parking.specs.Entries.{firOn, resamplerOn, settingsIn, delayBytes, stagesBytes, prototypeBytes, resamplerBytes, entriesOf, lineEntries, entryOf, lineFrom, halfBandFrom, firWritten, resamplerWritten, stagesWritten, written, fine}
+use Rattle.parking.specs.Entries.{firOn, resamplerOn, settingsIn, tapBytes, delayBytes, stagesBytes, prototypeBytes, resamplerBytes, entriesOf, thinEntries, entriesBy, lineEntries, entryOf, lineWith, lineFrom, halfBandFrom, firWritten, resamplerWritten, stagesWritten, written, fine}
 use Rattle.parking.specs.Parking.{parkedLine, parkNumber, parkAnswer, parkSpan, takenUp, takenUpNumber}
 use Rattle.parking.specs.Limits.{InLimits}
 use Rattle.parking.specs.Between.{Typed, sheetIn, History, none-yet, fed, parked as parked-then, unparked, lineAfter, AsNeverParked}
-use Rattle.parking.proofs.Panels.{Fits, settings-back, Small, entries-back, taken-up, seven-shaped, sum-of-lengths}
+use Rattle.parking.proofs.Panels.{Fits, settings-back, Small, entries-back, taken-up, seven-shaped, eight-shaped, sum-of-lengths}
 use Rattle.parking.proofs.Fields.{bits-below, word-at}
-use Rattle.parking.proofs.Whole.{FirWhole}
+use Rattle.parking.proofs.Thinned.{few-neighbours}
+use Rattle.parking.proofs.Whole.{ThinWholeBy, ThinNumbers, thin-numbers, FirWhole}
 use Rattle.parking.proofs.WholeFloats.{ResamplerWhole}
-use Rattle.parking.proofs.WholeLine.{LineWhole, Sound, cic-stages, half-depth, resampler-taps, sound-at}
-use Rattle.parking.proofs.ParkedLine.{sizes-most}
-use Rattle.parking.proofs.Back.{cic-back, cic-length, fir-back, taps-length, delay-length, stages-length, stages-written, counts-back, held-back, delays-back, resampler-back, prototype-length, resampler-length, prototype-floats, resampler-floats}
+use Rattle.parking.proofs.WholeLine.{LineWhole, Sound, half-depth, resampler-taps, sound-at}
+use Rattle.parking.proofs.ParkedLine.{sizes-most, thin-most}
+use Rattle.parking.proofs.Back.{cic-back, cic-length, place-back, neighbours-back, neighbours-length, fir-back, taps-length, delay-length, stages-length, stages-written, counts-back, held-back, delays-back, resampler-back, prototype-length, resampler-length, prototype-floats, resampler-floats}
 
 -- ---- the numbers of a sound line
-
-pub record CicNumbers (d : CicDecimator) : Type 0 where
-  pub stages : d .stages ≤ 8
-  pub r : d .r ≤ 4096
-  pub counter : d .«sample_counter» < 65536
-
-pub cic-numbers : (d : CicDecimator) → cicFine d ≡ true → CicNumbers d
-unfolding cicFine
-cic-numbers d v =
-    let s = sound (d .stages) (d .r) (d .«sample_counter») (and-left (C.valid d) _ v) in
-    let m = s .most in let b = s .below in
-    record { stages = cic-stages d v .1; r = m; counter = omega arith }
 
 factor-most : (T D : ℕ) → settingsNumber T D ≡ 0 → D ≤ 4096
 unfolding settingsNumber
@@ -104,7 +94,7 @@ resampler-numbers p v w = elim (decLt 0 (p .phases)) [
 
 -- ---- a part that is off is zeros already
 
-fir-on-is : (s : FirDecimator) → FirWhole s → firOn s ≡ s
+pub fir-on-is : (s : FirDecimator) → FirWhole s → firOn s ≡ s
 unfolding firOn
 fir-on-is s w = go (eqb (s .«tap_count») 0) refl
   where
@@ -115,7 +105,7 @@ fir-on-is s w = go (eqb (s .«tap_count») 0) refl
 fir-numbers : (s : FirDecimator) → Q.validInLine s ≡ true → FirWhole s → FirNumbers s
 fir-numbers s v w = subst FirNumbers (fir-on-is s w) (on-numbers s v)
 
-resampler-on-is : (p : PolyphaseResampF32) → ResamplerWhole p → resamplerOn p ≡ p
+pub resampler-on-is : (p : PolyphaseResampF32) → ResamplerWhole p → resamplerOn p ≡ p
 unfolding resamplerOn
 resampler-on-is p w = go (eqb (p .phases) 0) refl
   where
@@ -132,6 +122,9 @@ straight-most false = omega arith
 module _ (l : Line) (g : Sound l) where
   abbrev d : CicDecimator
   d = l .cic
+
+  abbrev ns : List ℤ
+  ns = l .neighbours
 
   abbrev f : FirDecimator
   f = l .fir
@@ -151,8 +144,11 @@ module _ (l : Line) (g : Sound l) where
   abbrev es : List (List ℕ)
   es = entriesOf d f s p (l .cuts)
 
-  cn : CicNumbers d
-  cn = cic-numbers d (to-parts l (g .0) .0)
+  abbrev es₈ : List (List ℕ)
+  es₈ = thinEntries d ns f s p (l .cuts)
+
+  cn : ThinNumbers d
+  cn = thin-numbers (thinnerOf l) (to-parts l (g .0) .0)
 
   fn : FirNumbers f
   fn = fir-numbers f (to-parts l (g .0) .1 .1 .0) (w .fir)
@@ -190,64 +186,88 @@ module _ (l : Line) (g : Sound l) where
         cuts = omega arith;
       }
 
-  entries-are : lineEntries l ≡ es
-  unfolding lineEntries
-  entries-are = rw (fir-on-is f (w .fir), resampler-on-is p (w .resampler))
-
   settings-are : settingsOf (entryOf es 0) ≡ q
   unfolding entriesOf
   settings-are = settings-back q fits
+
+  settings-are₈ : settingsOf (entryOf es₈ 0) ≡ q
+  unfolding thinEntries
+  settings-are₈ = settings-back q fits
 
   half-back : halfBandFrom q (stagesBytes s (min (s .depth) 5)) ≡ s
   unfolding halfBandFrom settingsIn
   half-back =
       rw (depth-min, delays-back s (s .depth) depth-few (w .half-band) counts-small, held-back s (s .depth) depth-few (w .half-band) counts-small, counts-back s (s .depth) depth-few (w .half-band) counts-small)
 
-  line-back : lineFrom es ≡ l
-  unfolding lineFrom entriesOf settingsIn
-  line-back =
+  line-back : l .thinning ≡ thinning.Integrators → ThinWholeBy thinning.Integrators d ns → lineFrom es ≡ l
+  unfolding lineFrom lineWith entriesOf settingsIn
+  line-back e t =
       rw (
         settings-are,
-        cic-back d (w .cic) (cn .stages) (cn .counter) q refl refl,
+        cic-back d (t .0) (cn .stages) (cn .counter) q refl refl,
         fir-back f (w .fir) (fn .taps) (fn .wait) q refl refl,
         half-back,
         resampler-back p (w .resampler) (rn .taps) cells-few q refl refl refl refl,
+        ← e,
+        ← t .1,
       )
 
-  lengths-are : lengthsOf es ≡ sizes q
+  few : neighbourCount (d .stages) (d .r) ≤ 96
+  few = few-neighbours (d .stages) (d .r) (cn .stages) (cn .r)
+
+  line-back₈ : l .thinning ≡ thinning.Neighbours → ThinWholeBy thinning.Neighbours d ns → lineFrom es₈ ≡ l
+  unfolding lineFrom lineWith thinEntries settingsIn
+  line-back₈ e t =
+      rw (
+        settings-are₈,
+        place-back d ns t few (cn .counter) q refl refl,
+        neighbours-back d ns t few (cn .counter) q refl refl,
+        fir-back f (w .fir) (fn .taps) (fn .wait) q refl refl,
+        half-back,
+        resampler-back p (w .resampler) (rn .taps) cells-few q refl refl refl refl,
+        ← e,
+      )
+
+  taps-is : length (tapBytes f) ≡ 2 * f .«tap_count»
+  taps-is = taps-length f (w .fir) (fn .taps) (fn .wait)
+
+  delay-is : length (delayBytes f) ≡ 2 + 2 * f .«tap_count»
+  delay-is = delay-length f (w .fir) (fn .taps) (fn .wait)
+
+  stages-is : length (stagesBytes s (min (s .depth) 5)) ≡ halfBandBytes (s .depth)
+  stages-is = rw depth-min (stages-length s (s .depth) depth-few (w .half-band) counts-small (s .depth) depth-few)
+
+  cells-is : length (prototypeBytes p) ≡ 4 * (p .phases * p .taps)
+  cells-is = prototype-length p (w .resampler) (rn .taps) cells-few
+
+  resampler-is : length (resamplerBytes p) ≡ 4 + 4 * p .taps
+  resampler-is = resampler-length p (w .resampler) (rn .taps) cells-few
+
+  lengths-are : ThinWholeBy thinning.Integrators d ns → lengthsOf es ≡ sizes q
   unfolding lengthsOf entriesOf sizes settingsIn
-  lengths-are =
-      let a = cic-length d (w .cic) (cn .stages) (cn .counter) in
-      let b = taps-length f (w .fir) (fn .taps) (fn .wait) in
-      let c = delay-length f (w .fir) (fn .taps) (fn .wait) in
-      let e : length (stagesBytes s (min (s .depth) 5)) ≡ halfBandBytes (s .depth) = rw depth-min (stages-length s (s .depth) depth-few (w .half-band) counts-small (s .depth) depth-few) in
-      let h = prototype-length p (w .resampler) (rn .taps) cells-few in
-      let i = resampler-length p (w .resampler) (rn .taps) cells-few in
-      rw (a, b, c, e, h, i) (unfold settingsBytes in refl)
+  lengths-are t = rw (cic-length d (t .0) (cn .stages) (cn .counter), taps-is, delay-is, stages-is, cells-is, resampler-is) (unfold settingsBytes in refl)
+
+  lengths-are₈ : ThinWholeBy thinning.Neighbours d ns → lengthsOf es₈ ≡ thinSizes q
+  unfolding lengthsOf thinEntries thinSizes settingsIn
+  lengths-are₈ t = rw (taps-is, delay-is, stages-is, cells-is, resampler-is, neighbours-length d ns t few (cn .counter)) (unfold settingsBytes in refl)
 
   limits : InLimits q
-  limits = unfold settingsIn in record { stages = cn .stages; taps = fn .taps; depth = depth-few; phases = rn .phases; cells = rn .taps }
+  limits = unfold settingsIn in record { stages = cn .stages; r = cn .r; taps = fn .taps; depth = depth-few; phases = rn .phases; cells = rn .taps }
 
-  flat-most : length (flat es) ≤ 6000
-  flat-most =
-      let e : length (flat es) ≡ sum (sizes q) = sym (sum-of-lengths es) ∙ ap sum lengths-are in
+  small-of : (e : List (List ℕ)) → 0 < length e → length e ≤ 8 → length (flat e) ≤ 6000 → Small e
+  small-of e a b h = record { some = a; few = omega arith; most = omega arith }
+
+  small : ThinWholeBy thinning.Integrators d ns → Small es
+  small t =
       let m = sizes-most q limits in
-      omega arith
+      let e : length (flat es) ≡ sum (sizes q) = sym (sum-of-lengths es) ∙ ap sum (lengths-are t) in
+      small-of es (unfold entriesOf in omega arith) (unfold entriesOf in omega arith) (omega arith)
 
-  small : Small es
-  small = let m = flat-most in record { some = count; few = few; most = big m }
-    where
-      count : 0 < length es
-      count = unfold entriesOf in omega arith
-
-      few : length es ≤ mostEntries
-      few = unfold entriesOf in omega arith
-
-      big : length (flat es) ≤ 6000 → dataFrom (length es) + length (flat es) ≤ 2 ^ 32 - 1
-      big h = unfold entriesOf in omega arith
-
-  shaped-is : (v : Panel) → shaped v es ≡ true
-  shaped-is v = seven-shaped v q fits es (unfold entriesOf in refl) (unfold entriesOf in refl) lengths-are
+  small₈ : ThinWholeBy thinning.Neighbours d ns → Small es₈
+  small₈ t =
+      let m = thin-most q limits in
+      let e : length (flat es₈) ≡ sum (thinSizes q) = sym (sum-of-lengths es₈) ∙ ap sum (lengths-are₈ t) in
+      small-of es₈ (unfold thinEntries in omega arith) (unfold thinEntries in omega arith) (omega arith)
 
   -- ---- its fields are those that parking writes
 
@@ -303,22 +323,59 @@ module _ (l : Line) (g : Sound l) where
   unfolding written entriesOf
   written-is = rw settings-are fields-are
 
-  few-taps : (most : ℕ) → mostTaps ≤ most → leb (settingsOf (entryOf es 0) .taps) most ≡ true
-  unfolding settingsIn
-  few-taps most h = let b = fn .taps in ap (λ (k : Settings). leb (k .taps) most) settings-are ∙ le-leb (f .«tap_count») most (omega arith)
-
-  fine-is : (most : ℕ) → mostTaps ≤ most → fine most es ≡ true
-  unfolding fine
-  fine-is most h = rw (few-taps most h, line-back, g .0, written-is)
+  written-is₈ : written es₈ ≡ true
+  unfolding written thinEntries
+  written-is₈ = rw settings-are₈ fields-are
 
   -- ---- so it is taken up
 
-  -- as it was, by any panel whose FIR limit is the line's
-  pub taken-back : (v : Panel) → mostTaps ≤ v .mostTaps → takenUp v (parkedLine v l) ≡ record { number = 0; state = l }
+  -- what is asked of entries that are taken up as the line
+  record Stand (v : Panel) (e : List (List ℕ)) : Type 0 where
+    small-enough : Small e
+    in-shape : shaped v e ≡ true
+    settings : settingsOf (entryOf e 0) ≡ q
+    back : lineFrom e ≡ l
+    fields : written e ≡ true
+
+  stand-by : (v : Panel) → v .thinning ≡ true → (k : Thinning) → l .thinning ≡ k → ThinWholeBy k d ns → Stand v (entriesBy k d ns f s p (l .cuts))
+  unfolding entriesBy
+  stand-by v h thinning.Integrators e t =
+      record {
+        small-enough = small t;
+        in-shape = seven-shaped v q fits es (unfold entriesOf in refl) (unfold entriesOf in refl) (lengths-are t);
+        settings = settings-are;
+        back = line-back e t;
+        fields = written-is;
+      }
+  stand-by v h thinning.Neighbours e t =
+      record {
+        small-enough = small₈ t;
+        in-shape = eight-shaped v h q fits es₈ (unfold thinEntries in refl) (unfold thinEntries in refl) (lengths-are₈ t);
+        settings = settings-are₈;
+        back = line-back₈ e t;
+        fields = written-is₈;
+      }
+
+  entries-are : lineEntries l ≡ entriesBy (l .thinning) d ns f s p (l .cuts)
+  unfolding lineEntries
+  entries-are = rw (fir-on-is f (w .fir), resampler-on-is p (w .resampler))
+
+  few-taps : (most : ℕ) → mostTaps ≤ most → (e : List (List ℕ)) → settingsOf (entryOf e 0) ≡ q → leb (settingsOf (entryOf e 0) .taps) most ≡ true
+  unfolding settingsIn
+  few-taps most h e z = let b = fn .taps in ap (λ (k : Settings). leb (k .taps) most) z ∙ le-leb (f .«tap_count») most (omega arith)
+
+  fine-is : (v : Panel) (most : ℕ) → mostTaps ≤ most → (e : List (List ℕ)) → Stand v e → fine most e ≡ true
+  unfolding fine
+  fine-is v most h e z = rw (few-taps most h e (z .settings), z .back, g .0, z .fields)
+
+  -- as it was, by any panel that knows both kinds and whose FIR limit is the line's
+  pub taken-back : (v : Panel) → mostTaps ≤ v .mostTaps → v .thinning ≡ true → takenUp v (parkedLine v l) ≡ record { number = 0; state = l }
   unfolding takenUp takenUpNumber parkedLine
-  taken-back v h =
-      let n : takeUpNumber fine v (parked (v .rule) es) ≡ 0 = taken-up fine v es small (shaped-is v) (fine-is (v .mostTaps) h) in
-      rw (entries-are, n, entries-back (v .rule) es small, line-back)
+  taken-back v h t =
+      let e = entriesBy (l .thinning) d ns f s p (l .cuts) in
+      let z = stand-by v t (l .thinning) refl (w .thinner) in
+      let n : takeUpNumber fine v (parked (v .rule) e) ≡ 0 = taken-up fine v e (z .small-enough) (z .in-shape) (fine-is v (v .mostTaps) h e z) in
+      rw (entries-are, n, entries-back (v .rule) e (z .small-enough), z .back)
 
   pub parks-all : (v : Panel) (places : ℕ) → length (parkedLine v l) ≤ places → parkNumber v l places ≡ 0
   unfolding parkNumber
@@ -331,10 +388,10 @@ sheet-in v l span e = rw e (take-at (parkedLine v l) (drop (length (parkedLine v
 
 -- ---- histories
 
-module _ (v : Panel) (limit : mostTaps ≤ v .mostTaps) (o : Opening) (zero-number : opened o .number ≡ 0) (ty : Typed o) where
+module _ (v : Panel) (limit : mostTaps ≤ v .mostTaps) (both : v .thinning ≡ true) (o : Opening) (zero-number : opened o .number ≡ 0) (ty : Typed o) where
   -- one parking more
   back-from : (h : D.History) (span : List ℕ) → parkNumber v (D.lineOf o h) (length span) ≡ 0 → takenUp v (sheetIn v (D.lineOf o h) span) ≡ record { number = 0; state = D.lineOf o h }
-  back-from h span e = ap (takenUp v) (sheet-in v (D.lineOf o h) span e) ∙ taken-back (D.lineOf o h) (sound-at o zero-number ty h) v limit
+  back-from h span e = ap (takenUp v) (sheet-in v (D.lineOf o h) span e) ∙ taken-back (D.lineOf o h) (sound-at o zero-number ty h) v limit both
 
   stays : (h : D.History) (span : List ℕ) (b : Bool) → eqb (parkNumber v (D.lineOf o h) (length span)) 0 ≡ b → cond b (takenUp v (sheetIn v (D.lineOf o h) span) .state) (D.lineOf o h) ≡ D.lineOf o h
   stays h span true e = ap (λ (r : Opened Line). r .state) (back-from h span (eqb-true (parkNumber v (D.lineOf o h) (length span)) 0 e))

@@ -3,7 +3,7 @@
 use mathlib.Core.Path.{_≡_, refl, sym, ap, _∙_, subst}
 use mathlib.Core.Bool.{Bool, true, false, cond}
 use mathlib.Core.List.{List, [], _∷_}
-use Prim.Native.Nat.{ℕ, zero, suc, _+_, _-_, _≤_, _<_}
+use Prim.Native.Nat.{ℕ, zero, suc, _+_, _*_, _-_, _≤_, _<_}
 use native.Mathlib.Omega.{arith}
 use native.Mathlib.Decide.{decLt}
 use borrow.Author.Tests.{eq-eqb, ltb-false}
@@ -15,17 +15,28 @@ use lib.Seq.{length-take-le}
 use mir.Syntax.{w16, w32}
 use mir.Val.{SFits}
 use Rattle.theory.proofs.Wrap.{wrap-fits}
-use Rattle.integer.specs.Stages.{row, integrated, combed}
-use Rattle.integer.specs.CicDecimator.{decimatorOf, decimator, waits}
+use Rattle.integer.specs.Stages.{integrated, combed}
+use Rattle.integer.specs.CicDecimator.{decimatorOf, fresh, decimator, waits}
 use Rattle.integer.specs.declared.cic_decimator.CicDecimator.{CicDecimator}
 use Rattle.integer.proofs.Row.{long-kept}
+use Rattle.integer.proofs.Within.{and-true, stages-within, factor-within}
+use Rattle.nonrecursive.specs.NonrecursiveDecimator.{halvings, thinned, nonrecursive, mostNeighbours}
+use Rattle.nonrecursive.specs.EitherKind.{Thinner, either}
+use Rattle.nonrecursive.specs.EitherKind as E
+use Rattle.nonrecursive.specs.declared.thinning.Thinning.{Thinning}
+use Rattle.nonrecursive.specs.declared.thinning.Thinning.the-variants as thinning
+use Rattle.nonrecursive.proofs.EitherKind.{accepted, either-settings, either-below}
 use Rattle.q15.specs.Fixed.{cut}
 use Rattle.q15.specs.FirDecimator.{mostTaps, firZeros, firState, stored, moved, firNext}
 use Rattle.q15.specs.FirDecimator as Q
 use Rattle.q15.specs.declared.fir_decimator.FirDecimator.{FirDecimator}
 use Rattle.q15.proofs.FirSteps.{On, valid-on, line-valid}
+use Rattle.theory.specs.Wrap.{wrap}
 use Rattle.parking.specs.Fields.{All}
+use Rattle.parking.specs.Parked.{neighbourCount}
 use Rattle.parking.proofs.Fields.{all-take, all-drop, all-append, all-set, all-replicate}
+use Rattle.parking.proofs.Thinned.{few-neighbours, thinned-long, thinned-typed, thinned-behind}
+use Rattle.parking.proofs.Fronts.{row-typed, row-value}
 use Rattle.parking.proofs.Behind.{integrators-behind, combs-behind, stored-behind, moved-behind}
 
 -- a list of m places of which n are used
@@ -51,18 +62,6 @@ used-fresh P z n m p = record { long = length-replicate m z; rest = drop-replica
 pub record CicWhole (d : CicDecimator) : Type 0 where
   pub integrators : Used (SFits w32) (pos 0) (d .stages) 8 (d .«integrator_state»)
   pub combs : Used (SFits w32) (pos 0) (d .stages) 8 (d .«comb_state»)
-
--- a row whose values G become states P
-row-typed : {A : Type 0} (P G : A → Type 0) (keep out : A → A → A) → ((a v : A) → G v → P (keep a v)) → ((a v : A) → G v → G (out a v)) → (n : ℕ) (s : List A) (v : A) → All P s → G v
-    → All P (row keep out n s v .state)
-row-typed P G keep out k o zero s v a p = a
-row-typed P G keep out k o (suc n) [] v a p = tt
-row-typed P G keep out k o (suc n) (x ∷ s) v a p = (k x v p, row-typed P G keep out k o n s (out x v) (a .1) (o x v p))
-
-row-value : {A : Type 0} (P : A → Type 0) (keep out : A → A → A) → ((a v : A) → P (out a v)) → (n : ℕ) (s : List A) (v : A) → P v → P (row keep out n s v .val)
-row-value P keep out o zero s v p = p
-row-value P keep out o (suc n) [] v p = p
-row-value P keep out o (suc n) (x ∷ s) v p = row-value P keep out o n s (out x v) (o x v)
 
 integrated-typed : (N : ℕ) (s : List ℤ) (x : ℤ) → All (SFits w32) s → All (SFits w32) (integrated N s x .state)
 unfolding integrated
@@ -113,6 +112,60 @@ cic-whole d x n w = go (waits d)
     go true = record { integrators = ints; combs = w .combs }
     go false = record { integrators = ints; combs = cs }
 
+-- of either kind: the arrays of the other are zeros
+abbrev pub ThinWholeBy : Thinning → CicDecimator → List ℤ → Type 0
+ThinWholeBy thinning.Integrators d n = CicWhole d × (n ≡ replicate mostNeighbours (pos 0))
+ThinWholeBy thinning.Neighbours d n =
+    (d .«integrator_state» ≡ replicate 8 (pos 0)) × ((d .«comb_state» ≡ replicate 8 (pos 0)) × Used (SFits w32) (pos 0) (neighbourCount (d .stages) (d .r)) mostNeighbours n)
+
+abbrev pub ThinWhole : Thinner → Type 0
+ThinWhole t = ThinWholeBy (t .kind) (t .cic) (t .neighbours)
+
+-- the numbers of a section 1 that is not refused
+pub record ThinNumbers (d : CicDecimator) : Type 0 where
+  pub some : 0 < d .stages
+  pub stages : d .stages ≤ 8
+  pub r : d .r ≤ 4096
+  pub counter : d .«sample_counter» < 65536
+
+pub thin-numbers : (t : Thinner) → E.fine t ≡ true → ThinNumbers (t .cic)
+thin-numbers t v =
+    let a = accepted (t .kind) (t .cic .stages) (t .cic .r) (either-settings t v) in
+    let n = stages-within (t .cic .stages) (a .stages) in
+    let f = factor-within (t .cic .r) (a .factor) in
+    let b = either-below (t .kind) (t .cic .stages) (t .cic .r) (t .cic .«sample_counter») (unfold E.fine in and-true (E.validAt (t .kind) (t .cic .stages) (t .cic .r) (t .cic .«sample_counter»)) _ v .0) in
+    record { some = omega arith; stages = n .1; r = f .1; counter = omega arith }
+
+next-whole : (k : Thinning) (d : CicDecimator) (n : List ℤ) (x : ℤ) → ThinNumbers d → ThinWholeBy k d n → ThinWhole (either .next (record { kind = k; cic = d; neighbours = n }) x)
+unfolding either nonrecursive
+next-whole thinning.Integrators d n x b w = (cic-whole d x (b .some) (w .0), w .1)
+next-whole thinning.Neighbours d n x b w = (w .0, (w .1 .0, used-kept (neighbourCount N (d .r)) 96 n after (w .1 .1) (thinned-long N m n c v) front (thinned-typed N m n c v (w .1 .1 .typed) (wrap-fits w32 x))))
+  where
+    N : ℕ
+    N = d .stages
+
+    m : ℕ
+    m = halvings (d .r)
+
+    c : ℕ
+    c = d .«sample_counter»
+
+    v : ℤ
+    v = wrap w32 x
+
+    after : List ℤ
+    after = thinned N m n c v .state
+
+    front : drop (neighbourCount N (d .r)) after ≡ drop (neighbourCount N (d .r)) n
+    front = unfold neighbourCount in thinned-behind N m n c v (let h = few-neighbours N (d .r) (b .stages) (b .r) in let l = w .1 .1 .long in let q : N * m ≤ length n = unfold neighbourCount in omega arith in q)
+
+pub thin-whole : (t : Thinner) (x : ℤ) → E.fine t ≡ true → ThinWhole t → ThinWhole (either .next t x)
+thin-whole t x v w = next-whole (t .kind) (t .cic) (t .neighbours) x (thin-numbers t v) w
+
+pub thin-fresh : (k : Thinning) (N r : ℕ) → SFits w32 (pos 0) → ThinWholeBy k (fresh N r) (replicate mostNeighbours (pos 0))
+thin-fresh thinning.Integrators N r z = (record { integrators = used-fresh (SFits w32) (pos 0) N 8 z; combs = used-fresh (SFits w32) (pos 0) N 8 z }, refl)
+thin-fresh thinning.Neighbours N r z = (refl, (refl, used-fresh (SFits w32) (pos 0) (neighbourCount N r) mostNeighbours z))
+
 -- ---- section 2
 
 pub cut-fits : (z : ℤ) → SFits w16 (cut w16 z)
@@ -135,7 +188,7 @@ pub record FirWhole (s : FirDecimator) : Type 0 where
   pub delay : Used (SFits w16) (pos 0) (s .«tap_count») mostTaps (s .delay)
   pub off : s .«tap_count» ≡ 0 → s ≡ firZeros
 
-stored-long : (T w : ℕ) (x : ℤ) (d : List ℤ) → length (stored T w x d) ≡ length d
+pub stored-long : (T w : ℕ) (x : ℤ) (d : List ℤ) → length (stored T w x d) ≡ length d
 unfolding stored
 stored-long T w x d = go (leb w T)
   where
@@ -143,7 +196,7 @@ stored-long T w x d = go (leb w T)
     go true = length-set d (T - w) x
     go false = refl
 
-moved-long : (T D : ℕ) (d : List ℤ) → T ≤ length d → length (moved T D d) ≡ length d
+pub moved-long : (T D : ℕ) (d : List ℤ) → T ≤ length d → length (moved T D d) ≡ length d
 unfolding moved
 moved-long T D d h =
     let f : length (take (T - D) (drop D d)) ≡ T - D = length-take-le (T - D) (drop D d) (rw (length-drop D d) (omega arith)) in

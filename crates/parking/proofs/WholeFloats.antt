@@ -17,7 +17,7 @@ use Rattle.half_band.specs.HbfTaps.{hbfTaps, stageTaps, decimation}
 use Rattle.half_band.specs.Windows.{slid, decValue}
 use Rattle.half_band.specs.HbfStream.{Half, half, stageIn, withStage, through, stream, hbfStream}
 use Rattle.half_band.specs.declared.hbf_stream.HbfStream.{HbfStream}
-use Rattle.half_band.proofs.Stages.{Sized, sized-through}
+use Rattle.half_band.proofs.Stages.{Sized, sized-with, sized-through}
 use Rattle.half_band.proofs.StageTables.{dec-stages}
 use Rattle.half_band.proofs.Streaming.{depth-next}
 use Rattle.float.specs.F32.{zero32}
@@ -27,7 +27,7 @@ use Rattle.float.specs.declared.polyphase_resamp.PolyphaseResampF32.{PolyphaseR
 use Rattle.parking.specs.Entries.{windowOf}
 use Rattle.parking.specs.Fields.{All, IsFloat}
 use Rattle.parking.proofs.Fields.{all-take, all-drop, all-append, all-set, all-getD}
-use Rattle.parking.proofs.Behind.{shifted-behind, Beside, beside-through}
+use Rattle.parking.proofs.Behind.{shifted-behind, Beside, beside-with, beside-through}
 use Rattle.parking.proofs.Whole.{Used, used-kept}
 
 -- ---- section 4
@@ -96,7 +96,7 @@ pub record StreamTyped (s : HbfStream) : Type 0 where
   pub held : All IsFloat (s .held)
 
 module _ (taps : ℕ → List Float) where
-  stage-typed : (k : ℕ) (s : HbfStream) → StreamTyped s → HalfTyped (stageIn taps k s)
+  pub stage-typed : (k : ℕ) (s : HbfStream) → StreamTyped s → HalfTyped (stageIn taps k s)
   unfolding stageIn
   stage-typed k s t =
       record {
@@ -144,6 +144,45 @@ module _ (taps : ℕ → List Float) where
       through-counts n (suc k) (half (taps k) .out (stageIn taps k s) x) (withStage taps k (half (taps k) .next (stageIn taps k s) x) s) m (omega arith)
       ∙ drop-set-lt m (s .counts) k (half (taps k) .next (stageIn taps k s) x .count) (omega arith)
 
+-- what n stages leave alone: the gap behind each window, and all behind the stages
+module _ (n : ℕ) (few : n ≤ 5) where
+  beside-gap : (j : ℕ) → j < 5 → (i : ℕ) → i < n → Beside c5 dec-stages (96 * j + windowOf j) (96 - windowOf j) i
+  unfolding Beside
+  beside-gap j h i b = elim (decLe i j) [
+    | yes l ↦ inr (elim (decLt i j) [
+      | yes m ↦ (let q : 96 * i + 4 * length (stageTaps decimation i) ≤ 96 * j + windowOf j = omega (arith, dec-stages .most i (let k : i < 5 = omega arith in k)) in q)
+      | no m ↦ (let e : i ≡ j = omega arith in let q : 96 * i + 4 * length (stageTaps decimation i) ≤ 96 * j + windowOf j = rw (e, window-is j h) (omega arith) in q)
+    ])
+    | no l ↦ inl (let q : 96 * j + windowOf j + (96 - windowOf j) ≤ 96 * i = omega (arith, window-most j h) in q)
+  ]
+
+  beside-rest : (i : ℕ) → i < n → Beside c5 dec-stages (96 * n) (480 - 96 * n) i
+  unfolding Beside
+  beside-rest i b = inr (let q : 96 * i + 4 * length (stageTaps decimation i) ≤ 96 * n = omega (arith, dec-stages .most i (let k : i < 5 = omega arith in k)) in q)
+
+  all-of : (l : List Float) → length l ≡ 480 → take (480 - 96 * n) (drop (96 * n) l) ≡ drop (96 * n) l
+  all-of l e = take-all (480 - 96 * n) (drop (96 * n) l) (rw (length-drop (96 * n) l, e) (omega arith))
+
+  -- a stage put in, of those that are used
+  pub with-used : (k : ℕ) (h : Half) (s : HbfStream) → k < n → HalfTyped h → length (h .window) ≡ 4 * length (stageTaps decimation k) → HalfUsed n s → HalfUsed n (withStage c5 k h s)
+  unfolding withStage
+  with-used k h s l t e w =
+      let in-range : k < 5 = omega arith in
+      let z = sized-with c5 dec-stages k h s in-range (w .sized) e in
+      let typed : StreamTyped (withStage c5 k h s) = with-typed c5 k h s t (record { delays = w .delays-typed; held = w .held-typed }) in
+      record {
+        sized = z;
+        gaps = λ j a b. beside-with c5 dec-stages k s in-range (w .sized) h e (96 * j + windowOf j) (96 - windowOf j) (beside-gap j b k l) ∙ w .gaps j a b;
+        behind =
+            sym (all-of (withStage c5 k h s .delays) (z .delays))
+            ∙ beside-with c5 dec-stages k s in-range (w .sized) h e (96 * n) (480 - 96 * n) (beside-rest k l)
+            ∙ all-of (s .delays) (w .sized .delays) ∙ w .behind;
+        held-rest = drop-set-lt n (s .held) k (h .held) l ∙ w .held-rest;
+        counts-rest = drop-set-lt n (s .counts) k (h .count) l ∙ w .counts-rest;
+        delays-typed = typed .delays;
+        held-typed = typed .held;
+      }
+
 module _ (s : HbfStream) (x : Float) (n : ℕ) (few : n ≤ 5) (p : IsFloat x) (w : HalfUsed n s) where
   abbrev s′ : HbfStream
   s′ = through c5 n 0 (some x) s .state
@@ -154,33 +193,16 @@ module _ (s : HbfStream) (x : Float) (n : ℕ) (few : n ≤ 5) (p : IsFloat x) (
   sized′ : Sized s′
   sized′ = sized-through c5 dec-stages n 0 (some x) s few′ (w .sized)
 
-  beside-gap : (j : ℕ) → j < 5 → (i : ℕ) → 0 ≤ i → i < 0 + n → Beside c5 dec-stages (96 * j + windowOf j) (96 - windowOf j) i
-  unfolding Beside
-  beside-gap j h i a b = elim (decLe i j) [
-    | yes l ↦ inr (elim (decLt i j) [
-      | yes m ↦ (let q : 96 * i + 4 * length (stageTaps decimation i) ≤ 96 * j + windowOf j = omega (arith, dec-stages .most i (let k : i < 5 = omega arith in k)) in q)
-      | no m ↦ (let e : i ≡ j = omega arith in let q : 96 * i + 4 * length (stageTaps decimation i) ≤ 96 * j + windowOf j = rw (e, window-is j h) (omega arith) in q)
-    ])
-    | no l ↦ inl (let q : 96 * j + windowOf j + (96 - windowOf j) ≤ 96 * i = omega (arith, window-most j h) in q)
-  ]
-
-  beside-rest : (i : ℕ) → 0 ≤ i → i < 0 + n → Beside c5 dec-stages (96 * n) (480 - 96 * n) i
-  unfolding Beside
-  beside-rest i a b = inr (let q : 96 * i + 4 * length (stageTaps decimation i) ≤ 96 * n = omega (arith, dec-stages .most i (let k : i < 5 = omega arith in k)) in q)
-
-  all-of : (l : List Float) → length l ≡ 480 → take (480 - 96 * n) (drop (96 * n) l) ≡ drop (96 * n) l
-  all-of l e = take-all (480 - 96 * n) (drop (96 * n) l) (rw (length-drop (96 * n) l, e) (omega arith))
-
   through-used : HalfUsed n s′
   through-used =
       let typed : StreamTyped s′ = through-typed c5 n 0 (some x) s p (record { delays = w .delays-typed; held = w .held-typed }) in
       record {
         sized = sized′;
-        gaps = λ j a h. beside-through c5 dec-stages n 0 (some x) s few′ (w .sized) (96 * j + windowOf j) (96 - windowOf j) (beside-gap j h) ∙ w .gaps j a h;
+        gaps = λ j a h. beside-through c5 dec-stages n 0 (some x) s few′ (w .sized) (96 * j + windowOf j) (96 - windowOf j) (λ i u v. beside-gap n few j h i (omega arith)) ∙ w .gaps j a h;
         behind =
-            sym (all-of (s′ .delays) (sized′ .delays))
-            ∙ beside-through c5 dec-stages n 0 (some x) s few′ (w .sized) (96 * n) (480 - 96 * n) beside-rest
-            ∙ all-of (s .delays) (w .sized .delays) ∙ w .behind;
+            sym (all-of n few (s′ .delays) (sized′ .delays))
+            ∙ beside-through c5 dec-stages n 0 (some x) s few′ (w .sized) (96 * n) (480 - 96 * n) (λ i u v. beside-rest n few i (omega arith))
+            ∙ all-of n few (s .delays) (w .sized .delays) ∙ w .behind;
         held-rest = through-held c5 n 0 (some x) s n (omega arith) ∙ w .held-rest;
         counts-rest = through-counts c5 n 0 (some x) s n (omega arith) ∙ w .counts-rest;
         delays-typed = typed .delays;
@@ -207,7 +229,7 @@ pub record ResamplerWhole (s : PolyphaseResampF32) : Type 0 where
   pub step : IsFloat (s .step)
   pub off : s .phases ≡ 0 → s ≡ R.zeros
 
-shifted-long : (T : ℕ) (x : Float) (l : List Float) → T ≤ length l → length (shiftedIn T x l) ≡ length l
+pub shifted-long : (T : ℕ) (x : Float) (l : List Float) → T ≤ length l → length (shiftedIn T x l) ≡ length l
 unfolding shiftedIn
 shifted-long T x l h = go (leb T 16)
   where

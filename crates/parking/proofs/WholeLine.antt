@@ -21,10 +21,8 @@ use Rattle.theory.specs.Machines.{Machine, before, nextFor}
 use Rattle.theory.specs.Feeds as F
 use Rattle.theory.specs.Tally.{heldSum}
 use Rattle.theory.proofs.FeedRules.{feed-keeps}
-use Rattle.integer.specs.CicDecimator.{scaledDecimator}
-use Rattle.integer.specs.CicDecimator as C
-use Rattle.integer.specs.declared.cic_decimator.CicDecimator.{CicDecimator}
-use Rattle.integer.proofs.Within.{stages-within, sound}
+use Rattle.nonrecursive.specs.EitherKind.{either}
+use Rattle.nonrecursive.specs.EitherKind as E
 use Rattle.q15.specs.Fixed.{cut}
 use Rattle.q15.specs.FirDecimator.{mostTaps, fir, firZeros, firState, padded, settingsNumberInLine}
 use Rattle.q15.specs.FirDecimator as Q
@@ -39,7 +37,7 @@ use Rattle.float.specs.PolyphaseResamp.{inLine, inLimits, within, isOn, validIn
 use Rattle.float.specs.PolyphaseResamp as R
 use Rattle.float.specs.declared.polyphase_resamp.PolyphaseResampF32.{PolyphaseResampF32}
 use Rattle.line.specs.Outputs.{Opening, mostCuts}
-use Rattle.line.specs.Line.{Parts, partsOf, cutsAt, from3, from4, from5, chain, line, cicFine, halfBandFine, valid, resamplerFresh, fresh, opened}
+use Rattle.line.specs.Line.{Parts, thinnerOf, partsOf, cutsAt, from3, from4, from5, chain, line, halfBandFine, valid, resamplerFresh, fresh, opened}
 use Rattle.line.specs.Demand3.{History, none-yet, fed, lineOf}
 use Rattle.line.specs.declared.gauge_line.Line.{Line}
 use Rattle.line.proofs.Flags.{and-left, and-right, not-says}
@@ -50,7 +48,7 @@ use Rattle.parking.specs.Entries.{windowOf}
 use Rattle.parking.specs.Between.{Typed}
 use Rattle.parking.specs.Fields.{All, IsFloat}
 use Rattle.parking.proofs.Fields.{all-append, all-replicate}
-use Rattle.parking.proofs.Whole.{Used, used-fresh, CicWhole, cic-whole, cut-fits, FirWhole, fir-whole}
+use Rattle.parking.proofs.Whole.{Used, used-fresh, ThinWhole, thin-whole, thin-fresh, cut-fits, FirWhole, fir-whole}
 use Rattle.parking.proofs.WholeFloats.{HalfWhole, Given, half-whole, half-out, ResamplerWhole, passed-whole, consumed-whole, window-most}
 
 -- ---- what a machine keeps of its fine states, for values that are `In`
@@ -146,35 +144,31 @@ keeps2 : Keeps (before {S = Unit {0}} (each (cut w16)) from3) (λ z. Unit {0}) (
 keeps2 =
     keeps-before (each (cut w16)) from3 (λ z. Unit {0}) (SFits w16) (λ s. Unit {0}) (λ s. Unit {0}) Fine3 Whole3 (λ s a f w i. tt) (λ s a i. cut-fits a) keeps3
 
-pub cic-stages : (d : CicDecimator) → cicFine d ≡ true → (0 < d .stages) × (d .stages ≤ 8)
-unfolding cicFine
-cic-stages d v = let s = stages-within (d .stages) (sound (d .stages) (d .r) (d .«sample_counter») (and-left (C.valid d) _ v) .stages) in (omega arith, s .1)
-
 abbrev Fine1 : Parts → Type 0
-Fine1 p = (cicFine (p .0) ≡ true) × (Unit {0} × Fine3 (p .1 .1))
+Fine1 p = (E.fine (p .0) ≡ true) × (Unit {0} × Fine3 (p .1 .1))
 
 abbrev Whole1 : Parts → Type 0
-Whole1 p = CicWhole (p .0) × (Unit {0} × Whole3 (p .1 .1))
+Whole1 p = ThinWhole (p .0) × (Unit {0} × Whole3 (p .1 .1))
 
 keeps1 : Keeps chain (λ z. Unit {0}) Fine1 Whole1
 keeps1 =
-    keeps-before scaledDecimator (before (each (cut w16)) from3) (λ z. Unit {0}) (λ z. Unit {0}) (λ d. cicFine d ≡ true) CicWhole (λ p. Unit {0} × Fine3 (p .1)) (λ p. Unit {0} × Whole3 (p .1))
-    (λ d x v w i. unfold scaledDecimator in cic-whole d x (cic-stages d v .0) w) (λ d x i. any (scaledDecimator .out d x)) keeps2
+    keeps-before either (before (each (cut w16)) from3) (λ z. Unit {0}) (λ z. Unit {0}) (λ t. E.fine t ≡ true) ThinWhole (λ p. Unit {0} × Fine3 (p .1)) (λ p. Unit {0} × Whole3 (p .1))
+    (λ t x v w i. thin-whole t x v w) (λ t x i. any (either .out t x)) keeps2
 
 -- ---- the line
 
 pub record LineWhole (l : Line) : Type 0 where
-  pub cic : CicWhole (l .cic)
+  pub thinner : ThinWhole (thinnerOf l)
   pub fir : FirWhole (l .fir)
   pub half-band : HalfWhole (l .«half_band»)
   pub resampler : ResamplerWhole (l .resampler)
   pub cuts : l .cuts ≤ mostCuts
 
 of-parts : (l : Line) → Whole1 (partsOf l) → l .cuts ≤ mostCuts → LineWhole l
-of-parts l w c = record { cic = w .0; fir = w .1 .1 .0; half-band = w .1 .1 .1 .1 .0; resampler = w .1 .1 .1 .1 .1; cuts = c }
+of-parts l w c = record { thinner = w .0; fir = w .1 .1 .0; half-band = w .1 .1 .1 .1 .0; resampler = w .1 .1 .1 .1 .1; cuts = c }
 
 parts-of : (l : Line) → LineWhole l → Whole1 (partsOf l)
-parts-of l w = (w .cic, (tt, (w .fir, (tt, (w .half-band, w .resampler)))))
+parts-of l w = (w .thinner, (tt, (w .fir, (tt, (w .half-band, w .resampler)))))
 
 abbrev pub Sound : Line → Type 0
 Sound l = (valid l ≡ true) × LineWhole l
@@ -197,13 +191,13 @@ sound-feed = feed-keeps line Sound sound-after sound-next
 
 -- ---- openings
 
-zero-i32 : SFits w32 (pos 0)
+pub zero-i32 : SFits w32 (pos 0)
 zero-i32 = record { sfits = omega arith }
 
-zero-i16 : SFits w16 (pos 0)
+pub zero-i16 : SFits w16 (pos 0)
 zero-i16 = record { sfits = omega arith }
 
-zero-f32 : IsFloat zero32
+pub zero-f32 : IsFloat zero32
 zero-f32 = ofBits-fits binary32 0
 
 -- values in front, and zeros behind
@@ -215,7 +209,7 @@ padded-used P z m s h a p =
       typed = all-append P s (replicate (m - length s) z) a (all-replicate P (m - length s) z p);
     }
 
-zeros-whole : FirWhole firZeros
+pub zeros-whole : FirWhole firZeros
 zeros-whole = record { taps = used-fresh (SFits w16) (pos 0) 0 mostTaps zero-i16; delay = used-fresh (SFits w16) (pos 0) 0 mostTaps zero-i16; off = λ z. refl }
 
 fir-fresh : (c : List ℤ) (D : ℕ) → settingsNumberInLine (length c) D ≡ 0 → All (SFits w16) c → FirWhole (Q.freshInLine c D)
@@ -229,7 +223,7 @@ fir-fresh c D e a = go (eqb (length c) 0) refl
         let i = settings-in (length c) D (line-settings (length c) D n e) in
         record { taps = padded-used (SFits w16) (pos 0) mostTaps c (i .few) a zero-i16; delay = used-fresh (SFits w16) (pos 0) (length c) mostTaps zero-i16; off = λ z. absurd (n z) }
 
-resampler-off : ResamplerWhole R.zeros
+pub resampler-off : ResamplerWhole R.zeros
 unfolding R.zeros
 resampler-off =
     record {
@@ -245,7 +239,7 @@ take-replicate zero m z h = refl
 take-replicate (suc n) zero z h = absurd (omega arith)
 take-replicate (suc n) (suc m) z h = ap (λ (l : List _). z ∷ l) (take-replicate n m z (omega arith))
 
-half-fresh : (n : ℕ) → HalfWhole (streamFresh n)
+pub half-fresh : (n : ℕ) → HalfWhole (streamFresh n)
 half-fresh n =
     record {
       sized = record { delays = refl; held = refl; counts = refl };
@@ -279,7 +273,7 @@ module _ (o : Opening) (acc : Accepted o) (ty : Typed o) where
   unfolding fresh resamplerFresh
   fresh-whole =
       record {
-        cic = record { integrators = used-fresh (SFits w32) (pos 0) (o .settings .stages) 8 zero-i32; combs = used-fresh (SFits w32) (pos 0) (o .settings .stages) 8 zero-i32 };
+        thinner = thin-fresh (o .settings .thinning) (o .settings .stages) (o .settings .r) zero-i32;
         fir = fir-fresh (o .taps) (o .settings .factor) (acc .filter) (ty .taps);
         half-band = half-fresh (o .settings .depth);
         resampler = go (eqb (o .settings .phases) 0) refl;

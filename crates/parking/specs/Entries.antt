@@ -1,5 +1,5 @@
--- 02, request 6: the seven entries of a line, "settings with the cut count, CIC, FIR taps, FIR delay, half-band delays, prototype, resampler", and the line that entries
--- stand for. Both go by the same places (docs/parking.md has them as a table).
+-- 02, request 6: the seven entries of a line, "settings with the cut count, CIC, FIR taps, FIR delay, half-band delays, prototype, resampler"; request 13: the eight of one
+-- that sums neighbours; and the line that entries stand for. Both ways go by the same places (docs/parking.md has them as a table).
 use mathlib.Core.Bool.{Bool, true, cond, _&&_}
 use mathlib.Core.List.{List, [], _∷_, _++_}
 use Prim.Native.Nat.{ℕ, zero, suc, _+_, _*_, min}
@@ -7,9 +7,11 @@ use lib.Dec.{leb, eqb}
 use lib.IntN.{ℤ, pos}
 use lib.Ieee.{Float, binary32, toBits, ofBits}
 use lib.ListN.{length, getD, set, take, drop, replicate}
-use Rattle.integer.specs.CicDecimator as C
-use Rattle.integer.specs.Gain.{gainBits, mostBits}
+use Rattle.integer.specs.CicDecimator.{decimatorOf}
 use Rattle.integer.specs.declared.cic_decimator.CicDecimator.{CicDecimator}
+use Rattle.nonrecursive.specs.NonrecursiveDecimator.{mostNeighbours}
+use Rattle.nonrecursive.specs.declared.thinning.Thinning.{Thinning}
+use Rattle.nonrecursive.specs.declared.thinning.Thinning.the-variants as thinning
 use Rattle.q15.specs.FirDecimator.{mostTaps, firZeros}
 use Rattle.q15.specs.declared.fir_decimator.FirDecimator.{FirDecimator}
 use Rattle.half_band.specs.declared.hbf_stream.HbfStream.{HbfStream}
@@ -21,7 +23,7 @@ use Rattle.line.specs.declared.gauge_line.Line.{Line}
 use Rattle.sheet.specs.Sheet.{le16, le32, bytes16}
 use Rattle.sheet.specs.Laid.{laid}
 use Rattle.parking.specs.Fields.{i16Bytes, i32Bytes, f32Bytes, joined, i16At, i32At, f32At, valuesAt, isFloat, floatsAt}
-use Rattle.parking.specs.Parked.{Settings, settingsBytes, settingsOf, halfBandBytes}
+use Rattle.parking.specs.Parked.{Settings, settingsBytes, settingsOf, halfBandBytes, neighbourCount}
 
 -- "A part that is off is parked as zeros, settings too"
 unfoldable pub firOn : FirDecimator → FirDecimator
@@ -81,8 +83,22 @@ entriesOf d f s p cuts =
     settingsBytes (settingsIn d f (s .depth) p cuts)
     ∷ cicBytes d ∷ tapBytes f ∷ delayBytes f ∷ stagesBytes s (min (s .depth) 5) ∷ prototypeBytes p ∷ resamplerBytes p ∷ []
 
+-- "its place and then N neighbours for each halving"
+unfoldable pub neighboursBytes : CicDecimator → List ℤ → List ℕ
+neighboursBytes d neighbours = bytes16 (d .«sample_counter») ++ joined i32Bytes (take (neighbourCount (d .stages) (d .r)) neighbours)
+
+-- "parked in eight entries, the CIC one empty"
+unfoldable pub thinEntries : CicDecimator → List ℤ → FirDecimator → HbfStream → PolyphaseResampF32 → ℕ → List (List ℕ)
+thinEntries d neighbours f s p cuts =
+    settingsBytes (settingsIn d f (s .depth) p cuts)
+    ∷ [] ∷ tapBytes f ∷ delayBytes f ∷ stagesBytes s (min (s .depth) 5) ∷ prototypeBytes p ∷ resamplerBytes p ∷ neighboursBytes d neighbours ∷ []
+
+unfoldable pub entriesBy : Thinning → CicDecimator → List ℤ → FirDecimator → HbfStream → PolyphaseResampF32 → ℕ → List (List ℕ)
+entriesBy thinning.Integrators d neighbours f s p cuts = entriesOf d f s p cuts
+entriesBy thinning.Neighbours d neighbours f s p cuts = thinEntries d neighbours f s p cuts
+
 unfoldable pub lineEntries : Line → List (List ℕ)
-lineEntries l = entriesOf (l .cic) (firOn (l .fir)) (l .«half_band») (resamplerOn (l .resampler)) (l .cuts)
+lineEntries l = entriesBy (l .thinning) (l .cic) (l .neighbours) (firOn (l .fir)) (l .«half_band») (resamplerOn (l .resampler)) (l .cuts)
 
 -- ---- reading: each field at the place where it was written, and zeros behind those that the settings use
 
@@ -95,6 +111,13 @@ cicFrom q e =
       «comb_state» = laid 0 (valuesAt i32At 4 e (2 + 4 * q .stages) (q .stages)) (replicate 8 (pos 0));
       «sample_counter» = le16 e 0;
     }
+
+-- of a line that sums neighbours: the place, and integrators and combs, which are off, as zeros
+unfoldable pub placeFrom : Settings → List ℕ → CicDecimator
+placeFrom q e = decimatorOf (q .stages) (q .r) (replicate 8 (pos 0)) (replicate 8 (pos 0)) (le16 e 0)
+
+unfoldable pub neighboursFrom : Settings → List ℕ → List ℤ
+neighboursFrom q e = laid 0 (valuesAt i32At 4 e 2 (neighbourCount (q .stages) (q .r))) (replicate mostNeighbours (pos 0))
 
 unfoldable pub firFrom : Settings → List ℕ → List ℕ → FirDecimator
 firFrom q taps delay =
@@ -139,16 +162,26 @@ resamplerFrom q cells e =
 abbrev pub entryOf : List (List ℕ) → ℕ → List ℕ
 entryOf es k = getD es k []
 
-unfoldable pub lineFrom : List (List ℕ) → Line
-lineFrom es =
+-- section 1 as given, and the other parts from their entries
+unfoldable pub lineWith : Thinning → CicDecimator → List ℤ → List (List ℕ) → Line
+lineWith k d neighbours es =
     let q = settingsOf (entryOf es 0) in
     record {
-      cic = cicFrom q (entryOf es 1);
+      thinning = k;
+      cic = d;
+      neighbours = neighbours;
       fir = firFrom q (entryOf es 2) (entryOf es 3);
       «half_band» = halfBandFrom q (entryOf es 4);
       resampler = resamplerFrom q (entryOf es 5) (entryOf es 6);
       cuts = q .cuts;
     }
+
+-- the count of entries alone says which kind thins
+unfoldable pub lineFrom : List (List ℕ) → Line
+lineFrom es =
+    let q = settingsOf (entryOf es 0) in
+    cond (eqb (length es) 8) (lineWith thinning.Neighbours (placeFrom q (entryOf es 7)) (neighboursFrom q (entryOf es 7)) es)
+    (lineWith thinning.Integrators (cicFrom q (entryOf es 1)) (replicate mostNeighbours (pos 0)) es)
 
 -- ---- "then 15 as for any state, or for fields that no parking writes"
 

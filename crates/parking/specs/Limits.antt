@@ -12,6 +12,7 @@ use Rattle.parking.specs.Parked.{Settings}
 -- 01's limits, as far as lengths go
 pub record InLimits (q : Settings) : Type 0 where
   pub stages : q .stages ≤ 8
+  pub r : q .r ≤ 4096
   pub taps : q .taps ≤ mostTaps
   pub depth : q .depth ≤ 5
   pub phases : q .phases ≤ 64

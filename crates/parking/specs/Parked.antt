@@ -2,10 +2,11 @@
 -- an older one is the same definition at other limits.
 use mathlib.Core.Bool.{Bool, true, false, cond, _&&_}
 use mathlib.Core.List.{List, [], _∷_, _++_, map}
-use Prim.Native.Nat.{ℕ, zero, suc, _+_, _*_, _/_, _^_, min}
-use lib.Dec.{leb, eqb}
+use Prim.Native.Nat.{ℕ, _+_, _*_, min}
+use lib.Dec.{eqb}
 use lib.ListN.{length, getD}
 use Rattle.theory.specs.Lists.{listed}
+use Rattle.nonrecursive.specs.NonrecursiveDecimator.{halvings}
 use Rattle.sheet.specs.Sheet.{Rule, former, present, le16, le32, countOf, sheetNumber, partAt, bytes16, bytes32, written}
 
 -- what a panel knows: the line's FIR limit (request 7), the rule of its sheets (request 9), and whether it thins without integrators (request 13)
@@ -28,7 +29,7 @@ at13 = record { mostTaps = 128; rule = present; thinning = true }
 
 -- the panel whose code this is
 abbrev pub panel : Panel
-panel = at9
+panel = at13
 
 -- ---- entry 0, "settings with the cut count"
 
@@ -69,19 +70,18 @@ settingsOf e =
 unfoldable pub halfBandBytes : ℕ → ℕ
 halfBandBytes depth = getD (0 ∷ 54 ∷ 124 ∷ 210 ∷ 376 ∷ 750 ∷ []) (min depth 5) 0
 
--- "each halving of the factor, rounded down, that leaves at least 1", counted among the first n
-unfoldable pub halvingsOf : ℕ → ℕ → ℕ
-halvingsOf zero r = 0
-halvingsOf (suc n) r = cond (leb 1 (r / 2 ^ suc n)) 1 0 + halvingsOf n r
-
 unfoldable pub sizes : Settings → List ℕ
 sizes s =
     24 ∷ (2 + 8 * s .stages) ∷ (2 * s .taps) ∷ (2 + 2 * s .taps) ∷ halfBandBytes (s .depth) ∷ (4 * (s .phases * s .cells)) ∷ (4 + 4 * s .cells) ∷ []
 
--- request 13: "parked in eight entries, the CIC one empty, the last holding its place and then N neighbours for each halving"
+-- request 13: "parked in eight entries, the CIC one empty, the last holding its place and then N neighbours for each halving of the factor, rounded down, that leaves at
+-- least 1"
+unfoldable pub neighbourCount : ℕ → ℕ → ℕ
+neighbourCount N r = N * halvings r
+
 unfoldable pub thinSizes : Settings → List ℕ
 thinSizes s =
-    24 ∷ 0 ∷ (2 * s .taps) ∷ (2 + 2 * s .taps) ∷ halfBandBytes (s .depth) ∷ (4 * (s .phases * s .cells)) ∷ (4 + 4 * s .cells) ∷ (2 + 4 * (s .stages * halvingsOf 16 (s .r))) ∷ []
+    24 ∷ 0 ∷ (2 * s .taps) ∷ (2 + 2 * s .taps) ∷ halfBandBytes (s .depth) ∷ (4 * (s .phases * s .cells)) ∷ (4 + 4 * s .cells) ∷ (2 + 4 * neighbourCount (s .stages) (s .r)) ∷ []
 
 -- ---- the sheet
 

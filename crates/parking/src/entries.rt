@@ -112,3 +112,12 @@ pub(crate) fn put_resampler(span: &mut [u8], at: usize, mu: f32, n: usize, delay
     put32(span, at, word);
     put_f32s(span, at + 4, delay, 0, n);
 }
+
+// The neighbours' entry.
+pub(crate) fn put_neighbours(span: &mut [u8], at: usize, place: usize, n: usize, neighbours: &[i32])
+    requires { ⌜ (n ≤ 96) × (length (now neighbours) ≡ 96) × (at + (2 + 4 * n) ≤ length (now span)) ⌝ }
+    ensures { λ _. ⌜ now (span .exit) ≡ laid at (bytes16 place ++ joined i32Bytes (take n (now (neighbours .entry)))) (now (span .entry)) ⌝ }
+{
+    put16(span, at, place);
+    put_i32s(span, at + 2, neighbours, n);
+}

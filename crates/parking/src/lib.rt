@@ -3,6 +3,7 @@ mod entries;
 mod off;
 mod put;
 pub mod settings;
+mod thin;
 mod writing;
 
 pub use crate::writing::park;

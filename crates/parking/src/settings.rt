@@ -1,6 +1,8 @@
 // What stands in the settings entry, and the lengths that it makes.
 ghost use mathlib.Core.Path.{_≡_};
 ghost use mathlib.Core.Bool.{cond};
+ghost use Prim.Native.Nat.{_≤_};
+ghost use Rattle.nonrecursive.specs.NonrecursiveDecimator as D;
 ghost use Rattle.parking.specs.Entries as E;
 ghost use Rattle.parking.specs.Parked as P;
 ghost use Rattle.parking.specs.Told.{numbersOf};
@@ -47,6 +49,19 @@ pub fn half_band_bytes(depth: usize) -> usize
         return HALF_BAND_BYTES[depth];
     }
     HALF_BAND_BYTES[MOST_STAGES]
+}
+
+// How often r can be halved, rounded down, so that at least 1 is left.
+pub fn halvings(r: usize) -> usize
+    ensures { λ n. ⌜ (n ≡ D.halvings r) × (n ≤ 63) ⌝ }
+{
+    let mut n = 0usize;
+    let mut left = r;
+    while 2 <= left {
+        left = left / 2;
+        n += 1;
+    }
+    n
 }
 
 pub(crate) fn wide(n: u32) -> usize

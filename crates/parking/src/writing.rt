@@ -1,4 +1,4 @@
-// 02, request 6: "Write a line's settings, taps and whole record as a tap sheet of seven entries".
+// 02, request 6: "Write a line's settings, taps and whole record as a tap sheet of seven entries"; of eight, by request 13, where neighbours are summed (thin.rt).
 ghost use mathlib.Core.Path.{_≡_};
 ghost use mathlib.Core.List.{_++_};
 ghost use Prim.Native.Nat.{_+_, _*_, _≤_, _<_};
@@ -26,31 +26,38 @@ use crate::put::put_i16s;
 use crate::settings::ParkedSettings;
 use crate::settings::half_band_bytes;
 use crate::settings::settings_in;
+use crate::thin::park_thin;
+use crate::thin::thin_len;
 use float::PolyphaseResampF32;
 use half_band::HbfStream;
 use integer::CicDecimator;
 use line::Line;
 use line::line_valid;
+use nonrecursive::Thinning;
 use q15::FirDecimator;
 use refusal::Count;
 use refusal::Refusal;
 use sheet::lay_directory;
 
 // The arrays' lengths, which no contract of theirs says.
-fn cic_arrays(d: CicDecimator)
+pub(crate) fn cic_arrays(d: CicDecimator)
     ensures { λ _. ⌜ (length (d .«integrator_state») ≡ 8) × (length (d .«comb_state») ≡ 8) ⌝ }
 {}
 
-fn fir_arrays(f: FirDecimator)
+pub(crate) fn fir_arrays(f: FirDecimator)
     ensures { λ _. ⌜ (length (f .taps) ≡ mostTaps) × (length (f .delay) ≡ mostTaps) ⌝ }
 {}
 
-fn half_band_arrays(s: HbfStream)
+pub(crate) fn half_band_arrays(s: HbfStream)
     ensures { λ _. ⌜ (length (s .delays) ≡ 480) × (length (s .held) ≡ 5) × (length (s .counts) ≡ 5) ⌝ }
 {}
 
-fn resampler_arrays(p: PolyphaseResampF32)
+pub(crate) fn resampler_arrays(p: PolyphaseResampF32)
     ensures { λ _. ⌜ (length (p .delay) ≡ 16) × (length (p .prototype) ≡ 1024) ⌝ }
+{}
+
+fn neighbours_array(l: Line)
+    ensures { λ _. ⌜ length (l .neighbours) ≡ 96 ⌝ }
 {}
 
 // The same of all parts, and that the step and the cut count have their types.
@@ -67,7 +74,7 @@ fn parts_typed(d: CicDecimator, f: FirDecimator, s: HbfStream, p: PolyphaseResam
 const DATA_FROM: usize = 58;
 
 // How many bytes the sheet of a line with these settings has.
-fn sheet_bytes(q: ParkedSettings) -> usize
+pub(crate) fn sheet_bytes(q: ParkedSettings) -> usize
     requires { ⌜ InLimits (numbersOf q) ⌝ }
     ensures { λ r. ⌜ r ≡ 58 + S.sum (P.sizes (numbersOf q)) ⌝ }
 {
@@ -113,7 +120,7 @@ fn put_cic_of(span: &mut [u8], at: usize, d: CicDecimator)
     put_cic(span, at, d.sample_counter, d.stages, &integrators, &combs);
 }
 
-fn put_fir_of(span: &mut [u8], at: usize, f: FirDecimator)
+pub(crate) fn put_fir_of(span: &mut [u8], at: usize, f: FirDecimator)
     requires { ⌜ (f .«tap_count» ≤ mostTaps) × (at + (2 + 4 * f .«tap_count») ≤ length (now span)) ⌝ }
     ensures { λ _. ⌜ now (span .exit) ≡ laid at (E.tapBytes f ++ E.delayBytes f) (now (span .entry)) ⌝ }
 {
@@ -223,6 +230,25 @@ fn parts_len(
     sheet_bytes(settings_in(d, f, s.depth, p, cuts))
 }
 
+// The same by the kind of thinning.
+fn len_by(
+    thinning: Thinning,
+    d: CicDecimator,
+    neighbours: &[i32],
+    f: FirDecimator,
+    s: HbfStream,
+    p: PolyphaseResampF32,
+    cuts: u32,
+) -> usize
+    requires { ⌜ (InLimits (E.settingsIn d f (s .depth) p cuts)) × (length (now neighbours) ≡ 96) ⌝ }
+    ensures { λ r. ⌜ r ≡ length (P.parked S.Rule.present (E.entriesBy thinning d (now (neighbours .entry)) f s p cuts)) ⌝ }
+{
+    match thinning {
+        Thinning::Integrators => parts_len(d, f, s, p, cuts),
+        Thinning::Neighbours => thin_len(d, neighbours, f, s, p, cuts),
+    }
+}
+
 // How many bytes the line's sheet has, so that a span may be made for it. Refusal 15.
 pub fn parked_len(line: Line) -> Count
     ensures { λ r. ⌜ countAnswer r ≡ K.lengthAnswer P.panel line ⌝ }
@@ -231,11 +257,14 @@ pub fn parked_len(line: Line) -> Count
     if !fine {
         return Count::Refused(Refusal::State);
     }
+    neighbours_array(line);
+    let thinning = line.thinning;
     let d = line.cic;
+    let neighbours = line.neighbours;
     let f = fir_on(line.fir);
     let s = line.half_band;
     let p = resampler_on(line.resampler);
-    let n = parts_len(d, f, s, p, line.cuts);
+    let n = len_by(thinning, d, &neighbours, f, s, p, line.cuts);
     Count::Written(n)
 }
 
@@ -264,8 +293,29 @@ fn park_parts(
     Count::Written(n)
 }
 
+// The same by the kind of thinning.
+fn park_by(
+    span: &mut [u8],
+    thinning: Thinning,
+    d: CicDecimator,
+    neighbours: &[i32],
+    f: FirDecimator,
+    s: HbfStream,
+    p: PolyphaseResampF32,
+    cuts: u32,
+) -> Count
+    requires { ⌜ (InLimits (E.settingsIn d f (s .depth) p cuts)) × (length (now neighbours) ≡ 96) ⌝ }
+    ensures answer { λ r. ⌜ countAnswer r ≡ K.sheetAnswer (P.parked S.Rule.present (E.entriesBy thinning d (now (neighbours .entry)) f s p cuts)) (length (now (span .entry))) ⌝ }
+    ensures span { λ r. ⌜ now (span .exit) ≡ K.sheetSpan (P.parked S.Rule.present (E.entriesBy thinning d (now (neighbours .entry)) f s p cuts)) (now (span .entry)) ⌝ }
+{
+    match thinning {
+        Thinning::Integrators => park_parts(span, d, f, s, p, cuts),
+        Thinning::Neighbours => park_thin(span, d, neighbours, f, s, p, cuts),
+    }
+}
+
 // Writes the line as a tap sheet at the front of a span, and says how many bytes it has. Refusals 15, then 17. The clause `older`: to the bytes of a panel before request
-// 7, or to some that it answers with 15.
+// 7, or to some that it answers with 15; and of neighbours to some that a panel before request 13 answers with 21.
 pub fn park(line: Line, span: &mut [u8]) -> Count
     ensures answer { λ r. ⌜ countAnswer r ≡ K.parkAnswer P.panel line (length (now (span .entry))) ⌝ }
     ensures span { λ r. ⌜ now (span .exit) ≡ K.parkSpan P.panel line (now (span .entry)) ⌝ }
@@ -274,10 +324,13 @@ pub fn park(line: Line, span: &mut [u8]) -> Count
     if !line_valid(line) {
         return Count::Refused(Refusal::State);
     }
+    neighbours_array(line);
+    let thinning = line.thinning;
     let d = line.cic;
+    let neighbours = line.neighbours;
     let f = fir_on(line.fir);
     let s = line.half_band;
     let p = resampler_on(line.resampler);
     parts_typed(d, f, s, p, line.cuts);
-    park_parts(span, d, f, s, p, line.cuts)
+    park_by(span, thinning, d, &neighbours, f, s, p, line.cuts)
 }

@@ -4,3 +4,4 @@ pub mod LineClock
 pub mod Going
 pub mod Listing
 pub mod Start
+pub mod EitherLine

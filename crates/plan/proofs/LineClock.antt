@@ -18,7 +18,7 @@ use Rattle.theory.specs.Feeds as F
 use Rattle.theory.proofs.Feeds.{feed-right}
 use Rattle.theory.proofs.FeedRules.{feed-keeps}
 use Rattle.refusal.specs.Outcome.{Outcome, Moved}
-use Rattle.integer.specs.CicDecimator.{scaledDecimator}
+use Rattle.nonrecursive.specs.EitherKind as E
 use Rattle.q15.specs.Fixed.{cut}
 use Rattle.q15.specs.FirDecimator.{fir}
 use Rattle.q15.specs.declared.fir_decimator.FirDecimator.{FirDecimator}
@@ -37,7 +37,7 @@ use Rattle.plan.specs.Plan.{feedCounts}
 use Rattle.plan.specs.Ticking.{atMu, ticking, slowed, countFeed, countFeeds}
 use Rattle.plan.specs.declared.counting.Clock.{Clock}
 use Rattle.plan.proofs.Clocks.{came, Counts, counts-before, counts-each, counts-tallied, counts-viewed, SameCounts, feed-counts}
-use Rattle.plan.proofs.Sections.{by-cond, CicGood, cicLeft, cicPeriod, cic-down, FirGood, firLeft, firPeriod, fir-down, HalfGood, halfLeft, halfPeriod, half-down}
+use Rattle.plan.proofs.Sections.{by-cond, ThinGood, thinLeft, thinPeriod, thin-down, FirGood, firLeft, firPeriod, fir-down, HalfGood, halfLeft, halfPeriod, half-down}
 
 -- ---- the line, section by section from the last
 abbrev pub clock5 : PolyphaseResampF32 → Clock
@@ -85,14 +85,14 @@ counts3 =
     (counts-each level from4 clock4 Good4 counts4)
 
 abbrev Good1 : Parts → Type 0
-Good1 p = CicGood (p .0) × Good3 (p .1 .1)
+Good1 p = ThinGood (p .0) × Good3 (p .1 .1)
 
 abbrev clock1 : Parts → Clock
-clock1 p = slowed (cicLeft (p .0)) (cicPeriod (p .0)) (clock3 (p .1 .1))
+clock1 p = slowed (thinLeft (p .0)) (thinPeriod (p .0)) (clock3 (p .1 .1))
 
 counts1 : Counts chain clock1 Good1
 counts1 =
-    counts-before scaledDecimator (before (each (cut w16)) from3) cicLeft cicPeriod (λ p. clock3 (p .1)) CicGood (λ p. Good3 (p .1)) cic-down
+    counts-before E.either (before (each (cut w16)) from3) thinLeft thinPeriod (λ p. clock3 (p .1)) ThinGood (λ p. Good3 (p .1)) thin-down
     (counts-each (cut w16) from3 clock3 Good3 counts3)
 
 abbrev pub Runs : Line → Type 0
@@ -106,7 +106,7 @@ line-counts =
     counts-viewed (tallied mostCuts cutsAt chain) countedOf ofCounted (λ p. refl) (λ p. clock1 (p .0)) (λ p. Good1 (p .0)) (counts-tallied mostCuts cutsAt chain clock1 Good1 counts1)
 
 -- ---- feed after feed
-fed-counts : (l : Line) (xs : List ℤ) (n : ℕ) → Runs l → SameCounts clockOf (F.feed line l xs n) (countFeed (clockOf l) (length xs) n)
+pub fed-counts : (l : Line) (xs : List ℤ) (n : ℕ) → Runs l → SameCounts clockOf (F.feed line l xs n) (countFeed (clockOf l) (length xs) n)
 unfolding countFeed
 fed-counts l xs n g = feed-counts line clockOf Runs line-counts l xs n g
 

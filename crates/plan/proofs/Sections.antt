@@ -1,9 +1,9 @@
--- The CIC decimator, the FIR and the half-band stages each make a value of every so many, whatever the values: each counts down from its state. The half-band stages
+-- Section 1 of either kind, the FIR and the half-band stages each make a value of every so many, whatever the values: each counts down from its state. The half-band stages
 -- are a binary counter, each stage a bit of it.
 use mathlib.Core.Path.{_≡_, refl, sym, ap, ap₂, _∙_}
 use mathlib.Core.Bool.{Bool, true, false, cond}
 use mathlib.Core.List.{List}
-use mathlib.Core.Option.{none, some}
+use mathlib.Core.Option.{Option, none, some}
 use Prim.Native.Nat.{ℕ, zero, suc, _+_, _-_, _*_, _^_, _≤_, _<_, min}
 use native.Mathlib.Nat.{pow-suc}
 use native.Mathlib.Omega.{arith}
@@ -14,9 +14,11 @@ use lib.Ieee.{Float}
 use lib.ListN.{length, getD, set, length-set}
 use lib.Pow.{pow-pos}
 use lib.Seq.{getD-set-same, getD-set-other}
-use Rattle.integer.specs.CicDecimator.{decimator, scaledDecimator, scaledBy, waits}
-use Rattle.integer.specs.declared.cic_decimator.CicDecimator.{CicDecimator}
+use Rattle.integer.specs.CicDecimator.{scaledBy, waits}
 use Rattle.integer.specs.Gain.{gainBits}
+use Rattle.nonrecursive.specs.EitherKind.{Thinner, fine, validAt}
+use Rattle.nonrecursive.specs.EitherKind as E
+use Rattle.nonrecursive.proofs.EitherKind.{either-kept, either-below, either-answers, either-counted}
 use Rattle.q15.specs.FirDecimator.{fir, firNext, firOut, mostTaps}
 use Rattle.q15.specs.declared.fir_decimator.FirDecimator.{FirDecimator}
 use Rattle.half_band.specs.HbfStream.{Half, Passed, half, stageIn, withStage, through, stream, hbfStream}
@@ -25,6 +27,7 @@ use Rattle.half_band.specs.Limits.{mostStages}
 use Rattle.half_band.specs.declared.hbf_stream.HbfStream.{HbfStream}
 use Rattle.half_band.proofs.StageTables.{dec-stages}
 use Rattle.half_band.proofs.Streaming.{depth-next}
+use Rattle.line.proofs.Flags.{and-left}
 use Rattle.plan.specs.Ticking.{orOne}
 use Rattle.plan.proofs.Clocks.{came, CountsDown}
 
@@ -41,40 +44,52 @@ same-both : {A : Type 0} (b : Bool) (x : A) → cond b x x ≡ x
 same-both true x = refl
 same-both false x = refl
 
--- ---- the CIC decimator: r − counter samples, the last of which completes a sum
-abbrev pub CicGood : CicDecimator → Type 0
-CicGood d = d .«sample_counter» < d .r
+-- ---- section 1 of either kind: r − counter samples, the last of which completes a sum. Of a state that 15 refuses sums of neighbours may come at other samples
+abbrev pub ThinGood : Thinner → Type 0
+ThinGood t = fine t ≡ true
 
-abbrev pub cicLeft : CicDecimator → ℕ
-cicLeft d = d .r - d .«sample_counter»
+abbrev pub thinLeft : Thinner → ℕ
+thinLeft t = t .cic .r - t .cic .«sample_counter»
 
-abbrev pub cicPeriod : CicDecimator → ℕ
-cicPeriod d = d .r
+abbrev pub thinPeriod : Thinner → ℕ
+thinPeriod t = t .cic .r
 
-cic-left : (r k : ℕ) → k < r → cond (ltb (k + 1) r) (r - (k + 1)) (r - 0) ≡ cond (leb (r - k) 1) r (r - k - 1)
-cic-left r k g = go (ltb (k + 1) r) refl
+thin-below : (t : Thinner) → ThinGood t → t .cic .«sample_counter» < t .cic .r
+unfolding fine
+thin-below t g =
+    either-below (t .kind) (t .cic .stages) (t .cic .r) (t .cic .«sample_counter») (and-left (validAt (t .kind) (t .cic .stages) (t .cic .r) (t .cic .«sample_counter»)) _ g)
+
+thin-left : (r k : ℕ) → k < r → cond (ltb (k + 1) r) (r - (k + 1)) (r - 0) ≡ cond (leb (r - k) 1) r (r - k - 1)
+thin-left r k g = go (ltb (k + 1) r) refl
   where
     go : (b : Bool) → ltb (k + 1) r ≡ b → cond b (r - (k + 1)) (r - 0) ≡ cond (leb (r - k) 1) r (r - k - 1)
     go true e = let l = ltb-true (k + 1) r e in rw (lt-leb (r - k) 1 (omega arith)) (let q : r - (k + 1) ≡ r - k - 1 = omega arith in q)
     go false e = let l = ltb-false (k + 1) r e in rw (le-leb (r - k) 1 (omega arith)) (let q : r - 0 ≡ r = omega arith in q)
 
-cic-out : (r k g : ℕ) (y : ℤ) → k < r → came (scaledBy g (cond (ltb (k + 1) r) none (some y))) ≡ leb (r - k) 1
-cic-out r k g y h = go (ltb (k + 1) r) refl
+thin-out : (r k g : ℕ) (y : ℤ) → k < r → came (scaledBy g (cond (ltb (k + 1) r) none (some y))) ≡ leb (r - k) 1
+thin-out r k g y h = go (ltb (k + 1) r) refl
   where
     go : (b : Bool) → ltb (k + 1) r ≡ b → came (scaledBy g (cond b none (some y))) ≡ leb (r - k) 1
     go true e = let l = ltb-true (k + 1) r e in sym (lt-leb (r - k) 1 (omega arith))
     go false e = let l = ltb-false (k + 1) r e in sym (le-leb (r - k) 1 (omega arith))
 
-pub cic-down : CountsDown scaledDecimator cicLeft cicPeriod CicGood
-unfolding scaledDecimator decimator
-cic-down =
+pub thin-down : CountsDown E.either thinLeft thinPeriod ThinGood
+unfolding E.either
+thin-down =
     record {
-      good-next = λ d x g. either CicGood (waits d) _ _ (λ e. ltb-true (d .«sample_counter» + 1) (d .r) e) (λ e. omega arith);
-      some-left = λ d g. omega arith;
-      some-period = λ d g. omega arith;
-      period-kept = λ d x g. by-cond cicPeriod (waits d) _ _ ∙ same-both (waits d) (d .r);
-      left-next = λ d x g. by-cond cicLeft (waits d) _ _ ∙ cic-left (d .r) (d .«sample_counter») g;
-      out-same = λ d x g. cic-out (d .r) (d .«sample_counter») (gainBits (d .stages) (d .r)) _ g;
+      good-next = either-kept;
+      some-left = λ t g. let l = thin-below t g in omega arith;
+      some-period = λ t g. let l = thin-below t g in omega arith;
+      period-kept = λ t x g. either-counted t x .factor;
+      left-next = λ t x g.
+          let c = either-counted t x in
+          ap₂ {C = ℕ} (λ (r k : ℕ). r - k) (c .factor) (c .counter)
+          ∙ by-cond (λ (k : ℕ). t .cic .r - k) (waits (t .cic)) _ _
+          ∙ thin-left (t .cic .r) (t .cic .«sample_counter») (thin-below t g);
+      out-same = λ t x g.
+          let n = gainBits (t .cic .stages) (t .cic .r) in
+          let y = either-answers t x g in
+          ap (λ (o : Option ℤ). came (scaledBy n o)) (y .1) ∙ thin-out (t .cic .r) (t .cic .«sample_counter») n (y .0) (thin-below t g);
     }
 
 -- ---- the FIR: its wait; off, every value

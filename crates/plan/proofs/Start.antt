@@ -15,6 +15,7 @@ use Rattle.refusal.specs.Outcome.{Moved}
 use Rattle.refusal.specs.Rows.{firstOf, outside}
 use Rattle.refusal.proofs.Limits.{within}
 use Rattle.integer.specs.Limits.{factorOk}
+use Rattle.nonrecursive.proofs.EitherKind.{either-opens}
 use Rattle.q15.specs.Block.{mostFactor}
 use Rattle.q15.specs.FirDecimator as Q
 use Rattle.q15.proofs.FirSteps.{settings-in, line-settings}
@@ -140,9 +141,11 @@ module _ (o : Opening) (zero : opened o .number ≡ 0) where
       let h : stagesLeft (min (s .depth) 5) 0 (replicate 5 0) ≡ 2 ^ s .depth = half-start (min (s .depth) 5) 0 ∙ ap (λ (n : ℕ). 2 ^ n) d in
       same-start (s .r) r (f .0) (f .1) h (ap (λ (n : ℕ). 2 ^ n) d) (mu-start s (o .prototype))
 
-  fresh-runs : Runs (fresh o)
+  pub fresh-runs : Runs (fresh o)
   unfolding fresh
-  fresh-runs = (in-limits .some-r, (fir-runs (o .settings) (o .taps) in-limits, (refl, tt)))
+  fresh-runs =
+      let s = o .settings in
+      (either-opens (s .thinning) (s .stages) (s .r) (ok o zero .thinned), (fir-runs (o .settings) (o .taps) in-limits, (refl, tt)))
 
   pub first-runs : K.Runs first
   first-runs =

@@ -5,6 +5,7 @@ use crate::print::words;
 use line::Line;
 use line::Settings;
 use line::next_piece;
+use nonrecursive::Thinning;
 use refusal::Counts;
 
 // The first so many levels of a span.
@@ -38,6 +39,7 @@ fn shown(counts: Counts, span: &[f32]) -> usize {
 
 pub(crate) fn readings() {
     words(b"Line N=1 r=1, P=2 T=1, step 0.5, samples 16384, 0:");
+    let thinning = Thinning::Integrators;
     let settings = Settings {
         stages: 1,
         r: 1,
@@ -47,6 +49,7 @@ pub(crate) fn readings() {
         taps: 1,
         straight: false,
         step: 0.5,
+        thinning,
     };
     let samples = [16384, 0];
     let opened = Line::open(settings, &[], &[1.0, 0.0]);

@@ -7,6 +7,7 @@ use integer::CicDecimator;
 use integer::cic_decimator::CicBlock;
 use integer::cic_decimator::CicOutput;
 use integer::cic_decimator::CicStep;
+use nonrecursive::NonrecursiveDecimator;
 use records::answers::same_counts;
 use records::answers::same_opening;
 use records::answers::same_refusal;
@@ -113,4 +114,33 @@ pub(crate) fn process_block(w: &[u32]) -> bool {
     let taken = length(lent);
     let places = length(behind(lent));
     block_in(w, front(&mut samples, taken), front(&mut span, places))
+}
+
+// The same samples from an opening of the sums of neighbours: the same counts and span.
+fn thinned_in(w: &[u32], samples: &mut [i32], span: &mut [i32]) -> bool {
+    let lent = rest(w, STATE);
+    let lent_span = behind(lent);
+    lend(lent, samples);
+    lend(lent_span, span);
+    let opened = NonrecursiveDecimator::new(long(w, 0), long(w, 2)).state;
+    let counts = opened.process_block(samples, span).counts;
+    let expected = behind(lent_span);
+    same_span(expected, same_counts(expected, 0, counts), lent_span, span) <= expected.len()
+}
+
+fn thinned(w: &[u32]) -> bool {
+    let mut samples = no_numbers();
+    let mut span = no_numbers();
+    let lent = rest(w, STATE);
+    let taken = length(lent);
+    let places = length(behind(lent));
+    thinned_in(w, front(&mut samples, taken), front(&mut span, places))
+}
+
+// A block of a state as it is opened, of a factor that is a power of two.
+pub(crate) fn fresh_block(w: &[u32]) -> bool {
+    if !process_block(w) {
+        return false;
+    }
+    thinned(w)
 }

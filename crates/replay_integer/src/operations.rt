@@ -17,6 +17,7 @@ pub fn agrees(operation: u32, w: &[u32]) -> bool
         0x14 => cic_decimator::gain(w),
         0x15 => cic_decimator::gain_bits(w),
         0x16 => cic_decimator::process_block(w),
+        0x17 => cic_decimator::fresh_block(w),
         0x21 => cic_interpolator::new(w),
         0x22 => cic_interpolator::process_sample(w),
         0x23 => cic_interpolator::gain(w),

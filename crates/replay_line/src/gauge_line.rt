@@ -5,6 +5,7 @@ use line::LineFed;
 use line::LineOpened;
 use line::LineStep;
 use line::Settings;
+use nonrecursive::Thinning;
 use records::answers::same_counts;
 use records::answers::same_opening;
 use records::answers::same_refusal;
@@ -30,7 +31,15 @@ use records::words::same_long;
 use records::words::word;
 
 // Where the FIR taps begin, behind the settings; the prototype follows them.
-const TAPS: usize = 15;
+const TAPS: usize = 17;
+
+// Which kind thins: 0 the integrators, any other number the neighbours.
+fn thinning_of(number: usize) -> Thinning {
+    if number == 0 {
+        return Thinning::Integrators;
+    }
+    Thinning::Neighbours
+}
 
 fn settings_of(w: &[u32]) -> Settings {
     Settings {
@@ -42,6 +51,7 @@ fn settings_of(w: &[u32]) -> Settings {
         taps: long(w, 10),
         straight: long(w, 12) != 0,
         step: float(word(w, 14)),
+        thinning: thinning_of(long(w, 15)),
     }
 }
 
@@ -165,8 +175,12 @@ fn with_numbers(w: &[u32], line: Line) -> Line {
     resampler.taps = long(w, 26);
     resampler.step = float(word(w, 28));
     resampler.mu = float(word(w, 29));
+    let thinning = line.thinning;
+    let neighbours = line.neighbours;
     Line {
+        thinning,
         cic,
+        neighbours,
         fir,
         half_band,
         resampler,

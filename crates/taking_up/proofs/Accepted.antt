@@ -9,6 +9,7 @@ use lib.Dec.{eqb, leb, eqb·suc-zero}
 use lib.IntN.{pos}
 use lib.Ieee.{binary32, toBits, ofBits}
 use lib.ListN.{length, getD, drop, replicate}
+use Rattle.integer.specs.declared.cic_decimator.CicDecimator.{CicDecimator}
 use Rattle.q15.specs.FirDecimator.{mostTaps, firZeros}
 use Rattle.float.specs.PolyphaseResamp as R
 use Rattle.float.specs.F32.{zero32}
@@ -22,13 +23,13 @@ use Rattle.sheet.specs.Sheet.{present, le16, le32, countOf, sheetNumber, offset
 use Rattle.sheet.specs.Laid.{laid}
 use Rattle.sheet.proofs.Laying.{laid-none}
 use Rattle.parking.specs.Fields.{isFloat, floatsAt, valuesAt, i16At, f32At, All}
-use Rattle.parking.specs.Parked.{Settings, panel, settingsBytes, settingsOf, sizes, thinSizes, same, lengthsOf, halfBandBytes, entriesOf, shaped, takeUpNumber}
-use Rattle.parking.specs.Entries.{firOn, resamplerOn, settingsIn, cicBytes, tapBytes, delayBytes, stagesBytes, prototypeBytes, resamplerBytes, entriesOf as entriesIn, lineEntries, cicFrom, firFrom, halfBandFrom, countsFrom, heldFrom, delaysFrom, resamplerFrom, stagesWritten, firWritten, resamplerWritten, written, fine, lineFrom}
+use Rattle.parking.specs.Parked.{Settings, panel, settingsBytes, settingsOf, sizes, thinSizes, neighbourCount, same, lengthsOf, halfBandBytes, entriesOf, shaped, takeUpNumber}
+use Rattle.parking.specs.Entries.{firOn, resamplerOn, settingsIn, cicBytes, tapBytes, delayBytes, stagesBytes, prototypeBytes, resamplerBytes, entriesOf as entriesIn, thinEntries, entriesBy, lineEntries, cicFrom, placeFrom, firFrom, halfBandFrom, countsFrom, heldFrom, delaysFrom, resamplerFrom, stagesWritten, firWritten, resamplerWritten, written, fine, lineWith, lineFrom}
 use Rattle.parking.specs.Parking.{takenUp, takenUpNumber}
 use Rattle.parking.proofs.Fields.{all-take, all-drop, all-append}
 use Rattle.parking.proofs.WholeLine.{half-depth}
 use Rattle.taking_up.specs.AsParked.{AsParked}
-use Rattle.taking_up.proofs.Again.{Byte, settings-again, cic-again, taps-again, delay-again, stages-again, prototype-again, resampler-again}
+use Rattle.taking_up.proofs.Again.{Byte, settings-again, cic-again, neighbours-again, taps-again, delay-again, stages-again, prototype-again, resampler-again}
 
 -- ---- a part that is off was read as zeros
 
@@ -113,7 +114,6 @@ module _ (e₀ e₁ e₂ e₃ e₄ e₅ e₆ : List ℕ) where
 
   pub record Lengths : Type 0 where
     pub settings : length e₀ ≡ 24
-    pub cic : length e₁ ≡ 2 + 8 * q .stages
     pub taps : length e₂ ≡ 2 * q .taps
     pub delay : length e₃ ≡ 2 + 2 * q .taps
     pub half-band : length e₄ ≡ halfBandBytes (q .depth)
@@ -122,7 +122,6 @@ module _ (e₀ e₁ e₂ e₃ e₄ e₅ e₆ : List ℕ) where
 
   pub record AllBytes : Type 0 where
     pub a₀ : All Byte e₀
-    pub a₁ : All Byte e₁
     pub a₂ : All Byte e₂
     pub a₃ : All Byte e₃
     pub a₄ : All Byte e₄
@@ -130,9 +129,9 @@ module _ (e₀ e₁ e₂ e₃ e₄ e₅ e₆ : List ℕ) where
     pub a₆ : All Byte e₆
 
   module _ (a : AllBytes) (l : Lengths) (f : Fields) (few : q .depth ≤ 5) where
-    settings-kept : settingsIn (cicFrom q e₁) (firFrom q e₂ e₃) (halfBandFrom q e₄ .depth) (resamplerFrom q e₅ e₆) (q .cuts) ≡ q
-    unfolding settingsIn cicFrom firFrom halfBandFrom resamplerFrom
-    settings-kept = rw (flag-again (q .straight) (f .straight), eqb-true (toBits binary32 (ofBits binary32 (q .step))) (q .step) (f .step))
+    settings-kept : (d : CicDecimator) → d .stages ≡ q .stages → d .r ≡ q .r → settingsIn d (firFrom q e₂ e₃) (halfBandFrom q e₄ .depth) (resamplerFrom q e₅ e₆) (q .cuts) ≡ q
+    unfolding settingsIn firFrom halfBandFrom resamplerFrom
+    settings-kept d x y = rw (x, y, flag-again (q .straight) (f .straight), eqb-true (toBits binary32 (ofBits binary32 (q .step))) (q .step) (f .step))
 
     stages-kept : stagesBytes (halfBandFrom q e₄) (min (halfBandFrom q e₄ .depth) 5) ≡ e₄
     unfolding halfBandFrom
@@ -141,20 +140,39 @@ module _ (e₀ e₁ e₂ e₃ e₄ e₅ e₆ : List ℕ) where
         let b : length e₄ ≡ halfBandBytes (min (q .depth) 5) = l .half-band ∙ ap halfBandBytes (sym d) in
         stages-again e₄ (a .a₄) (min (q .depth) 5) (omega arith) (omega arith) (f .stages) (halfBandFrom q e₄) refl refl refl b
 
-    pub entries-again : lineEntries (lineFrom es) ≡ es
-    unfolding lineEntries lineFrom entriesIn
-    entries-again =
+    pub entries-again : All Byte e₁ → length e₁ ≡ 2 + 8 * q .stages → lineEntries (lineFrom es) ≡ es
+    unfolding lineEntries lineFrom lineWith entriesBy entriesIn
+    entries-again b n =
         rw (
           fir-as-read q e₂ e₃ (f .fir),
           resampler-as-read q e₅ e₆ (f .resampler),
-          settings-kept,
+          settings-kept (cicFrom q e₁) (unfold cicFrom in refl) (unfold cicFrom in refl),
           settings-again e₀ (a .a₀) (l .settings),
-          cic-again q e₁ (a .a₁) (l .cic),
+          cic-again q e₁ b n,
           taps-again q e₂ e₃ (a .a₂) (l .taps),
           delay-again q e₂ e₃ (a .a₃) (l .delay),
           stages-kept,
           prototype-again q e₅ e₆ (a .a₅) (l .cells) (f .cells),
           resampler-again q e₅ e₆ (a .a₆) (l .resampler) (f .delays),
+        )
+
+    -- of eight, where the second is empty and e₇ the last
+    pub thin-again : (e₇ : List ℕ) → All Byte e₇ → e₁ ≡ [] → length e₇ ≡ 2 + 4 * neighbourCount (q .stages) (q .r)
+        → lineEntries (lineFrom (e₀ ∷ e₁ ∷ e₂ ∷ e₃ ∷ e₄ ∷ e₅ ∷ e₆ ∷ e₇ ∷ [])) ≡ e₀ ∷ e₁ ∷ e₂ ∷ e₃ ∷ e₄ ∷ e₅ ∷ e₆ ∷ e₇ ∷ []
+    unfolding lineEntries lineFrom lineWith entriesBy thinEntries
+    thin-again e₇ b z n =
+        rw (
+          fir-as-read q e₂ e₃ (f .fir),
+          resampler-as-read q e₅ e₆ (f .resampler),
+          settings-kept (placeFrom q e₇) (unfold placeFrom in refl) (unfold placeFrom in refl),
+          settings-again e₀ (a .a₀) (l .settings),
+          taps-again q e₂ e₃ (a .a₂) (l .taps),
+          delay-again q e₂ e₃ (a .a₃) (l .delay),
+          stages-kept,
+          prototype-again q e₅ e₆ (a .a₅) (l .cells) (f .cells),
+          resampler-again q e₅ e₆ (a .a₆) (l .resampler) (f .delays),
+          neighbours-again q e₇ b n,
+          z,
         )
 
 -- ---- any entries that are shaped and fine
@@ -171,7 +189,6 @@ unfolding lengthsOf sizes
 lengths-told e₀ e₁ e₂ e₃ e₄ e₅ e₆ e =
     record {
       settings = ap (λ (l : List ℕ). getD l 0 0) e;
-      cic = ap (λ (l : List ℕ). getD l 1 0) e;
       taps = ap (λ (l : List ℕ). getD l 2 0) e;
       delay = ap (λ (l : List ℕ). getD l 3 0) e;
       half-band = ap (λ (l : List ℕ). getD l 4 0) e;
@@ -179,17 +196,46 @@ lengths-told e₀ e₁ e₂ e₃ e₄ e₅ e₆ e =
       resampler = ap (λ (l : List ℕ). getD l 6 0) e;
     }
 
+cic-told : (e₀ e₁ e₂ e₃ e₄ e₅ e₆ : List ℕ) → lengthsOf (e₀ ∷ e₁ ∷ e₂ ∷ e₃ ∷ e₄ ∷ e₅ ∷ e₆ ∷ []) ≡ sizes (settingsOf e₀) → length e₁ ≡ 2 + 8 * settingsOf e₀ .stages
+unfolding lengthsOf sizes
+cic-told e₀ e₁ e₂ e₃ e₄ e₅ e₆ e = ap (λ (l : List ℕ). getD l 1 0) e
+
+-- the same of eight
+thin-told : (e₀ e₁ e₂ e₃ e₄ e₅ e₆ e₇ : List ℕ) → lengthsOf (e₀ ∷ e₁ ∷ e₂ ∷ e₃ ∷ e₄ ∷ e₅ ∷ e₆ ∷ e₇ ∷ []) ≡ thinSizes (settingsOf e₀)
+    → Lengths e₀ e₁ e₂ e₃ e₄ e₅ e₆ × ((length e₁ ≡ 0) × (length e₇ ≡ 2 + 4 * neighbourCount (settingsOf e₀ .stages) (settingsOf e₀ .r)))
+unfolding lengthsOf thinSizes
+thin-told e₀ e₁ e₂ e₃ e₄ e₅ e₆ e₇ e = (
+  record {
+    settings = ap (λ (l : List ℕ). getD l 0 0) e;
+    taps = ap (λ (l : List ℕ). getD l 2 0) e;
+    delay = ap (λ (l : List ℕ). getD l 3 0) e;
+    half-band = ap (λ (l : List ℕ). getD l 4 0) e;
+    cells = ap (λ (l : List ℕ). getD l 5 0) e;
+    resampler = ap (λ (l : List ℕ). getD l 6 0) e;
+  },
+  (ap (λ (l : List ℕ). getD l 1 0) e, ap (λ (l : List ℕ). getD l 7 0) e),
+)
+
+none-there : (e : List ℕ) → length e ≡ 0 → e ≡ []
+none-there [] h = refl
+none-there (x ∷ e) h = absurd (omega (arith, h))
+
+thin-stages : (e₀ e₁ e₂ e₃ e₄ e₅ e₆ e₇ : List ℕ) → L.valid (lineFrom (e₀ ∷ e₁ ∷ e₂ ∷ e₃ ∷ e₄ ∷ e₅ ∷ e₆ ∷ e₇ ∷ [])) ≡ true → settingsOf e₀ .depth ≤ 5
+unfolding lineFrom lineWith halfBandFrom
+thin-stages e₀ e₁ e₂ e₃ e₄ e₅ e₆ e₇ v = half-depth (halfBandFrom (settingsOf e₀) e₄) (to-parts (lineFrom (e₀ ∷ e₁ ∷ e₂ ∷ e₃ ∷ e₄ ∷ e₅ ∷ e₆ ∷ e₇ ∷ [])) v .1 .1 .1 .1 .0)
+
 few-stages : (e₀ e₁ e₂ e₃ e₄ e₅ e₆ : List ℕ) → L.valid (lineFrom (e₀ ∷ e₁ ∷ e₂ ∷ e₃ ∷ e₄ ∷ e₅ ∷ e₆ ∷ [])) ≡ true → settingsOf e₀ .depth ≤ 5
-unfolding lineFrom halfBandFrom
+unfolding lineFrom lineWith halfBandFrom
 few-stages e₀ e₁ e₂ e₃ e₄ e₅ e₆ v = half-depth (halfBandFrom (settingsOf e₀) e₄) (to-parts (lineFrom (e₀ ∷ e₁ ∷ e₂ ∷ e₃ ∷ e₄ ∷ e₅ ∷ e₆ ∷ [])) v .1 .1 .1 .1 .0)
 
 pub seven-again : (es : List (List ℕ)) → All (All Byte) es → length es ≡ 7 → same (lengthsOf es) (sizes (settingsOf (getD es 0 []))) ≡ true → L.valid (lineFrom es) ≡ true → written es ≡ true → lineEntries (lineFrom es) ≡ es
 seven-again (e₀ ∷ e₁ ∷ e₂ ∷ e₃ ∷ e₄ ∷ e₅ ∷ e₆ ∷ []) a n s v w =
     entries-again e₀ e₁ e₂ e₃ e₄ e₅ e₆
-    (record { a₀ = a .0; a₁ = a .1 .0; a₂ = a .1 .1 .0; a₃ = a .1 .1 .1 .0; a₄ = a .1 .1 .1 .1 .0; a₅ = a .1 .1 .1 .1 .1 .0; a₆ = a .1 .1 .1 .1 .1 .1 .0 })
+    (record { a₀ = a .0; a₂ = a .1 .1 .0; a₃ = a .1 .1 .1 .0; a₄ = a .1 .1 .1 .1 .0; a₅ = a .1 .1 .1 .1 .1 .0; a₆ = a .1 .1 .1 .1 .1 .1 .0 })
     (lengths-told e₀ e₁ e₂ e₃ e₄ e₅ e₆ (same-says _ _ s))
     (fields-told e₀ e₁ e₂ e₃ e₄ e₅ e₆ w)
     (few-stages e₀ e₁ e₂ e₃ e₄ e₅ e₆ v)
+    (a .1 .0) (cic-told e₀ e₁ e₂ e₃ e₄ e₅ e₆ (same-says _ _ s))
 seven-again [] a n s v w = absurd (omega (arith, n))
 seven-again (e₀ ∷ []) a n s v w = absurd (omega (arith, n))
 seven-again (e₀ ∷ e₁ ∷ []) a n s v w = absurd (omega (arith, n))
@@ -198,6 +244,39 @@ seven-again (e₀ ∷ e₁ ∷ e₂ ∷ e₃ ∷ []) a n s v w = absurd (omega (
 seven-again (e₀ ∷ e₁ ∷ e₂ ∷ e₃ ∷ e₄ ∷ []) a n s v w = absurd (omega (arith, n))
 seven-again (e₀ ∷ e₁ ∷ e₂ ∷ e₃ ∷ e₄ ∷ e₅ ∷ []) a n s v w = absurd (omega (arith, n))
 seven-again (e₀ ∷ e₁ ∷ e₂ ∷ e₃ ∷ e₄ ∷ e₅ ∷ e₆ ∷ e₇ ∷ es) a n s v w = absurd (omega (arith, n))
+
+eight-fields : (e₀ e₁ e₂ e₃ e₄ e₅ e₆ e₇ : List ℕ) → written (e₀ ∷ e₁ ∷ e₂ ∷ e₃ ∷ e₄ ∷ e₅ ∷ e₆ ∷ e₇ ∷ []) ≡ true → written (e₀ ∷ e₁ ∷ e₂ ∷ e₃ ∷ e₄ ∷ e₅ ∷ e₆ ∷ []) ≡ true
+unfolding written
+eight-fields e₀ e₁ e₂ e₃ e₄ e₅ e₆ e₇ w = w
+
+eight-again : (es : List (List ℕ)) → All (All Byte) es → length es ≡ 8 → same (lengthsOf es) (thinSizes (settingsOf (getD es 0 []))) ≡ true → L.valid (lineFrom es) ≡ true → written es ≡ true → lineEntries (lineFrom es) ≡ es
+eight-again (e₀ ∷ e₁ ∷ e₂ ∷ e₃ ∷ e₄ ∷ e₅ ∷ e₆ ∷ e₇ ∷ []) a n s v w =
+    let t = thin-told e₀ e₁ e₂ e₃ e₄ e₅ e₆ e₇ (same-says _ _ s) in
+    thin-again e₀ e₁ e₂ e₃ e₄ e₅ e₆
+    (record { a₀ = a .0; a₂ = a .1 .1 .0; a₃ = a .1 .1 .1 .0; a₄ = a .1 .1 .1 .1 .0; a₅ = a .1 .1 .1 .1 .1 .0; a₆ = a .1 .1 .1 .1 .1 .1 .0 })
+    (t .0)
+    (fields-told e₀ e₁ e₂ e₃ e₄ e₅ e₆ (eight-fields e₀ e₁ e₂ e₃ e₄ e₅ e₆ e₇ w))
+    (thin-stages e₀ e₁ e₂ e₃ e₄ e₅ e₆ e₇ v)
+    e₇ (a .1 .1 .1 .1 .1 .1 .1 .0) (none-there e₁ (t .1 .0)) (t .1 .1)
+eight-again [] a n s v w = absurd (omega (arith, n))
+eight-again (e₀ ∷ []) a n s v w = absurd (omega (arith, n))
+eight-again (e₀ ∷ e₁ ∷ []) a n s v w = absurd (omega (arith, n))
+eight-again (e₀ ∷ e₁ ∷ e₂ ∷ []) a n s v w = absurd (omega (arith, n))
+eight-again (e₀ ∷ e₁ ∷ e₂ ∷ e₃ ∷ []) a n s v w = absurd (omega (arith, n))
+eight-again (e₀ ∷ e₁ ∷ e₂ ∷ e₃ ∷ e₄ ∷ []) a n s v w = absurd (omega (arith, n))
+eight-again (e₀ ∷ e₁ ∷ e₂ ∷ e₃ ∷ e₄ ∷ e₅ ∷ []) a n s v w = absurd (omega (arith, n))
+eight-again (e₀ ∷ e₁ ∷ e₂ ∷ e₃ ∷ e₄ ∷ e₅ ∷ e₆ ∷ []) a n s v w = absurd (omega (arith, n))
+eight-again (e₀ ∷ e₁ ∷ e₂ ∷ e₃ ∷ e₄ ∷ e₅ ∷ e₆ ∷ e₇ ∷ e₈ ∷ es) a n s v w = absurd (omega (arith, n))
+
+-- of either count
+any-again : (es : List (List ℕ)) → All (All Byte) es → shaped panel es ≡ true → L.valid (lineFrom es) ≡ true → written es ≡ true → lineEntries (lineFrom es) ≡ es
+unfolding shaped
+any-again es a s v w = go (eqb (length es) 7) refl (eqb (length es) 8) refl
+  where
+    go : (b : Bool) → eqb (length es) 7 ≡ b → (c : Bool) → eqb (length es) 8 ≡ c → lineEntries (lineFrom es) ≡ es
+    go true p c t = seven-again es a (eqb-true (length es) 7 p) (rw p at s) v w
+    go false p true t = eight-again es a (eqb-true (length es) 8 t) (rw (p, t) at s) v w
+    go false p false t = (let z : false ≡ true = rw (p, t) at s in absurd (true≢false (sym z)))
 
 -- ---- the sheet
 
@@ -211,24 +290,22 @@ entries-bytes b a = all-listed (All Byte) (countOf present b) (partAt b) (λ k. 
 
 -- a sheet that is not refused is shaped and fine
 pub record Fine (b : List ℕ) : Type 0 where
-  pub count : length (entriesOf present b) ≡ 7
-  pub lengths : same (lengthsOf (entriesOf present b)) (sizes (settingsOf (getD (entriesOf present b) 0 []))) ≡ true
+  pub in-shape : shaped panel (entriesOf present b) ≡ true
   pub valid : L.valid (lineFrom (entriesOf present b)) ≡ true
   pub fields : written (entriesOf present b) ≡ true
 
 fine-says : (b : List ℕ) → takenUpNumber panel b ≡ 0 → Fine b
-unfolding takenUpNumber takeUpNumber shaped fine
-fine-says b e = go (sheetNumber present b) (eqb (length (entriesOf present b)) 7) refl (same (lengthsOf (entriesOf present b)) (sizes (settingsOf (getD (entriesOf present b) 0 [])))) refl (leb (settingsOf (getD (entriesOf present b) 0 []) .taps) (panel .mostTaps)) (L.valid (lineFrom (entriesOf present b))) refl (written (entriesOf present b)) refl e
+unfolding takenUpNumber takeUpNumber fine
+fine-says b e = go (sheetNumber present b) (shaped panel (entriesOf present b)) refl (leb (settingsOf (getD (entriesOf present b) 0 []) .taps) (panel .mostTaps)) (L.valid (lineFrom (entriesOf present b))) refl (written (entriesOf present b)) refl e
   where
-    go : (n : ℕ) (c : Bool) → eqb (length (entriesOf present b)) 7 ≡ c → (s : Bool) → same (lengthsOf (entriesOf present b)) (sizes (settingsOf (getD (entriesOf present b) 0 []))) ≡ s → (t v : Bool) → L.valid (lineFrom (entriesOf present b)) ≡ v → (w : Bool) → written (entriesOf present b) ≡ w
-        → _≡_ {A = ℕ} (cond (eqb n 0) (cond (cond c s (cond (false && eqb (length (entriesOf present b)) 8) (same (lengthsOf (entriesOf present b)) (thinSizes (settingsOf (getD (entriesOf present b) 0 [])))) false)) (cond (t && (v && w)) 0 15) 21) n) 0 → Fine b
-    go (suc n) c p s q t v r w u e = absurd (omega (arith, ap (λ (x : Bool). cond x (cond (cond c s false) (cond (t && (v && w)) 0 15) 21) (suc n)) (sym (eqb·suc-zero n)) ∙ e))
-    go zero true p true q true true r true u e = record { count = eqb-true (length (entriesOf present b)) 7 p; lengths = q; valid = r; fields = u }
-    go zero true p true q true true r false u e = absurd (omega (arith, e))
-    go zero true p true q true false r w u e = absurd (omega (arith, e))
-    go zero true p true q false v r w u e = absurd (omega (arith, e))
-    go zero true p false q t v r w u e = absurd (omega (arith, e))
-    go zero false p s q t v r w u e = absurd (omega (arith, e))
+    go : (n : ℕ) (s : Bool) → shaped panel (entriesOf present b) ≡ s → (t v : Bool) → L.valid (lineFrom (entriesOf present b)) ≡ v → (w : Bool) → written (entriesOf present b) ≡ w
+        → _≡_ {A = ℕ} (cond (eqb n 0) (cond s (cond (t && (v && w)) 0 15) 21) n) 0 → Fine b
+    go (suc n) s q t v r w u e = absurd (omega (arith, ap (λ (x : Bool). cond x (cond s (cond (t && (v && w)) 0 15) 21) (suc n)) (sym (eqb·suc-zero n)) ∙ e))
+    go zero true q true true r true u e = record { in-shape = q; valid = r; fields = u }
+    go zero true q true true r false u e = absurd (omega (arith, e))
+    go zero true q true false r w u e = absurd (omega (arith, e))
+    go zero true q false v r w u e = absurd (omega (arith, e))
+    go zero false q t v r w u e = absurd (omega (arith, e))
 
 pub as-parked : (b : List ℕ) (r : Opened Line) → r ≡ takenUp panel b → AsParked b r
 unfolding takenUp
@@ -237,7 +314,7 @@ as-parked b r e =
       valid = λ z. ap L.valid (line z) ∙ fine-says b (number z) .valid;
       entries = λ a z.
           let f = fine-says b (number z) in
-          ap lineEntries (line z) ∙ seven-again (entriesOf present b) (entries-bytes b a) (f .count) (f .lengths) (f .valid) (f .fields);
+          ap lineEntries (line z) ∙ any-again (entriesOf present b) (entries-bytes b a) (f .in-shape) (f .valid) (f .fields);
     }
   where
     number : r .number ≡ 0 → takenUpNumber panel b ≡ 0

@@ -15,14 +15,15 @@ use lib.Seq.{drop-cons, drop-drop, drop-at, take-at, take-append-le, drop-append
 use mir.Syntax.{w16, w32}
 use mir.Val.{toZ, ofZ}
 use mir.Facts.{ofZ-toZ}
+use Rattle.nonrecursive.specs.NonrecursiveDecimator.{mostNeighbours}
 use Rattle.q15.specs.FirDecimator.{mostTaps}
 use Rattle.line.proofs.Flags.{and-left, and-right}
 use Rattle.sheet.specs.Sheet.{le16, le32, bytes16, bytes32, every}
 use Rattle.sheet.specs.Laid.{laid}
 use Rattle.sheet.proofs.Laying.{laid-front, laid-length}
 use Rattle.parking.specs.Fields.{i16Bytes, i32Bytes, f32Bytes, joined, i16At, i32At, f32At, valuesAt, isFloat, floatsAt, All}
-use Rattle.parking.specs.Parked.{Settings, settingsBytes, settingsOf, halfBandBytes}
-use Rattle.parking.specs.Entries.{cicBytes, tapBytes, delayBytes, windowOf, stageBytes, stagesBytes, prototypeBytes, resamplerBytes, cicFrom, firFrom, countsFrom, heldFrom, delaysFrom, halfBandFrom, resamplerFrom, stagesWritten}
+use Rattle.parking.specs.Parked.{Settings, settingsBytes, settingsOf, halfBandBytes, neighbourCount}
+use Rattle.parking.specs.Entries.{cicBytes, neighboursBytes, tapBytes, delayBytes, windowOf, stageBytes, stagesBytes, prototypeBytes, resamplerBytes, cicFrom, placeFrom, neighboursFrom, firFrom, countsFrom, heldFrom, delaysFrom, halfBandFrom, resamplerFrom, stagesWritten}
 use Rattle.parking.proofs.Fields.{all-getD, values-length}
 use Rattle.parking.proofs.Back.{bytes-more}
 use Rattle.parking.proofs.WholeFloats.{window-most}
@@ -161,6 +162,16 @@ module _ (q : Settings) (e : List ℕ) (a : All Byte e) (long : length e ≡ 2 +
       (sym (append-nil (joined i32Bytes ys)) ∙ ap (λ (l : List ℕ). joined i32Bytes ys ++ l) (sym (nothing-behind e (2 + 4 * N + 4 * N) (long ∙ sym k))) ∙ values-again writes-i32 e a N (2 + 4 * N) (omega arith) (λ i h. tt))
       ∙ ap (λ (l : List ℕ). bytes16 (le16 e 0) ++ l) (values-again writes-i32 e a N 2 (omega arith) (λ i h. tt))
       ∙ two-again e 0 a (omega arith))
+
+pub neighbours-again : (q : Settings) (e : List ℕ) → All Byte e → length e ≡ 2 + 4 * neighbourCount (q .stages) (q .r) → neighboursBytes (placeFrom q e) (neighboursFrom q e) ≡ e
+unfolding neighboursBytes placeFrom neighboursFrom
+neighbours-again q e a long =
+    let n = neighbourCount (q .stages) (q .r) in
+    let xs = valuesAt i32At 4 e 2 n in
+    rw (front-again xs (replicate mostNeighbours (pos 0)) n (values-length i32At 4 e n 2))
+    (ap (λ (l : List ℕ). bytes16 (le16 e 0) ++ l)
+    (sym (append-nil (joined i32Bytes xs)) ∙ ap (λ (l : List ℕ). joined i32Bytes xs ++ l) (sym (nothing-behind e (2 + 4 * n) long)) ∙ values-again writes-i32 e a n 2 (omega arith) (λ i h. tt))
+    ∙ two-again e 0 a (omega arith))
 
 module _ (q : Settings) (t e : List ℕ) where
   pub taps-again : All Byte t → length t ≡ 2 * q .taps → tapBytes (firFrom q t e) ≡ t

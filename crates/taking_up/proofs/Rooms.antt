@@ -13,6 +13,14 @@ pub and-true : (a : Bool) → a && true ≡ a
 and-true true = refl
 and-true false = refl
 
+-- one test more at the end of a chain of six
+pub and-last : (a b c d e x : Bool) → (a && (b && (c && (d && e)))) && x ≡ a && (b && (c && (d && (e && x))))
+and-last true true true true e x = refl
+and-last true true true false e x = refl
+and-last true true false d e x = refl
+and-last true false c d e x = refl
+and-last false b c d e x = refl
+
 pub stage-room : (n k L : ℕ) → n ≤ 5 → k < n → L ≡ halfBandBytes n → halfBandBytes k + (6 + 4 * windowOf k) ≤ L
 stage-room n k L h l e =
     let m = bytes-more k (omega arith) in

@@ -16,8 +16,10 @@ use crate::get::narrow32;
 use float::PolyphaseResampF32;
 use half_band::HbfStream;
 use integer::CicDecimator;
+use nonrecursive::nonrecursive_decimator::MAX_NEIGHBOURS;
 use parking::settings::ParkedSettings;
 use parking::settings::half_band_bytes;
+use parking::settings::halvings;
 use parking::settings::window;
 use q15::FirDecimator;
 use q15::MOST_TAPS;
@@ -90,7 +92,63 @@ pub(crate) fn in_limits(q: ParkedSettings) -> bool
     ensures { λ b. ⌜ b ≡ T.inLimits (numbersOf q) ⌝ }
 {
     let floats = both(q.depth <= 5, both(q.phases <= 64, q.cells <= 16));
-    both(q.stages <= 8, both(q.taps <= MOST_TAPS, floats))
+    let few = both(q.taps <= MOST_TAPS, floats);
+    both(q.stages <= 8, both(q.r <= 4096, few))
+}
+
+// The same of the seven entries behind the settings of a line of neighbours, of which the first is empty.
+pub(crate) fn thin_long_as(
+    q: ParkedSettings,
+    cic: usize,
+    taps: usize,
+    delay: usize,
+    half_band: usize,
+    cells: usize,
+    resampler: usize,
+    last: usize,
+) -> bool
+    requires { ⌜ (q .stages < 65536) × (q .taps < 65536) × (q .phases < 65536) × (q .cells < 65536) ⌝ }
+    ensures { λ b. ⌜ b ≡ T.thinLongAs (numbersOf q) cic taps delay «half_band» cells resampler last ⌝ }
+{
+    let seven = long_as(
+        q,
+        2 + 8 * q.stages,
+        taps,
+        delay,
+        half_band,
+        cells,
+        resampler,
+    );
+    let h = halvings(q.r);
+    let n = q.stages * h;
+    both(cic == 0, both(seven, last == 2 + 4 * n))
+}
+
+// The place of a line of neighbours; its integrators and combs are off.
+pub(crate) fn place_from(q: ParkedSettings, e: &[u8]) -> CicDecimator
+    requires { ⌜ 2 ≤ length (now e) ⌝ }
+    ensures { λ d. ⌜ d ≡ E.placeFrom (numbersOf q) (now (e .entry)) ⌝ }
+{
+    let place = le16_at(e, 0);
+    CicDecimator {
+        stages: q.stages,
+        r: q.r,
+        integrator_state: [0i32; 8],
+        comb_state: [0i32; 8],
+        sample_counter: place,
+    }
+}
+
+// Its neighbours, and zeros behind those that the factor's halvings use.
+pub(crate) fn neighbours_from(q: ParkedSettings, e: &[u8]) -> [i32; MAX_NEIGHBOURS]
+    requires { ⌜ (q .stages ≤ 8) × (q .r ≤ 4096) × (length (now e) ≡ 2 + 4 * P.neighbourCount (q .stages) (q .r)) ⌝ }
+    ensures { λ n. ⌜ n ≡ E.neighboursFrom (numbersOf q) (now (e .entry)) ⌝ }
+{
+    let h = halvings(q.r);
+    let n = q.stages * h;
+    let mut neighbours = [0i32; MAX_NEIGHBOURS];
+    get_i32s(e, 2, n, &mut neighbours);
+    neighbours
 }
 
 pub(crate) fn cic_from(q: ParkedSettings, e: &[u8]) -> CicDecimator

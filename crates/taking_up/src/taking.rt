@@ -1,4 +1,4 @@
-// 02, request 6: a parked sheet taken up. Refusals 16, 17, 21, 15.
+// 02, request 6, and 13 for eight entries: a parked sheet taken up. Refusals 16, 17, 21, 15.
 ghost use mathlib.Core.Path.{_≡_};
 ghost use Prim.Native.Nat.{_*_, _+_, _<_};
 ghost use lib.ListN.{length};
@@ -8,7 +8,7 @@ ghost use Rattle.taking_up.specs.AsParked.{AsParked};
 ghost use Rattle.taking_up.specs.TakenBack.{TakenBack};
 ghost use Rattle.parking.specs.Limits.{InLimits};
 ghost use Rattle.parking.specs.Older.{StillTaken};
-ghost use Rattle.taking_up.specs.Long.{Long, Words};
+ghost use Rattle.taking_up.specs.Long.{Long, ThinLong, Words};
 ghost use Rattle.parking.specs.Parked as P;
 ghost use Rattle.parking.specs.Parking as K;
 ghost use Rattle.taking_up.specs.Taking as T;
@@ -22,14 +22,19 @@ use crate::reading::fir_written;
 use crate::reading::half_band_from;
 use crate::reading::in_limits;
 use crate::reading::long_as;
+use crate::reading::neighbours_from;
+use crate::reading::place_from;
 use crate::reading::resampler_from;
 use crate::reading::resampler_written;
 use crate::reading::settings_from;
 use crate::reading::stages_written;
+use crate::reading::thin_long_as;
 use line::Line;
 use line::LineOpened;
 use line::line_valid;
 use line::zeros;
+use nonrecursive::Thinning;
+use nonrecursive::nonrecursive_decimator::MAX_NEIGHBOURS;
 use parking::settings::ParkedSettings;
 use refusal::Opening;
 use refusal::Refusal;
@@ -69,8 +74,44 @@ fn line_from(
     let s = half_band_from(q, half_band);
     let p = resampler_from(q, cells, resampler);
     let cuts = narrow32(q.cuts);
+    let thinning = Thinning::Integrators;
+    let neighbours = [0i32; MAX_NEIGHBOURS];
     Line {
+        thinning,
         cic: d,
+        neighbours,
+        fir: f,
+        half_band: s,
+        resampler: p,
+        cuts,
+    }
+}
+
+// The same of eight entries, but for the empty one.
+fn line_from_thin(
+    q: ParkedSettings,
+    taps: &[u8],
+    delay: &[u8],
+    half_band: &[u8],
+    cells: &[u8],
+    resampler: &[u8],
+    last: &[u8],
+) -> Line
+    requires { ⌜ (InLimits (numbersOf q)) × (Words (numbersOf q)) × (ThinLong (numbersOf q) (length (now taps))
+        (length (now delay)) (length (now «half_band»)) (length (now cells)) (length (now resampler)) (length (now last))) ⌝ }
+    ensures { λ l. ⌜ l ≡ T.thinLineOf (numbersOf q) (now (taps .entry)) (now (delay .entry)) (now («half_band» .entry)) (now (cells .entry)) (now (resampler .entry)) (now (last .entry)) ⌝ }
+{
+    let d = place_from(q, last);
+    let neighbours = neighbours_from(q, last);
+    let f = fir_from(q, taps, delay);
+    let s = half_band_from(q, half_band);
+    let p = resampler_from(q, cells, resampler);
+    let cuts = narrow32(q.cuts);
+    let thinning = Thinning::Neighbours;
+    Line {
+        thinning,
+        cic: d,
+        neighbours,
         fir: f,
         half_band: s,
         resampler: p,
@@ -156,6 +197,32 @@ fn open_parts(
     }
 }
 
+// The same of eight entries.
+fn open_thin_parts(
+    q: ParkedSettings,
+    taps: &[u8],
+    delay: &[u8],
+    half_band: &[u8],
+    cells: &[u8],
+    resampler: &[u8],
+    last: &[u8],
+) -> LineOpened
+    requires { ⌜ (Words (numbersOf q)) × (ThinLong (numbersOf q) (length (now taps)) (length (now delay)) (length (now «half_band»)) (length (now cells)) (length (now resampler)) (length (now last))) ⌝ }
+    ensures { λ r. ⌜ L.toldOpening r ≡ T.thinOpenedOf (numbersOf q) (now (taps .entry)) (now (delay .entry)) (now («half_band» .entry)) (now (cells .entry)) (now (resampler .entry)) (now (last .entry)) ⌝ }
+{
+    if !in_limits(q) {
+        return refused(Refusal::State);
+    }
+    let line = line_from_thin(q, taps, delay, half_band, cells, resampler, last);
+    if !line_fine(line, q, delay, half_band, cells, resampler) {
+        return refused(Refusal::State);
+    }
+    LineOpened {
+        answer: Opening::Opened,
+        line,
+    }
+}
+
 // What seven entries answer.
 fn open_entries(
     settings: &[u8],
@@ -203,9 +270,68 @@ fn open_sheet(bytes: &[u8]) -> LineOpened
     open_entries(settings, cic, taps, delay, half_band, cells, resampler)
 }
 
+// What eight entries answer.
+fn open_thin_entries(
+    settings: &[u8],
+    cic: &[u8],
+    taps: &[u8],
+    delay: &[u8],
+    half_band: &[u8],
+    cells: &[u8],
+    resampler: &[u8],
+    last: &[u8],
+) -> LineOpened
+    ensures { λ r. ⌜ L.toldOpening r ≡ T.thinOpenedFrom (now (settings .entry)) (now (cic .entry)) (now (taps .entry)) (now (delay .entry))
+        (now («half_band» .entry)) (now (cells .entry)) (now (resampler .entry)) (now (last .entry)) ⌝ }
+{
+    if settings.len() != 24 {
+        return refused(Refusal::Parked);
+    }
+    let q = settings_from(settings);
+    if !thin_long_as(
+        q,
+        cic.len(),
+        taps.len(),
+        delay.len(),
+        half_band.len(),
+        cells.len(),
+        resampler.len(),
+        last.len(),
+    ) {
+        return refused(Refusal::Parked);
+    }
+    open_thin_parts(q, taps, delay, half_band, cells, resampler, last)
+}
+
+// What a sheet of eight entries answers.
+fn open_thin_sheet(bytes: &[u8]) -> LineOpened
+    ensures { λ r. ⌜ L.toldOpening r ≡ T.thinOpenedFrom (T.thinEntryIn (now (bytes .entry)) 0) (T.thinEntryIn (now (bytes .entry)) 1)
+        (T.thinEntryIn (now (bytes .entry)) 2) (T.thinEntryIn (now (bytes .entry)) 3) (T.thinEntryIn (now (bytes .entry)) 4)
+        (T.thinEntryIn (now (bytes .entry)) 5) (T.thinEntryIn (now (bytes .entry)) 6) (T.thinEntryIn (now (bytes .entry)) 7) ⌝ }
+{
+    let settings = entry_part(bytes, 8, 0);
+    let cic = entry_part(bytes, 8, 1);
+    let taps = entry_part(bytes, 8, 2);
+    let delay = entry_part(bytes, 8, 3);
+    let half_band = entry_part(bytes, 8, 4);
+    let cells = entry_part(bytes, 8, 5);
+    let resampler = entry_part(bytes, 8, 6);
+    let last = entry_part(bytes, 8, 7);
+    open_thin_entries(
+        settings,
+        cic,
+        taps,
+        delay,
+        half_band,
+        cells,
+        resampler,
+        last,
+    )
+}
+
 // The line of a parked sheet. Refusals 16, 17, 21, then 15. The clause `back`: of what parking left in front of a span, after any feeds and parkings, the line never
-// parked. The clause `parked`: what is taken up parks to the entries that it was taken from. The clause `earlier`: what a panel before request 7 takes up is taken up, as
-// the same line.
+// parked, and of any line's sheet one that goes on as it. The clause `parked`: what is taken up parks to the entries that it was taken from. The clause `earlier`: what an older
+// panel takes up is taken up, as the same line.
 pub fn take_up(bytes: &[u8]) -> LineOpened
     ensures answer { λ r. ⌜ L.toldOpening r ≡ K.takenUp P.panel (now (bytes .entry)) ⌝ }
     ensures back { λ r. ⌜ TakenBack (now (bytes .entry)) (L.toldOpening r) ⌝ }
@@ -217,8 +343,12 @@ pub fn take_up(bytes: &[u8]) -> LineOpened
         let line = zeros();
         return LineOpened { answer, line };
     }
-    if kept_count(bytes) != 7 {
+    let count = kept_count(bytes);
+    if count == 7 {
+        return open_sheet(bytes);
+    }
+    if count != 8 {
         return refused(Refusal::Parked);
     }
-    open_sheet(bytes)
+    open_thin_sheet(bytes)
 }

@@ -45,7 +45,7 @@ pub use hbf_dec_cascade_98::HbfDecCascade98;
 pub use hbf_int::HbfInt;
 pub use hbf_int_cascade::HbfIntCascade;
 pub use hbf_stream::HbfStream;
-pub use line::{Line, Phase, Settings, Step, next_piece};
+pub use line::{Line, Phase, Settings, Step, Thinning, next_piece};
 pub use linear_phase_fir::LinearPhaseFir;
 pub use moved::Moved;
 pub use nonrecursive_decimator::NonrecursiveDecimator;

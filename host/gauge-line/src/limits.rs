@@ -4,7 +4,7 @@
 
 /// Stages of a CIC converter, from 1.
 pub const MOST_STAGES: usize = 8;
-/// Neighbours of a nonrecursive decimator.
+/// Neighbours of a nonrecursive decimator or a line.
 pub const MOST_NEIGHBOURS: usize = 96;
 /// Factor of a CIC converter or a FIR, from 1.
 pub const MOST_FACTOR: usize = 4096;

@@ -1,7 +1,8 @@
 //! The gauge line.
 
 use crate::limits::{
-    HBF_DEC_DELAYS, MOST_DEPTH, MOST_PHASE_TAPS, MOST_PROTOTYPE, MOST_STAGES, MOST_TAPS,
+    HBF_DEC_DELAYS, MOST_DEPTH, MOST_NEIGHBOURS, MOST_PHASE_TAPS, MOST_PROTOTYPE, MOST_STAGES,
+    MOST_TAPS,
 };
 use crate::moved::Moved;
 use crate::raw;
@@ -44,6 +45,8 @@ pub struct Settings {
     pub phase: Phase,
     /// Input samples for each output of the resampler, 1/64 to 64.
     pub step: f32,
+    /// What thins by r.
+    pub thinning: Thinning,
 }
 
 impl Default for Settings {
@@ -57,8 +60,36 @@ impl Default for Settings {
             phase_taps: 0,
             phase: Phase::Wrapped,
             step: 1.0,
+            thinning: Thinning::Integrators,
         }
     }
+}
+
+/// What thins by r. Both kinds give the same levels of the same samples, feed after feed, every wrapped sum included.
+///
+/// ```
+/// use gauge_line::{Line, Refusal, Settings, Thinning};
+///
+/// let settings = Settings { stages: 3, r: 4, ..Settings::default() };
+/// let samples: Vec<i32> = (0..64i32).map(|n| n.wrapping_mul(67_108_859)).collect();
+/// let levels = |thinning| {
+///     let mut out = [0.0; 16];
+///     Line::open(Settings { thinning, ..settings }, &[], &[])?.feed(&samples, &mut out)?;
+///     Ok::<_, Refusal>(out)
+/// };
+/// assert_eq!(levels(Thinning::Neighbours)?, levels(Thinning::Integrators)?);
+///
+/// let sixths = Settings { r: 6, thinning: Thinning::Neighbours, ..settings };
+/// assert_eq!(Line::open(sixths, &[], &[]).unwrap_err(), Refusal::PowerOfTwo);
+/// # Ok::<(), Refusal>(())
+/// ```
+#[derive(Clone, Copy, Debug, Default, PartialEq, Eq)]
+pub enum Thinning {
+    /// The integrators and combs of the CIC decimator, for any r.
+    #[default]
+    Integrators,
+    /// Sums of neighbours, for r a power of two: no state grows, so what was wrong of one sample is gone after stages × r more.
+    Neighbours,
 }
 
 /// How a resampler of P phases and T taps reads its prototype at the place q = (1 − mu) × P, which is from 0 to P.
@@ -127,6 +158,8 @@ pub struct Line {
     delay: [f32; MOST_PHASE_TAPS],
     prototype: [f32; MOST_PROTOTYPE],
     cuts: u32,
+    thinning: u64,
+    neighbours: [i32; MOST_NEIGHBOURS],
 }
 
 const ZEROS: Line = Line {
@@ -152,6 +185,8 @@ const ZEROS: Line = Line {
     delay: [0.0; MOST_PHASE_TAPS],
     prototype: [0.0; MOST_PROTOTYPE],
     cuts: 0,
+    thinning: 0,
+    neighbours: [0; MOST_NEIGHBOURS],
 };
 
 // A function of the archive on a line: what stands before its fields, the fields in the order in which they cross, what stands behind.
@@ -181,6 +216,8 @@ macro_rules! on_line {
             &mut $line.delay,
             &mut $line.prototype,
             &mut $line.cuts,
+            &mut $line.thinning,
+            &mut $line.neighbours,
             $($after,)*
         )
     };
@@ -193,7 +230,7 @@ impl Line {
     /// Opens a line. `taps` are the FIR's, in Q15 (32768ths), at most [`MOST_TAPS`]; none turn the FIR off. `prototype` is the resampler's, phases × phase_taps long, tap t of phase p at
     /// t × phases + p: [`PolyphaseResampF32`](crate::PolyphaseResampF32) says how a filter design is laid into it. Both are copied. A part that is off hands its values on.
     ///
-    /// Refused: `Stages`, `Factor`, `GainBits`, `FirFactor`, `Taps`, `Depth`, `Phases`, `Prototype`, `Step`.
+    /// Refused: `Stages`, `Factor`, `PowerOfTwo` of neighbours only, `GainBits`, `FirFactor`, `Taps`, `Depth`, `Phases`, `Prototype`, `Step`.
     ///
     /// ```
     /// # use gauge_line::{Line, Refusal, Settings};
@@ -206,7 +243,7 @@ impl Line {
         // SAFETY: each pointer is lent with the length of its own slice, and the fields are this function's own.
         let number = unsafe {
             on_line!(
-                gauge_raw_line_open_2,
+                gauge_raw_line_open_3,
                 [
                     settings.stages as u64,
                     settings.r as u64,
@@ -216,6 +253,7 @@ impl Line {
                     settings.phase_taps as u64,
                     u64::from(settings.phase == Phase::Straight),
                     settings.step,
+                    u64::from(settings.thinning == Thinning::Neighbours),
                     taps.as_ptr(),
                     taps.len() as u64,
                     prototype.as_ptr(),
@@ -376,6 +414,7 @@ mod tests {
         phase_taps: 1,
         phase: Phase::Straight,
         step: 1.5,
+        thinning: Thinning::Integrators,
     };
 
     fn opened() -> Line {
@@ -393,7 +432,8 @@ mod tests {
         assert_eq!(line.taps[..3], [11, 12, 0]);
         assert_eq!(line.fir_delay, [0; MOST_TAPS]);
         assert_eq!(line.prototype[..5], [0.1, 0.2, 0.3, 0.4, 0.0]);
-        assert_eq!(line.cuts, 0);
+        assert_eq!((line.cuts, line.thinning), (0, 0));
+        assert_eq!(line.neighbours, [0; MOST_NEIGHBOURS]);
     }
 
     #[test]
@@ -427,6 +467,24 @@ mod tests {
         line.feed(&[9], &mut [0.0]).unwrap();
         assert_eq!((line.integrators[0], line.combs[0]), (9, 0));
         assert_eq!(line.sample_counter, 1);
+    }
+
+    // Its sums go by neighbours alone, and a reset keeps the setting.
+    #[test]
+    fn a_line_of_neighbours_adds_to_none_of_the_integrators() {
+        let settings = Settings {
+            r: 8,
+            thinning: Thinning::Neighbours,
+            ..SETTINGS
+        };
+        let fresh = Line::open(settings, &[11, 12], &[0.1, 0.2, 0.3, 0.4]).unwrap();
+        let mut line = fresh.clone();
+        line.feed(&[9, 5], &mut [0.0]).unwrap();
+        assert_eq!((line.thinning, line.sample_counter), (1, 2));
+        assert_eq!(line.neighbours[..4], [5, 14, 23, 32]);
+        assert_eq!((line.integrators, line.combs), ([0; 8], [0; 8]));
+        line.reset().unwrap();
+        assert_eq!(line, fresh);
     }
 
     // Wrapped by default, and a reset keeps the setting.

@@ -1,6 +1,6 @@
 //! A feeding plan, tried before a line is opened.
 
-use crate::line::{Phase, Settings};
+use crate::line::{Phase, Settings, Thinning};
 use crate::raw;
 use crate::refusal::{Refusal, answered};
 
@@ -36,7 +36,7 @@ pub fn plan(
 ) -> Result<(), Refusal> {
     // SAFETY: each pointer is lent with the length of its own slice.
     let number = unsafe {
-        raw::gauge_raw_plan(
+        raw::gauge_raw_plan_3(
             settings.stages as u64,
             settings.r as u64,
             settings.factor as u64,
@@ -45,6 +45,7 @@ pub fn plan(
             settings.phase_taps as u64,
             u64::from(settings.phase == Phase::Straight),
             settings.step,
+            u64::from(settings.thinning == Thinning::Neighbours),
             taps.as_ptr(),
             taps.len() as u64,
             prototype.as_ptr(),

@@ -108,7 +108,7 @@ unsafe extern "C" {
         out_buf_len: u64,
         written: &mut u64,
     ) -> u64;
-    pub fn gauge_raw_plan(
+    pub fn gauge_raw_plan_3(
         stages: u64,
         r: u64,
         factor: u64,
@@ -117,6 +117,7 @@ unsafe extern "C" {
         phase_taps: u64,
         straight: u64,
         step: f32,
+        thinning: u64,
         taps: *const i16,
         taps_len: u64,
         prototype: *const f32,
@@ -158,7 +159,7 @@ unsafe extern "C" {
         value: &mut i16,
         cut: &mut u64,
     ) -> u64;
-    pub fn gauge_raw_line_open_2(
+    pub fn gauge_raw_line_open_3(
         wanted_stages: u64,
         wanted_r: u64,
         wanted_factor: u64,
@@ -167,6 +168,7 @@ unsafe extern "C" {
         wanted_phase_taps: u64,
         wanted_straight: u64,
         wanted_step: f32,
+        wanted_thinning: u64,
         wanted_taps: *const i16,
         wanted_taps_len: u64,
         wanted_prototype: *const f32,
@@ -193,6 +195,8 @@ unsafe extern "C" {
         delay: &mut [f32; MOST_PHASE_TAPS],
         prototype: &mut [f32; MOST_PROTOTYPE],
         cuts: &mut u32,
+        thinning: &mut u64,
+        neighbours: &mut [i32; MOST_NEIGHBOURS],
     ) -> u64;
     pub fn gauge_raw_line_reset(
         stages: &mut u64,
@@ -217,6 +221,8 @@ unsafe extern "C" {
         delay: &mut [f32; MOST_PHASE_TAPS],
         prototype: &mut [f32; MOST_PROTOTYPE],
         cuts: &mut u32,
+        thinning: &mut u64,
+        neighbours: &mut [i32; MOST_NEIGHBOURS],
     ) -> u64;
     pub fn gauge_raw_line_step(
         stages: &mut u64,
@@ -241,6 +247,8 @@ unsafe extern "C" {
         delay: &mut [f32; MOST_PHASE_TAPS],
         prototype: &mut [f32; MOST_PROTOTYPE],
         cuts: &mut u32,
+        thinning: &mut u64,
+        neighbours: &mut [i32; MOST_NEIGHBOURS],
         samples: *const i32,
         samples_len: u64,
         at: u64,
@@ -272,6 +280,8 @@ unsafe extern "C" {
         delay: &mut [f32; MOST_PHASE_TAPS],
         prototype: &mut [f32; MOST_PROTOTYPE],
         cuts: &mut u32,
+        thinning: &mut u64,
+        neighbours: &mut [i32; MOST_NEIGHBOURS],
         samples: *const i32,
         samples_len: u64,
         out: *mut f32,
@@ -547,6 +557,8 @@ unsafe extern "C" {
         delay: &[f32; MOST_PHASE_TAPS],
         prototype: &[f32; MOST_PROTOTYPE],
         cuts: u32,
+        thinning: u64,
+        neighbours: &[i32; MOST_NEIGHBOURS],
         bytes: &mut u64,
     ) -> u64;
     pub fn gauge_raw_line_park(
@@ -572,11 +584,13 @@ unsafe extern "C" {
         delay: &[f32; MOST_PHASE_TAPS],
         prototype: &[f32; MOST_PROTOTYPE],
         cuts: u32,
+        thinning: u64,
+        neighbours: &[i32; MOST_NEIGHBOURS],
         span: *mut u8,
         span_len: u64,
         written: &mut u64,
     ) -> u64;
-    pub fn gauge_raw_line_take_up_2(
+    pub fn gauge_raw_line_take_up_3(
         bytes: *const u8,
         bytes_len: u64,
         stages: &mut u64,
@@ -601,6 +615,8 @@ unsafe extern "C" {
         delay: &mut [f32; MOST_PHASE_TAPS],
         prototype: &mut [f32; MOST_PROTOTYPE],
         cuts: &mut u32,
+        thinning: &mut u64,
+        neighbours: &mut [i32; MOST_NEIGHBOURS],
     ) -> u64;
     pub fn gauge_raw_polyphase_resamp_from_taps(
         wanted_phases: u64,

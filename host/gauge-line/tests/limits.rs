@@ -12,6 +12,7 @@ const SETTINGS: Settings = Settings {
     phase_taps: 0,
     phase: Phase::Wrapped,
     step: 0.0,
+    thinning: Thinning::Integrators,
 };
 
 // A line with a resampler, whose prototype is as long as its settings say.

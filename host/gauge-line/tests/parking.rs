@@ -3,16 +3,16 @@
 //!
 //! `NAME.history` is what goes in: settings, taps and prototype, then feeds, each with its places and its samples, and `park` between two of them. Floats are bits, hexadecimal. With
 //! GAUGE_STORE=1 a sheet `NAME.marked` and answers `NAME.answers` that are missing are written; those that are there never change. `NAME.parked` is what was written before
-//! request 9, the same without the mark.
+//! request 9, the same without the mark; neighbours thinned no line then.
 
 use gauge_line::limits::MOST_TAPS;
-use gauge_line::{Line, Phase, Settings};
+use gauge_line::{Line, Phase, Settings, Thinning};
 use std::fmt::Write;
 use std::path::PathBuf;
 use std::str::FromStr;
 use std::{env, fs};
 
-const STORED: [&str; 5] = ["f1", "f2", "f3", "f4", "f5"];
+const STORED: [&str; 6] = ["f1", "f2", "f3", "f4", "f5", "f7"];
 
 fn place(name: &str) -> PathBuf {
     let folder = PathBuf::from(env!("CARGO_MANIFEST_DIR")).join("tests/parked");
@@ -92,6 +92,7 @@ impl History {
             "depth" => self.settings.depth = number(),
             "phases" => self.settings.phases = number(),
             "phase_taps" => self.settings.phase_taps = number(),
+            "neighbours" => self.settings.thinning = Thinning::Neighbours,
             "straight" => self.settings.phase = Phase::Straight,
             "step" => self.settings.step = float(values[0]),
             "taps" => self.taps = numbers(values),
@@ -147,10 +148,14 @@ fn stored_lines_are_parked_and_taken_up_as_ever() {
         let sheet = stored(&format!("{name}.marked"), &bytes);
         assert_eq!(bytes, sheet, "{name}: other bytes");
 
-        let former = fs::read(place(&format!("{name}.parked"))).unwrap();
-        assert_eq!(marked(&former), sheet, "{name}: more than the mark");
+        let mut sheets = vec![sheet.clone()];
+        if history.settings.thinning == Thinning::Integrators {
+            let former = fs::read(place(&format!("{name}.parked"))).unwrap();
+            assert_eq!(marked(&former), sheet, "{name}: more than the mark");
+            sheets.push(former);
+        }
         let after = answers(&mut line, &history.after);
-        for sheet in [&sheet, &former] {
+        for sheet in &sheets {
             let mut taken_up = Line::take_up(sheet).unwrap();
             assert_eq!(parked(&taken_up), bytes, "{name}: other bytes again");
             assert_eq!(answers(&mut taken_up, &history.after), after, "{name}");
@@ -209,13 +214,25 @@ fn a_short_span_stays_as_it_was() {
 fn the_largest_line_has_the_most_bytes() {
     let settings = Settings {
         stages: 8,
-        r: 1,
         factor: 1,
         depth: 5,
         phases: 64,
         phase_taps: 16,
         ..Settings::default()
     };
-    let line = Line::open(settings, &[1; MOST_TAPS], &[0.0; 1024]).unwrap();
-    assert_eq!(line.parked_len(), Ok(Line::MOST_PARKED));
+    let bytes = |settings| {
+        let line = Line::open(settings, &[1; MOST_TAPS], &[0.0; 1024])?;
+        line.parked_len()
+    };
+    assert_eq!(bytes(settings), Ok(5576));
+    let thinned = (1..=8).flat_map(|stages| {
+        (0..=12).map(move |halvings| Settings {
+            stages,
+            r: 1 << halvings,
+            thinning: Thinning::Neighbours,
+            ..settings
+        })
+    });
+    let most = thinned.filter_map(|settings| bytes(settings).ok()).max();
+    assert_eq!(most, Some(Line::MOST_PARKED));
 }

@@ -12,6 +12,7 @@ const SETTINGS: Settings = Settings {
     phase_taps: 1,
     phase: gauge_line::Phase::Wrapped,
     step: 0.75,
+    thinning: gauge_line::Thinning::Integrators,
 };
 const TAPS: [i16; 5] = [1000; 5];
 const PROTOTYPE: [f32; 2] = [1.0, 0.0];

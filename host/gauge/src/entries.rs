@@ -9,9 +9,10 @@ use std::os::unix::ffi::OsStrExt;
 use std::path::{Path, PathBuf};
 
 /// Every name that a settings file may set.
-pub const NAMES: [&str; 11] = [
+pub const NAMES: [&str; 12] = [
     "stages",
     "r",
+    "thinning",
     "factor",
     "taps",
     "depth",

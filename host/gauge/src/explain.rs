@@ -47,7 +47,7 @@ pub fn explanation(name: &str, file: &LineFile, unit: Unit) -> Result<String, Fa
     );
     add_table(&mut text, &sections, unit);
     add_start(&mut text, file, &sections, unit);
-    add_ranges(&mut text, file, bits);
+    add_ranges(&mut text, file, &sections, bits);
     add_rounding(&mut text, file.taps.len());
     add_levels(&mut text, file)?;
     if file.settings.phases > 0 {
@@ -114,7 +114,7 @@ fn add_start(text: &mut String, file: &LineFile, sections: &[Section], unit: Uni
 }
 
 // The samples that a line can take.
-fn add_ranges(text: &mut String, file: &LineFile, bits: u32) {
+fn add_ranges(text: &mut String, file: &LineFile, sections: &[Section], bits: u32) {
     let (stages, r) = (file.settings.stages, file.settings.r);
     let uncut = range::uncut(stages, r, &file.taps);
     let ranges = [
@@ -133,7 +133,8 @@ fn add_ranges(text: &mut String, file: &LineFile, bits: u32) {
     if bits > FULL_SCALE_GAIN_BITS {
         add!(
             text,
-            "Warning: {bits} gain bits are over {FULL_SCALE_GAIN_BITS}, so no sample reaches 16-bit full scale: behind the CIC decimator levels stay within {0} of 0.",
+            "Warning: {bits} gain bits are over {FULL_SCALE_GAIN_BITS}, so no sample reaches 16-bit full scale: behind the {} levels stay within {} of 0.",
+            sections[0].name,
             2f64.powi(FULL_SCALE_GAIN_BITS as i32 - bits as i32)
         );
     }
@@ -329,7 +330,7 @@ mod tests {
     #[test]
     fn each_part_of_the_explanation_is_there() {
         let text = explained(FULL, Unit::Sample);
-        assert!(text.starts_with("f: a state of 6808 bytes, 6 gain bits of at most 31\n"));
+        assert!(text.starts_with("f: a state of 7200 bytes, 6 gain bits of at most 31\n"));
         assert!(text.contains("worst alias into 0 to 0.4    -15.0 dB"));
         assert!(explained(&FULL.replace("1.5", "0.1"), Unit::Sample).contains(" 3.2 "));
         assert!(!explained(PLAIN, Unit::Sample).contains("alias"));

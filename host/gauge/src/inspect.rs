@@ -94,6 +94,7 @@ impl Table {
         let (part, numbers) = (parked.parts[k], &parked.numbers);
         match k {
             0 => self.settings(part),
+            1 if part.bytes.is_empty() => (),
             1 => {
                 self.row(part.at, "sample counter", part.short(0));
                 self.words(part, 2, numbers.stages, "integrator");
@@ -106,19 +107,23 @@ impl Table {
             }
             4 => self.half_band(parked),
             5 => self.floats(part, 0, numbers.phases * numbers.phase_taps, "tap"),
-            _ => {
+            6 => {
                 self.row(part.at, "mu", part.float(0));
                 self.floats(part, 4, numbers.phase_taps, "delay");
+            }
+            _ => {
+                self.row(part.at, "place", part.short(0));
+                self.words(part, 2, numbers.neighbours(), "neighbour");
             }
         }
     }
 }
 
 fn table(parked: &Parked, bytes: usize) -> String {
-    let count = entries(NAMES.len());
+    let count = entries(parked.parts.len());
     let mut table = Table(format!("a parked line: {count} in {bytes} bytes\n"));
-    for (k, name) in NAMES.into_iter().enumerate() {
-        let size = parked.parts[k].bytes.len();
+    for (k, (name, part)) in NAMES.iter().zip(&parked.parts).enumerate() {
+        let size = part.bytes.len();
         let _ = writeln!(table.0, "entry {k}, {name}: {size} bytes");
         table.entry(parked, k);
     }

@@ -7,7 +7,7 @@ use crate::nearest::did_you_mean;
 use crate::numbers::{List, Number, listed};
 use crate::reason::{name_of, range, reason};
 use crate::text::{read_small, strange, without_mark};
-use gauge_line::{Line, Phase, Refusal, Settings, prototype_by_tap};
+use gauge_line::{Line, Phase, Refusal, Settings, Thinning, prototype_by_tap};
 use std::path::{Path, PathBuf};
 use std::str::FromStr;
 
@@ -67,8 +67,9 @@ impl LineFile {
             depth: number(&entries, "depth", "a whole number")?,
             phases: number(&entries, "phases", "a whole number")?,
             phase_taps: number(&entries, "phase_taps", "a whole number")?,
-            phase: phase(&entries)?,
+            phase: either(&entries, "phase", PHASES)?,
             step: number(&entries, "step", "a number")?,
+            thinning: either(&entries, "thinning", THINNINGS)?,
         };
         let (order, prototype) = in_order(&entries)?;
         let taps = entries.get("taps").map(|entry| &entry.value[..]);
@@ -129,20 +130,26 @@ impl LineFile {
     }
 }
 
-// How the resampler reads its prototype, wrapped where it is not set.
-fn phase(entries: &Entries) -> Result<Phase, Fault> {
-    let Some(entry) = entries.get("phase") else {
-        return Ok(Phase::default());
+// How the resampler reads its prototype, and what thins.
+const PHASES: [(&str, Phase); 2] = [("wrapped", Phase::Wrapped), ("straight", Phase::Straight)];
+const THINNINGS: [(&str, Thinning); 2] = [
+    ("integrators", Thinning::Integrators),
+    ("neighbours", Thinning::Neighbours),
+];
+
+// A setting of two words, the first where it is not set.
+fn either<T: Copy>(entries: &Entries, name: &str, words: [(&str, T); 2]) -> Result<T, Fault> {
+    let Some(entry) = entries.get(name) else {
+        return Ok(words[0].1);
     };
-    match &*entry.text() {
-        "wrapped" => Ok(Phase::Wrapped),
-        "straight" => Ok(Phase::Straight),
-        other => {
-            let hint = did_you_mean(other, &["wrapped", "straight"]);
-            let what = format!("not wrapped or straight{}{hint}", strange(other));
-            Err(entries.fault("phase", what))
-        }
-    }
+    let text = entry.text();
+    let found = words.iter().find(|(word, _)| *word == &*text);
+    found.map(|(_, setting)| *setting).ok_or_else(|| {
+        let [one, other] = words.map(|(word, _)| word);
+        let hint = did_you_mean(&text, &[one, other]);
+        let what = format!("not {one} or {other}{}{hint}", strange(&text));
+        entries.fault(name, what)
+    })
 }
 
 // The order of a prototype, and its numbers or the name of their file. There is one prototype.
@@ -219,17 +226,18 @@ mod tests {
 
     #[test]
     fn each_setting_reaches_its_member() {
-        let text = "# a line\nstages = 3\nr = 5 # factor\nfactor=7\ntaps = 11 12\n\ndepth = 2\nphases = 4\nphase_taps = 1\nphase = straight\nstep = 1.5\nprototype = 0.1 0.2 0.3 0.4\n";
+        let text = "# a line\nstages = 3\nr = 8 # factor\nthinning = neighbours\nfactor=7\ntaps = 11 12\n\ndepth = 2\nphases = 4\nphase_taps = 1\nphase = straight\nstep = 1.5\nprototype = 0.1 0.2 0.3 0.4\n";
         let file = LineFile::parse("f", text).unwrap();
         let settings = Settings {
             stages: 3,
-            r: 5,
+            r: 8,
             factor: 7,
             depth: 2,
             phases: 4,
             phase_taps: 1,
             phase: Phase::Straight,
             step: 1.5,
+            thinning: Thinning::Neighbours,
         };
         assert_eq!(file.settings, settings);
         assert_eq!(file.taps, [11, 12]);
@@ -274,7 +282,7 @@ mod tests {
     }
 
     // Settings, and what is told of them. 4, 7 to 10 and 15 are refusals of other calls.
-    const REFUSED: [(&str, &str); 9] = [
+    const REFUSED: [(&str, &str); 11] = [
         (
             "stages = 9\nr = 2",
             "f:1: stages = 9: refusal 1, Stages: 1 to 8",
@@ -282,6 +290,14 @@ mod tests {
         (
             "stages = 1\nr = 0",
             "f:2: r = 0: refusal 2, Factor: 1 to 4096",
+        ),
+        (
+            "stages = 9\nr = 48\nthinning = neighbours",
+            "f:1: stages = 9: refusal 1, Stages: 1 to 8",
+        ),
+        (
+            "stages = 8\nr = 48\nthinning = neighbours",
+            "f:2: r = 48: refusal 23, PowerOfTwo: a power of two where neighbours thin, as 32 or 64",
         ),
         (
             "stages = 8\nr = 15",
@@ -335,6 +351,10 @@ mod tests {
         assert_eq!(
             fault("phase = strait"),
             "f:1: phase = strait: not wrapped or straight; did you mean straight?"
+        );
+        assert_eq!(
+            fault("thinning = neighbors"),
+            "f:1: thinning = neighbors: not integrators or neighbours; did you mean neighbours?"
         );
     }
 

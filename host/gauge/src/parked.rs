@@ -5,11 +5,11 @@ use crate::line_file::LineFile;
 use crate::parked_fault::{wrong_field, wrong_length};
 use crate::sheet::{SheetFile, pairs};
 use gauge_line::passband::STAGE_TAPS;
-use gauge_line::{Line, Phase, Refusal, Settings};
+use gauge_line::{Line, Phase, Refusal, Settings, Thinning};
 use std::path::Path;
 
-/// What the entries are, in their order.
-pub const NAMES: [&str; 7] = [
+/// What the entries are, in their order. The last is there where neighbours thin, and entry 1 is empty then.
+pub const NAMES: [&str; 8] = [
     "settings",
     "CIC",
     "FIR taps",
@@ -17,6 +17,7 @@ pub const NAMES: [&str; 7] = [
     "half-band delays",
     "prototype",
     "resampler",
+    "neighbours",
 ];
 
 /// The bytes of an entry, and where in the sheet they stand.
@@ -107,18 +108,37 @@ impl Numbers {
         &STAGE_TAPS[..self.depth.min(STAGE_TAPS.len())]
     }
 
-    /// How long the numbers make each entry.
-    pub fn lengths(&self) -> [usize; 7] {
+    /// The neighbours that are parked: N for each halving of r, rounded down, that leaves at least 1.
+    pub fn neighbours(&self) -> usize {
+        self.stages * self.r.checked_ilog2().unwrap_or(0) as usize
+    }
+
+    /// How long the numbers make each entry, of a line that this kind thins.
+    pub fn lengths(&self, thinning: Thinning) -> Vec<usize> {
         let stages = self.stage_taps().iter();
-        [
+        let (cic, last) = match thinning {
+            Thinning::Integrators => (2 + 8 * self.stages, None),
+            Thinning::Neighbours => (0, Some(2 + 4 * self.neighbours())),
+        };
+        let mut all = vec![
             24,
-            2 + 8 * self.stages,
+            cic,
             2 * self.taps,
             2 + 2 * self.taps,
             stages.map(|taps| 6 + 16 * taps).sum(),
             4 * self.phases * self.phase_taps,
             4 + 4 * self.phase_taps,
-        ]
+        ];
+        all.extend(last);
+        all
+    }
+}
+
+/// Which kind thins a parked line: the number of its entries alone says it.
+pub fn thinning_of(parts: &[Part]) -> Thinning {
+    match parts.len() == NAMES.len() {
+        true => Thinning::Neighbours,
+        false => Thinning::Integrators,
     }
 }
 
@@ -127,7 +147,7 @@ pub struct Parked<'a> {
     /// The settings entry.
     pub numbers: Numbers,
     /// Every entry.
-    pub parts: [Part<'a>; 7],
+    pub parts: Vec<Part<'a>>,
 }
 
 impl Parked<'_> {
@@ -146,6 +166,7 @@ impl Parked<'_> {
                 _ => Phase::Straight,
             },
             step: numbers.step,
+            thinning: thinning_of(&self.parts),
         };
         LineFile::parked(
             file,
@@ -155,9 +176,13 @@ impl Parked<'_> {
         )
     }
 
-    /// Samples since the decimator's last sum.
+    /// Samples since the last sum.
     pub fn counter(&self) -> usize {
-        self.parts[1].short(0).into()
+        let part = match thinning_of(&self.parts) {
+            Thinning::Integrators => self.parts[1],
+            Thinning::Neighbours => self.parts[7],
+        };
+        part.short(0).into()
     }
 
     /// Values up to and with the one that makes the FIR's next output.
@@ -237,8 +262,6 @@ impl ParkedFile {
         if let Some(why) = wrong_length(&parts) {
             return Err(self.refused(Refusal::Parked, why));
         }
-        let parts = <[Part; 7]>::try_from(parts);
-        let parts = parts.unwrap_or_else(|_| unreachable!("seven, as was looked at"));
         let numbers = Numbers::of(parts[0]);
         Ok(Parked { numbers, parts })
     }

@@ -1,6 +1,6 @@
 //! Why a parked line is refused, in the fields that stand in it and those that are allowed.
 
-use crate::parked::{NAMES, Numbers, Parked, Part};
+use crate::parked::{NAMES, Numbers, Parked, Part, thinning_of};
 use crate::reason::{name_of, reason};
 use crate::sheet::entries;
 use std::path::Path;
@@ -10,9 +10,12 @@ const NAN: u32 = 0x7fc0_0000;
 
 /// Why the entries are none of a parked line: their number, or the first that is not as long as the settings make it.
 pub fn wrong_length(parts: &[Part]) -> Option<String> {
-    if parts.len() != NAMES.len() {
-        let (has, wanted) = (entries(parts.len()), NAMES.len());
-        return Some(format!("{has}, a parked line has {wanted}"));
+    let (least, most) = (NAMES.len() - 1, NAMES.len());
+    if !(least..=most).contains(&parts.len()) {
+        let has = entries(parts.len());
+        return Some(format!(
+            "{has}, a parked line has {least}, or {most} where neighbours thin"
+        ));
     }
     let told = |k: usize, wanted: usize| {
         let (name, has) = (NAMES[k], parts[k].bytes.len());
@@ -21,8 +24,8 @@ pub fn wrong_length(parts: &[Part]) -> Option<String> {
     if parts[0].bytes.len() != 24 {
         return Some(told(0, 24));
     }
-    let lengths = Numbers::of(parts[0]).lengths();
-    let wrong = (0..NAMES.len()).find(|&k| parts[k].bytes.len() != lengths[k])?;
+    let lengths = Numbers::of(parts[0]).lengths(thinning_of(parts));
+    let wrong = (0..parts.len()).find(|&k| parts[k].bytes.len() != lengths[k])?;
     Some(told(wrong, lengths[wrong]) + " as its settings make it")
 }
 

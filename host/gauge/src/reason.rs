@@ -33,6 +33,12 @@ pub fn reason(refusal: Refusal, file: &LineFile) -> String {
             let gain = (r as u128).pow(stages as u32);
             format!("{r}^{stages} = {gain} is over 2^{MOST_GAIN_BITS}")
         }
+        Refusal::PowerOfTwo => {
+            // An opening refuses 0 and what is over 4,096 before that.
+            let below = 1 << settings.r.ilog2();
+            let above = 2 * below;
+            format!("a power of two where neighbours thin, as {below} or {above}")
+        }
         Refusal::Taps => format!("{} given, at most {MOST_TAPS}", file.taps.len()),
         Refusal::Prototype => {
             let given = file.prototype.len();

@@ -2,7 +2,7 @@
 
 use crate::line_file::LineFile;
 use gauge_line::passband::STAGE_TAPS;
-use gauge_line::{CicDecimator, Phase, Refusal, hbf_tap_table};
+use gauge_line::{CicDecimator, Phase, Refusal, Thinning, hbf_tap_table};
 
 /// The name of the section that a depth turns on.
 pub const HALF_BAND: &str = "half-band cascade";
@@ -21,7 +21,7 @@ pub struct Section {
     pub gain: f64,
 }
 
-/// The sections of a line that are on, in their order. There is always one, the CIC decimator.
+/// The sections of a line that are on, in their order. There is always one, the first.
 pub fn sections(file: &LineFile) -> Result<Vec<Section>, Refusal> {
     let mut all = vec![cic(file)?];
     let mut add = |section: fn(&LineFile, f64) -> Section| {
@@ -61,13 +61,16 @@ pub fn first_level(file: &LineFile) -> usize {
     values * file.settings.r
 }
 
-// N moving sums of r samples, each (r - 1) / 2 late.
+// N moving sums of r samples, each (r - 1) / 2 late, whatever makes them.
 fn cic(file: &LineFile) -> Result<Section, Refusal> {
     let (stages, r) = (file.settings.stages, file.settings.r);
     let cic = CicDecimator::new(stages, r)?;
     let reach = (stages * (r - 1)) as f64;
     Ok(Section {
-        name: "CIC decimator",
+        name: match file.settings.thinning {
+            Thinning::Integrators => "CIC decimator",
+            Thinning::Neighbours => "sums of neighbours",
+        },
         samples_per_value: r as f64,
         delay: reach / 2.0,
         reach,

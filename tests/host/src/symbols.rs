@@ -36,15 +36,18 @@ fn the_archive_has_no_state() {
     }
 }
 
-// A header from before request 7 has shorter structs, and its openings call these: a program that was compiled with it is not linked.
+// A header from before request 7 or 13 has shorter structs or fewer settings, and calls these: a program that was compiled with it is not linked.
 #[test]
 fn an_older_header_does_not_link() {
     let folder = scratch("older_header");
     let program = folder.join("older.c");
     for name in [
         "gauge_raw_line_open",
+        "gauge_raw_line_open_2",
         "gauge_raw_line_take_up",
+        "gauge_raw_line_take_up_2",
         "gauge_raw_fir_decimator_new",
+        "gauge_raw_plan",
     ] {
         let calls = format!("int {name}(void);\nint main(void) {{ return {name}(); }}\n");
         fs::write(&program, calls).expect("a program can be written");

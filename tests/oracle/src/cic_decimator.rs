@@ -66,6 +66,13 @@ const PROCESS_BLOCK: Operation<Block> = Operation {
     archive: integer::cic_decimator_process_block,
 };
 
+/// A block of a fresh state, of a factor that is a power of two: a list's is replayed through the sums of neighbours too.
+const FRESH_BLOCK: Operation<Block> = Operation {
+    code: 0x17,
+    name: "CicDecimator::process_block, from an opening of a power of two",
+    ..PROCESS_BLOCK
+};
+
 fields! {
     /// The port's state: the Rust has N as a constant, and N places for 8.
     pub struct State {
@@ -198,7 +205,24 @@ fn some_block(rng: &mut Rng, state: &mut State, outputs: u64) -> Box<dyn Case> {
     let listed = rng.pick(&[0, 8, 40]);
     let input = samples::list(rng, length, listed);
     let span = samples::span(rng, places.min(LONGEST));
-    PROCESS_BLOCK.on(state, Buffers::of(input, span))
+    let is_fresh =
+        state.integrators == [0; 8] && state.combs == [0; 8] && state.sample_counter == 0;
+    let block = match is_fresh && state.refusal() == 0 && state.r.is_power_of_two() {
+        true => FRESH_BLOCK,
+        false => PROCESS_BLOCK,
+    };
+    block.on(state, Buffers::of(input, span))
+}
+
+/// From an opening: blocks, each of a fresh state whose factor is a power of two.
+fn fresh_blocks(rng: &mut Rng) -> Cases {
+    let fresh = |rng: &mut Rng| {
+        let r = 1 << rng.below(9);
+        let mut state = State::opened(cic_settings::stages(rng), r);
+        let outputs = few_outputs(rng);
+        some_block(rng, &mut state, outputs)
+    };
+    (0..4).map(|_| fresh(rng)).collect()
 }
 
 fn few_outputs(rng: &mut Rng) -> u64 {
@@ -343,7 +367,8 @@ pub fn cases(rng: &mut Rng) -> Cases {
             let mut state = midway(rng);
             vec![any_call(rng, &mut state)]
         }
-        56..=61 => stream(rng),
+        56..=60 => stream(rng),
+        61 => fresh_blocks(rng),
         62 => long_run(rng),
         _ => match rng.below(16) {
             0 => vec![longest_block(rng)],

@@ -7,6 +7,7 @@ use crate::fir_decimator;
 use crate::hbf_stream;
 use crate::line_calls::Stepped;
 use crate::line_settings::Settings;
+use crate::nonrecursive_decimator;
 use crate::polyphase_resamp;
 use crate::refusals;
 use crate::values::{cut, is_cut};
@@ -18,6 +19,8 @@ pub struct Line {
     pub half_band: hbf_stream::State,
     pub resampler: polyphase_resamp::State,
     pub cuts: u32,
+    pub thinning: u64,
+    pub neighbours: [i32; 96],
 }
 
 impl Line {
@@ -40,6 +43,8 @@ impl Line {
                 ),
             },
             cuts: 0,
+            thinning: u64::from(settings.thinning != 0),
+            neighbours: [0; 96],
         }
     }
 
@@ -54,6 +59,7 @@ impl Line {
             taps: self.resampler.taps,
             straight: self.resampler.straight,
             step: self.resampler.step,
+            thinning: self.thinning,
             fir: self.fir.own_taps().to_vec().into(),
             prototype: match self.resampler.phases {
                 0 => Vec::new().into(),
@@ -68,10 +74,11 @@ impl Line {
             fir,
             half_band,
             resampler,
+            thinning,
             ..
         } = self;
         refusals::first([
-            refusals::line_cic_state(cic.stages, cic.r, cic.sample_counter),
+            refusals::line_cic_state(*thinning, cic.stages, cic.r, cic.sample_counter),
             refusals::line_fir_state(fir.tap_count, fir.factor, fir.wait),
             refusals::line_held_cascade(half_band.depth, &half_band.counts),
             refusals::line_resampler_state(
@@ -93,9 +100,26 @@ impl Line {
         self.cuts = self.cuts.saturating_add(is_cut.into());
     }
 
+    /// 02, request 13: "the line may be opened with either". Counter and place are one number.
+    fn scaled(&mut self, sample: i32) -> Option<i32> {
+        if self.thinning == 0 {
+            return self.cic.scaled(sample);
+        }
+        let mut state = nonrecursive_decimator::State {
+            stages: self.cic.stages,
+            r: self.cic.r,
+            neighbours: self.neighbours,
+            place: self.cic.sample_counter,
+        };
+        let sum = state.scaled(sample);
+        self.neighbours = state.neighbours;
+        self.cic.sample_counter = state.place;
+        sum
+    }
+
     /// A sample through sections 1 to 4.
     fn value(&mut self, sample: i32) -> Option<f32> {
-        let sum = self.cic.scaled(sample)?.into();
+        let sum = self.scaled(sample)?.into();
         self.count(is_cut(sum));
         let (thinned, is_cut) = self.fir.sample(cut(sum))?;
         self.count(is_cut);
@@ -158,8 +182,12 @@ impl Fields for Line {
         let named = |(part, fields): (_, Vec<_>)| {
             fields.into_iter().map(move |field| Field { part, ..field })
         };
-        let cuts = self.cuts.field().named("cuts");
-        parts.into_iter().flat_map(named).chain([cuts]).collect()
+        let own = [
+            self.cuts.field().named("cuts"),
+            self.thinning.field().named("thinning"),
+            self.neighbours.field().named("neighbours"),
+        ];
+        parts.into_iter().flat_map(named).chain(own).collect()
     }
 
     fn zeros() -> Self {
@@ -169,6 +197,8 @@ impl Fields for Line {
             half_band: Fields::zeros(),
             resampler: Fields::zeros(),
             cuts: 0,
+            thinning: 0,
+            neighbours: [0; 96],
         }
     }
 }

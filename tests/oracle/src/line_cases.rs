@@ -103,6 +103,8 @@ pub fn midway(rng: &mut Rng) -> Line {
         half_band: hbf_stream::midway(rng),
         resampler: polyphase_resamp::midway_any(rng),
         cuts: some_cuts(rng),
+        thinning: line_settings::thinning(rng, r).min(1),
+        neighbours: std::array::from_fn(|_| samples::one(rng)),
     };
     line.cic.stages = stages;
     line.cic.r = r;

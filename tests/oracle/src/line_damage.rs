@@ -51,7 +51,10 @@ fn damage_integers(rng: &mut Rng, line: &mut Line, faults: u64) {
         line.cic.stages = cic_settings::bad_stages(rng);
     }
     if faults & 2 != 0 {
-        line.cic.r = settings::bad_factor(rng);
+        line.cic.r = match line.thinning {
+            0 => settings::bad_factor(rng),
+            _ => rng.pick(&[0, 3, 6, 48, 4095, 8192]),
+        };
     }
     if faults & 4 != 0 {
         line.cic.sample_counter = rng.pick(&[line.cic.r, line.cic.r.wrapping_add(1), u64::MAX]);

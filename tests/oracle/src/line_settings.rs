@@ -48,6 +48,7 @@ fields! {
         taps: u64,
         straight: u64,
         step: f32,
+        thinning: u64,
         fir: Slice<i16>,
         prototype: Slice<f32>,
     }
@@ -56,7 +57,7 @@ fields! {
 impl Settings {
     pub fn refusal(&self) -> u32 {
         refusals::first([
-            refusals::line_cic(self.stages, self.r),
+            refusals::line_thinning(self.thinning, self.stages, self.r),
             refusals::line_fir(self.fir.len() as u64, self.factor),
             refusals::depth(self.depth),
             refusals::line_resampler(self.phases, self.taps, self.prototype.len(), self.step),
@@ -90,6 +91,14 @@ pub fn cic(rng: &mut Rng) -> (u64, u64) {
         if refusals::line_cic(stages, r) == 0 {
             return (stages, r);
         }
+    }
+}
+
+/// The integrators, or, where the factor lets them, as often the neighbours.
+pub fn thinning(rng: &mut Rng, r: u64) -> u64 {
+    match r.is_power_of_two() {
+        true => rng.below(2) * rng.pick(&[1, 1, 2, 1 << 32, u64::MAX]),
+        false => 0,
     }
 }
 
@@ -129,6 +138,7 @@ pub fn fir_alone(taps: u64, factor: u64) -> Settings {
         taps: 0,
         straight: 0,
         step: 0.0,
+        thinning: 0,
         fir: Lent::pattern(taps, 1 << 14, 0).into(),
         prototype: Lent::pattern(0, 0, 0).into(),
     }
@@ -137,6 +147,7 @@ pub fn fir_alone(taps: u64, factor: u64) -> Settings {
 /// An opening that is not refused. What belongs to a resampler that is off may be anything.
 pub fn good(rng: &mut Rng) -> Settings {
     let (stages, r) = cic(rng);
+    let thinning = thinning(rng, r);
     let (fir, factor) = fir(rng);
     let depth = rng.below(2) * rng.within(1, 5);
     let (mut phases, mut taps) = rng.pick(&RESAMPLERS);
@@ -157,6 +168,7 @@ pub fn good(rng: &mut Rng) -> Settings {
         taps,
         straight: rng.below(2) * rng.pick(&[1, 1, 2, 1 << 32, u64::MAX]),
         step,
+        thinning,
         fir: fir.into(),
         prototype: float_samples::list(rng, length).into(),
     }
@@ -195,9 +207,13 @@ fn spoil_resampler(rng: &mut Rng, opening: &mut Settings, faults: u64) {
 pub fn spoilt(rng: &mut Rng) -> Settings {
     let mut opening = good(rng);
     let faults = match rng.one_in(4) {
-        true => rng.below(512),
-        false => 1 << rng.below(9),
+        true => rng.below(1024),
+        false => 1 << rng.below(10),
     };
+    if faults & 512 != 0 {
+        opening.r = rng.pick(&[3, 5, 6, 12, 48, 4095]);
+        opening.thinning = rng.pick(&[1, 2, 1 << 32]);
+    }
     if faults & 16 != 0 {
         opening.stages = cic_settings::bad_stages(rng);
     }

@@ -44,9 +44,7 @@ const PROCESS_SAMPLE_SCALED: Operation<Step> = Operation {
         number => number,
     }),
     rust: |call| {
-        let bits = call.state.stages * u64::from(call.state.r.ilog2());
-        let sum = call.state.sample(call.lent.sample);
-        call.answer = sum.map(|sum| sum >> bits.min(31)).into();
+        call.answer = call.state.scaled(call.lent.sample).into();
     },
     archive: integer::nonrecursive_decimator_process_sample_scaled,
 };
@@ -193,6 +191,12 @@ impl State {
             });
         self.place = (self.place + 1) % self.r;
         (self.place == 0).then_some(value)
+    }
+
+    /// The same, scaled by as many bits as there are halvings of all stages.
+    pub fn scaled(&mut self, sample: i32) -> Option<i32> {
+        let bits = self.stages * u64::from(self.r.ilog2());
+        self.sample(sample).map(|sum| sum >> bits.min(31))
     }
 }
 

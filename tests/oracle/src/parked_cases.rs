@@ -4,12 +4,13 @@ use crate::archive::line;
 use crate::calls::{Free, Single, Written};
 use crate::case::{Case, Cases, Operation};
 use crate::field::{Fields, fields};
+use crate::fir_decimator::MOST_TAPS;
 use crate::gauge_line::Line;
 use crate::lent::{Lent, Slice};
 use crate::line_calls::Opened;
 use crate::line_cases;
 use crate::line_settings;
-use crate::parked_line::{self, ENTRIES, Panel};
+use crate::parked_line::{self, PARKED, Panel};
 use crate::refusals::STATE;
 use crate::rng::Rng;
 use crate::samples;
@@ -143,7 +144,7 @@ const LONGEST: u64 = 20_000;
 
 /// Every entry as long as the settings entry makes it, with bytes of its own in front.
 fn relengthen(rng: &mut Rng, entries: &mut [Vec<u8>]) {
-    let lengths = parked_line::lengths(&entries[0]);
+    let lengths = parked_line::lengths(&entries[0], entries.len());
     for (entry, length) in entries.iter_mut().zip(lengths) {
         let fill = rng.pick(&[0, 0, 1]);
         entry.resize(length.min(LONGEST) as usize, fill);
@@ -164,7 +165,7 @@ const FLOATS: [u32; 8] = [
 
 /// Four bytes where a float may stand, or two where a number may.
 fn change_field(rng: &mut Rng, entries: &mut [Vec<u8>]) {
-    let k = rng.below(ENTRIES as u64) as usize;
+    let k = rng.below(entries.len() as u64) as usize;
     let entry = &mut entries[k];
     let words = entry.len() as u64 / 2;
     if words < 2 {
@@ -181,7 +182,7 @@ fn change_field(rng: &mut Rng, entries: &mut [Vec<u8>]) {
 
 /// The number in front of an entry: counter, wait, held count, mu.
 fn change_front(rng: &mut Rng, entries: &mut [Vec<u8>]) {
-    let k = rng.pick(&[1, 3, 4, 6]);
+    let k = rng.pick(&[1, 3, 4, 6, entries.len() - 1]);
     let old = entries[0][2];
     let number: u16 = rng.pick(&[0, 1, 2, old.into(), 64, 65, 128, 129, 4096, 4097, 0xffff]);
     if let Some(front) = entries[k].get_mut(..2) {
@@ -191,7 +192,7 @@ fn change_front(rng: &mut Rng, entries: &mut [Vec<u8>]) {
 
 /// One entry longer or shorter, missing or twice.
 fn change_entries(rng: &mut Rng, entries: &mut Vec<Vec<u8>>) {
-    let k = rng.below(ENTRIES as u64) as usize;
+    let k = rng.below(entries.len() as u64) as usize;
     match rng.below(5) {
         0 => drop(entries.remove(k)),
         1 => entries.insert(k, entries[k].clone()),
@@ -233,7 +234,7 @@ fn some_sheet(rng: &mut Rng) -> Vec<u8> {
         false => parked_line::sheet(&entries),
     };
     match rng.below(8) {
-        0 => tap_sheet::damage(rng, &mut sheet, ENTRIES),
+        0 => tap_sheet::damage(rng, &mut sheet, entries.len()),
         1 => {
             let at = rng.below(sheet.len() as u64) as usize;
             sheet[at] ^= 1 << rng.below(8);
@@ -252,16 +253,28 @@ const STORED: [&[u8]; 5] = [
     include_bytes!("../../../host/gauge-line/tests/parked/f5.parked"),
 ];
 
+/// One that was written when neighbours came to thin.
+const OF_NEIGHBOURS: &[u8] = include_bytes!("../../../host/gauge-line/tests/parked/f7.marked");
+
+/// A panel from between requests 9 and 13.
+const WITHOUT_NEIGHBOURS: Panel = Panel {
+    most_taps: MOST_TAPS,
+    rule: Rule::Present,
+    has_neighbours: false,
+};
+
 /// A panel from before request 7.
 const OLDER: Panel = Panel {
     most_taps: 64,
     rule: Rule::Former,
+    has_neighbours: false,
 };
 
 /// A count over 32, as a panel without the mark reads it.
 const DIRECTORY: u32 = 16;
 
-/// 02, request 7: such a panel takes each up, but for a longer one, which it answers with 15; request 9: with the mark it answers each with 16.
+/// 02, request 7: such a panel takes each up, but for a longer one, which it answers with 15; request 9: with the mark it answers each with 16; request 13: of eight entries a panel
+/// before it answers 21.
 pub fn stored() -> Cases {
     let mut cases = Vec::new();
     for sheet in STORED {
@@ -270,8 +283,15 @@ pub fn stored() -> Cases {
         assert_eq!(OLDER.taken_up(sheet).err(), is_longer.then_some(STATE));
         let marked = parked_line::parked(&line);
         assert_eq!(OLDER.taken_up(&marked).err(), Some(DIRECTORY));
+        assert!(WITHOUT_NEIGHBOURS.taken_up(&marked).is_ok());
         cases.extend([sheet.to_vec(), marked].map(take_up));
     }
+    assert_eq!(
+        WITHOUT_NEIGHBOURS.taken_up(OF_NEIGHBOURS).err(),
+        Some(PARKED)
+    );
+    assert_eq!(OLDER.taken_up(OF_NEIGHBOURS).err(), Some(DIRECTORY));
+    cases.push(take_up(OF_NEIGHBOURS.to_vec()));
     cases
 }
 

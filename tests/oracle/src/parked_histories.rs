@@ -28,7 +28,7 @@ const HISTORY: Operation<History> = Operation {
 const FEEDS: usize = 10;
 
 /// The longest sheet of a line: no line needs more places.
-const MOST_BYTES: usize = 5576;
+const MOST_BYTES: usize = 5640;
 
 /// A feed, and whether the line is parked before it.
 #[derive(Clone)]

@@ -9,10 +9,11 @@ use crate::refusals::STATE;
 use crate::tap_sheet::{self, Rule};
 
 /// "another entry count or an entry of the wrong length"
-const PARKED: u32 = 21;
+pub const PARKED: u32 = 21;
 
-/// "a tap sheet of seven entries"
+/// "a tap sheet of seven entries"; of request 13, "parked in eight entries".
 pub const ENTRIES: usize = 7;
+pub const THINNED_ENTRIES: usize = 8;
 
 /// The numbers of the settings entry, in their order: eight of 16 bits, two of 32.
 pub const SETTINGS_BYTES: usize = 24;
@@ -26,7 +27,7 @@ const STAGE_PLACES: usize = 96;
 /// "Floats go by their bits", all NaNs being one.
 const NAN: u32 = 0x7fc0_0000;
 
-pub type Entries = [Vec<u8>; ENTRIES];
+pub type Entries = Vec<Vec<u8>>;
 
 /// Bytes one number behind the other.
 #[derive(Default)]
@@ -87,6 +88,7 @@ fn settings(line: &Line) -> Written {
         half_band,
         resampler,
         cuts,
+        ..
     } = line;
     Written::default()
         .short(cic.stages)
@@ -111,18 +113,32 @@ fn half_band(state: &hbf_stream::State) -> Written {
     })
 }
 
-/// The seven entries of a line that row 15 does not name.
+/// "N neighbours for each halving of the factor, rounded down, that leaves at least 1"
+fn neighbours(stages: u64, r: u64) -> u64 {
+    stages * u64::from(r.checked_ilog2().unwrap_or(0))
+}
+
+/// The entries of a line that row 15 does not name: "the CIC one empty, the last holding its place and then N neighbours".
 pub fn entries(line: &Line) -> Entries {
     let line = with_zeros(line);
     let (cic, fir, resampler) = (&line.cic, &line.fir, &line.resampler);
     let (stages, taps) = (cic.stages as usize, fir.tap_count as usize);
     let (cells, phase_taps) = (resampler.phases * resampler.taps, resampler.taps as usize);
-    [
+    let counter = Written::default().short(cic.sample_counter);
+    let (thinner, last) = match line.thinning {
+        0 => {
+            let integrators = counter.words(&cic.integrators[..stages]);
+            (integrators.words(&cic.combs[..stages]), None)
+        }
+        _ => {
+            let count = neighbours(cic.stages, cic.r) as usize;
+            let place = counter.words(&line.neighbours[..count]);
+            (Written::default(), Some(place))
+        }
+    };
+    let first = [
         settings(&line),
-        Written::default()
-            .short(cic.sample_counter)
-            .words(&cic.integrators[..stages])
-            .words(&cic.combs[..stages]),
+        thinner,
         Written::default().shorts(&fir.taps[..taps]),
         Written::default()
             .short(fir.wait)
@@ -132,8 +148,9 @@ pub fn entries(line: &Line) -> Entries {
         Written::default()
             .float(resampler.mu)
             .floats(&resampler.delay[..phase_taps]),
-    ]
-    .map(|entry| entry.0)
+    ];
+    let all = first.into_iter().chain(last);
+    all.map(|entry| entry.0).collect()
 }
 
 /// The sheet of such entries, without gaps, and with the mark of request 9, which "new sheets set, parked ones too".
@@ -206,26 +223,33 @@ fn with_settings(entry: &[u8]) -> Line {
 }
 
 /// "Each entry is exactly as long as the settings entry's numbers make it, even where such a number is past its limit; a depth over 5 counts as 5."
-pub fn lengths(settings: &[u8]) -> [u64; ENTRIES] {
+/// How many there are says what thins.
+pub fn lengths(settings: &[u8], count: usize) -> Vec<u64> {
     let line = with_settings(settings);
     let (stages, taps) = (line.cic.stages, line.fir.tap_count);
     let (phases, phase_taps) = (line.resampler.phases, line.resampler.taps);
     let depth = line.half_band.depth.min(5) as usize;
     let stage_bytes = |taps: &usize| 2 + 4 + 4 * 4 * *taps as u64;
-    [
+    let (thinner, last) = match count {
+        THINNED_ENTRIES => (0, Some(2 + 4 * neighbours(stages, line.cic.r))),
+        _ => (2 + 2 * 4 * stages, None),
+    };
+    let first = [
         SETTINGS_BYTES as u64,
-        2 + 2 * 4 * stages,
+        thinner,
         2 * taps,
         2 + 2 * taps,
         STAGE_TAPS[..depth].iter().map(stage_bytes).sum(),
         4 * phases * phase_taps,
         4 + 4 * phase_taps,
-    ]
+    ];
+    first.into_iter().chain(last).collect()
 }
 
 /// Whether a state has places for what the numbers make used: where not, an opening refuses them.
 fn has_places(line: &Line, most_taps: u64) -> bool {
     line.cic.stages <= 8
+        && line.cic.r <= 4096
         && line.fir.tap_count <= most_taps
         && line.half_band.depth <= 5
         && line.resampler.phases <= 64
@@ -233,24 +257,29 @@ fn has_places(line: &Line, most_taps: u64) -> bool {
 }
 
 /// The fields as they stand in entries of the right lengths; every other place is zero.
-fn fields(mut line: Line, entries: &Entries) -> Line {
+fn fields(mut line: Line, entries: &[Vec<u8>]) -> Line {
     let (stages, taps) = (line.cic.stages as usize, line.fir.tap_count as usize);
     let (cells, phase_taps) = (
         line.resampler.phases * line.resampler.taps,
         line.resampler.taps as usize,
     );
-    let [_, cic, fir_taps, fir_delay, half_band, prototype, resampler] =
-        entries.each_ref().map(|entry| Read(entry));
-    let mut from = cic;
+    let entry = |k: usize| Read(&entries[k]);
+    line.thinning = u64::from(entries.len() == THINNED_ENTRIES);
+    let mut from = entry(if line.thinning == 0 { 1 } else { 7 });
     line.cic.sample_counter = from.short();
-    from.words(&mut line.cic.integrators[..stages]);
-    from.words(&mut line.cic.combs[..stages]);
-    let mut from = fir_taps;
+    if line.thinning == 0 {
+        from.words(&mut line.cic.integrators[..stages]);
+        from.words(&mut line.cic.combs[..stages]);
+    } else {
+        let count = neighbours(line.cic.stages, line.cic.r) as usize;
+        from.words(&mut line.neighbours[..count]);
+    }
+    let mut from = entry(2);
     from.shorts(&mut line.fir.taps[..taps]);
-    let mut from = fir_delay;
+    let mut from = entry(3);
     line.fir.wait = from.short();
     from.shorts(&mut line.fir.delay[..taps]);
-    let mut from = half_band;
+    let mut from = entry(4);
     for (stage, taps) in STAGE_TAPS
         .iter()
         .enumerate()
@@ -260,22 +289,19 @@ fn fields(mut line: Line, entries: &Entries) -> Line {
         line.half_band.held[stage] = from.float();
         from.floats(&mut line.half_band.delays[stage * STAGE_PLACES..][..4 * taps]);
     }
-    let mut from = prototype;
+    let mut from = entry(5);
     from.floats(&mut line.resampler.prototype[..cells as usize]);
-    let mut from = resampler;
+    let mut from = entry(6);
     line.resampler.mu = from.float();
     from.floats(&mut line.resampler.delay[..phase_taps]);
     line
 }
 
-/// The entries of a sheet: 16, 17, then 21 where there is another number of them.
-fn seven(rule: Rule, sheet: &[u8]) -> Result<Entries, u32> {
+/// The entries of a sheet: 16 and 17.
+fn found(rule: Rule, sheet: &[u8]) -> Result<Entries, u32> {
     let part = |&(offset, size): &(u64, u64)| sheet[offset as usize..][..size as usize].to_vec();
-    let parts: Vec<Vec<u8>> = tap_sheet::entries_by(rule, sheet)?
-        .iter()
-        .map(part)
-        .collect();
-    parts.try_into().map_err(|_| PARKED)
+    let pairs = tap_sheet::entries_by(rule, sheet)?;
+    Ok(pairs.iter().map(part).collect())
 }
 
 /// The line of a sheet: "21 when a parked sheet has another entry count or an entry of the wrong length, after 16 and 17; then 15 as for any state, or for fields that no parking
@@ -284,25 +310,31 @@ pub fn taken_up(sheet: &[u8]) -> Result<Line, u32> {
     let panel = Panel {
         most_taps: MOST_TAPS,
         rule: Rule::Present,
+        has_neighbours: true,
     };
     panel.taken_up(sheet)
 }
 
-/// What a panel knows: how many taps its FIR holds (request 7), and the rule of its sheets (request 9).
+/// What a panel knows: how many taps its FIR holds (request 7), the rule of its sheets (request 9), and whether neighbours may thin (request 13).
 pub struct Panel {
     pub most_taps: u64,
     pub rule: Rule,
+    pub has_neighbours: bool,
 }
 
 impl Panel {
     /// "an older panel given a longer one answers 15, never a shortened filter"; "A reader made before this answers a new sheet with 16".
     pub fn taken_up(&self, sheet: &[u8]) -> Result<Line, u32> {
-        let found = seven(self.rule, sheet)?;
-        if found[0].len() != SETTINGS_BYTES {
+        let found = found(self.rule, sheet)?;
+        let is_known = match found.len() {
+            ENTRIES => true,
+            count => count == THINNED_ENTRIES && self.has_neighbours,
+        };
+        if !is_known || found[0].len() != SETTINGS_BYTES {
             return Err(PARKED);
         }
-        let sizes = found.each_ref().map(|entry| entry.len() as u64);
-        if sizes != lengths(&found[0]) {
+        let sizes = found.iter().map(|entry| entry.len() as u64);
+        if !sizes.eq(lengths(&found[0], found.len())) {
             return Err(PARKED);
         }
         let line = with_settings(&found[0]);

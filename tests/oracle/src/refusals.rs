@@ -25,7 +25,7 @@ const POWER_OF_TWO: u32 = 23;
 const MOST: usize = 65_536;
 
 /// "The first that applies, downward, is returned": of the parts' numbers in the order of the table.
-pub fn first(numbers: [u32; 4]) -> u32 {
+pub fn first<const N: usize>(numbers: [u32; N]) -> u32 {
     numbers.into_iter().find(|&number| number != 0).unwrap_or(0)
 }
 
@@ -80,6 +80,15 @@ pub fn line_cic(stages: u64, r: u64) -> u32 {
         0 if over_31_bits(stages, r) => GAIN_BITS,
         number => number,
     }
+}
+
+/// 02, request 13: a line that neighbours thin has "23 .. right after 2", then 3.
+pub fn line_thinning(thinning: u64, stages: u64, r: u64) -> u32 {
+    let factor = match thinning {
+        0 => 0,
+        _ => nonrecursive_opening(stages, r),
+    };
+    first([factor, line_cic(stages, r)])
 }
 
 /// The least g with 2^g no less than r^N is over 31 exactly where r^N exceeds 2^31.
@@ -290,9 +299,9 @@ pub fn line_resampler_state(phases: u64, taps: u64, step: f32, mu: f32) -> u32 {
     }
 }
 
-/// "any call on a state" of the line's decimator: what the line's opening refuses is gain bits over 31 too.
-pub fn line_cic_state(stages: u64, r: u64, sample_counter: u64) -> u32 {
-    if line_cic(stages, r) != 0 || sample_counter >= r {
+/// "any call on a state" of the line's decimator, of either kind: what the line's opening refuses is gain bits over 31 too.
+pub fn line_cic_state(thinning: u64, stages: u64, r: u64, sample_counter: u64) -> u32 {
+    if line_thinning(thinning, stages, r) != 0 || sample_counter >= r {
         STATE
     } else {
         0

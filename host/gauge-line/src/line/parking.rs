@@ -1,20 +1,20 @@
 //! A line parked as a tap sheet, and taken up from one.
 
 use super::{Line, ZEROS};
-use crate::limits::{MOST_PHASE_TAPS, MOST_PROTOTYPE, MOST_STAGES, MOST_TAPS};
+use crate::limits::{MOST_PHASE_TAPS, MOST_PROTOTYPE, MOST_TAPS};
 use crate::raw;
 use crate::refusal::{Refusal, answered};
 
-// The bytes of a sheet: the directory of seven entries, the settings, counter, integrators and combs, FIR taps, wait and FIR delay, five half-band stages, the prototype, mu and the
-// resampler's delay.
-const MOST_PARKED: usize = 58
+// The bytes of a sheet: the directory of eight entries, the settings, FIR taps, wait and FIR delay, five half-band stages, the prototype, mu and the resampler's delay, place and 30
+// neighbours, as of 3 stages and 10 halvings: they are as many as gain bits. With integrators and combs in place of these, and seven entries, it is shorter.
+const MOST_PARKED: usize = 66
     + 24
-    + (2 + 8 * MOST_STAGES)
     + 2 * MOST_TAPS
     + (2 + 2 * MOST_TAPS)
     + 750
     + 4 * MOST_PROTOTYPE
-    + (4 + 4 * MOST_PHASE_TAPS);
+    + (4 + 4 * MOST_PHASE_TAPS)
+    + (2 + 4 * 30);
 
 // A function of the archive on a line that is only read: its fields in the order in which they cross, then what stands behind.
 macro_rules! reading_line {
@@ -42,6 +42,8 @@ macro_rules! reading_line {
             &$line.delay,
             &$line.prototype,
             $line.cuts,
+            $line.thinning,
+            &$line.neighbours,
             $($after,)*
         )
     };
@@ -99,7 +101,7 @@ impl Line {
 
     /// The line of a parked sheet.
     ///
-    /// Refused: `Directory` and `Entries` where the bytes are no tap sheet; `Parked` where it has another number of entries than seven, or one of another length than its settings
+    /// Refused: `Directory` and `Entries` where the bytes are no tap sheet; `Parked` where it has neither seven entries nor eight, or one of another length than its settings
     /// make it; `State` where a line with these fields would be refused, or parking writes no such fields.
     ///
     /// ```
@@ -118,7 +120,7 @@ impl Line {
         // SAFETY: the pointer is lent with the length of its own slice, and the fields are this function's own.
         let number = unsafe {
             on_line!(
-                gauge_raw_line_take_up_2,
+                gauge_raw_line_take_up_3,
                 [sheet.as_ptr(), sheet.len() as u64],
                 line,
                 []

@@ -34,7 +34,9 @@ macro_rules! with_line {
                 resampler.step,
                 resampler.delay,
                 resampler.prototype,
-                cuts
+                cuts,
+                thinning,
+                neighbours
             ],
             $after
         )
@@ -44,7 +46,7 @@ macro_rules! with_line {
 pub fn open(call: &mut Open) -> u64 {
     let (settings, line) = (&call.lent, &mut call.answer.0);
     with_line!(
-        gauge_raw_line_open_2,
+        gauge_raw_line_open_3,
         [
             settings.stages,
             settings.r,
@@ -54,6 +56,7 @@ pub fn open(call: &mut Open) -> u64 {
             settings.taps,
             settings.straight,
             settings.step,
+            settings.thinning,
             settings.fir.elements.as_ptr(),
             settings.fir.len() as u64,
             settings.prototype.elements.as_ptr(),
@@ -93,7 +96,7 @@ pub fn reset(call: &mut Reset) -> u64 {
 /// A line that is only read: its numbers by value, its arrays lent.
 macro_rules! reading_line {
     ($function:expr, $line:expr, [$($after:expr),*]) => {{
-        let crate::gauge_line::Line { cic, fir, half_band, resampler, cuts } = &$line;
+        let crate::gauge_line::Line { cic, fir, half_band, resampler, cuts, thinning, neighbours } = &$line;
         unsafe {
             $function(
                 cic.stages,
@@ -118,6 +121,8 @@ macro_rules! reading_line {
                 &resampler.delay,
                 &resampler.prototype,
                 *cuts,
+                *thinning,
+                neighbours,
                 $($after),*
             )
         }
@@ -148,7 +153,7 @@ pub fn parked_len(call: &mut ParkedLen) -> u64 {
 pub fn take_up(call: &mut TakeUp) -> u64 {
     let (sheet, line) = (&call.lent.sheet.elements, &mut call.answer.0);
     with_line!(
-        gauge_raw_line_take_up_2,
+        gauge_raw_line_take_up_3,
         [sheet.as_ptr(), sheet.len() as u64],
         line,
         []
@@ -161,7 +166,7 @@ pub fn plan(call: &mut Plan) -> u64 {
     let (taken, written) = (&mut call.taken.elements, &mut call.written.elements);
     // SAFETY: each pointer is lent with the length of its own list.
     unsafe {
-        gauge_raw_plan(
+        gauge_raw_plan_3(
             settings.stages,
             settings.r,
             settings.factor,
@@ -170,6 +175,7 @@ pub fn plan(call: &mut Plan) -> u64 {
             settings.taps,
             settings.straight,
             settings.step,
+            settings.thinning,
             settings.fir.elements.as_ptr(),
             settings.fir.len() as u64,
             settings.prototype.elements.as_ptr(),

@@ -1,5 +1,5 @@
 -- `gauge_raw_line_reset` meets its contract: it hands over what the layer's `reset` answers, field by field.
-use mathlib.Core.Path.{_≡_, ap, _∙_, subst⁻¹}
+use mathlib.Core.Path.{_≡_, refl, ap, _∙_, subst⁻¹}
 use mathlib.Core.Bool.{true}
 use borrow.Author.Needs.{needs}
 use Rattle.line.specs.Line as L
@@ -8,6 +8,9 @@ use Rattle.gauge_line.proofs.Lines.{same-line, same-opened}
 use Rattle.gauge_line.proofs.Setting.{same-setting}
 use Rattle.gauge_line.proofs.gauge_line.gauge_raw_line_reset.Statement.{statement}
 use Rattle.gauge_line.proofs.gauge_line.gauge_raw_line_reset.Tie as tie
+
+kind-requires : tie.Need-kind-requires
+kind-requires c κs = search needs
 
 decimator-requires : tie.Need-decimator-requires
 decimator-requires c κs = search needs
@@ -39,12 +42,16 @@ put-stream-requires c κs = search needs
 put-resampler-requires : tie.Need-put-resampler-requires
 put-resampler-requires c κs = search needs
 
+put-thinning-requires : tie.Need-put-thinning-requires
+put-thinning-requires c κs = search needs
+
 opening-number-requires : tie.Need-opening-number-requires
 opening-number-requires c κs = search needs
 
 returns : tie.Need-returns
 returns c =
-    let resampler = c .before in
+    let thinning = c .before in
+    let resampler = thinning .before .before .before .before in
     let half-band = resampler .before .before .before .before .before .before .before .before in
     let fir = half-band .before .before .before .before .before in
     let cic = fir .before .before .before .before .before .before in
@@ -53,10 +60,11 @@ returns c =
     let set = lent-resampler .before .before .before in
     let lent-half-band = set .before .before .before .before in
     let lent-fir = lent-half-band .before .before .before .before .before in
-    let lent-cic = lent-fir .before .before .before .before .before .before in
-    let lent = same-line _ _ _ _ _ _ _ _ _ (lent-cic .decimator .ensures) (lent-fir .fir .ensures) (lent-half-band .stream .ensures) (same-setting _ _ _ _ _ _ _ _ _ (lent-resampler .resampler .ensures) (set .is-set .ensures)) in
-    let told = same-line _ _ _ _ _ _ _ _ _ (cic .put-decimator .ensures) (fir .put-fir .ensures) (half-band .put-stream .ensures) (resampler .put-resampler .ensures .0) in (
-      resampler .put-resampler .ensures .1,
+    let lent-cic = lent-fir .before .before .before .before .before .before .before in
+    let lent-kind = lent-cic .before .before .before .before .before .before in
+    let lent = same-line _ _ _ _ _ _ _ _ _ _ _ _ _ (lent-kind .kind .ensures) (lent-cic .decimator .ensures) refl (lent-fir .fir .ensures) (lent-half-band .stream .ensures) (same-setting _ _ _ _ _ _ _ _ _ (lent-resampler .resampler .ensures) (set .is-set .ensures)) in
+    let told = same-line _ _ _ _ _ _ _ _ _ _ _ _ _ (thinning .put-thinning .ensures .0 .0) (cic .put-decimator .ensures) (thinning .put-thinning .ensures .0 .1) (fir .put-fir .ensures) (half-band .put-stream .ensures) (resampler .put-resampler .ensures .0) in (
+      (resampler .put-resampler .ensures .1, thinning .put-thinning .ensures .1),
       (
         same-opened _ _ _ _ _ (c .opening-number .ensures) told (done .reset .ensures .0 ∙ ap L.reset lent),
         λ valid. c .opening-number .ensures ∙ done .reset .ensures .1 (subst⁻¹ (λ (l : Line). L.valid l ≡ true) lent valid),
@@ -67,6 +75,7 @@ pub gauge-raw-line-reset-spec : {M : Type 1} → statement M
 gauge-raw-line-reset-spec =
     tie.close
     (tie.spec
+    kind-requires
     decimator-requires
     fir-requires
     stream-requires
@@ -77,5 +86,6 @@ gauge-raw-line-reset-spec =
     put-fir-requires
     put-stream-requires
     put-resampler-requires
+    put-thinning-requires
     opening-number-requires
     returns)

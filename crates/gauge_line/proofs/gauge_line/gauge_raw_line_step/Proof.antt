@@ -2,18 +2,24 @@
 use mathlib.Core.Path.{_≡_, ap}
 use Rattle.gauge_line.specs.Crossing.{crossedStep}
 use borrow.Author.Needs.{needs}
-use Rattle.gauge_line.proofs.Setting.{set-flag, is-flag}
+use Rattle.gauge_line.proofs.Setting.{set-flag, is-flag, kind-kept, kind-is-flag}
 use Rattle.gauge_line.proofs.gauge_line.gauge_raw_line_step.Statement.{statement}
 use Rattle.gauge_line.proofs.gauge_line.gauge_raw_line_step.Tie as tie
 
 is-set-requires : tie.Need-is-set-requires
 is-set-requires c κs = search needs
 
+kind-requires : tie.Need-kind-requires
+kind-requires c κs = search needs
+
 step-lent-requires : tie.Need-step-lent-requires
 step-lent-requires c κs = search needs
 
 flag-requires : tie.Need-flag-requires
 flag-requires c κs = search needs
+
+kind-number-requires : tie.Need-kind-number-requires
+kind-number-requires c κs = search needs
 
 step-taken-requires : tie.Need-step-taken-requires
 step-taken-requires c κs = search needs
@@ -30,14 +36,21 @@ step-number-requires c κs = search needs
 returns : tie.Need-returns
 returns c =
     let taken = c .before .before .before in
-    let flag = taken .before in
+    let told = taken .before in
+    let flag = told .before in
     let done = flag .before .before in
-    let set = done .before .before .before .before .before .before .before .before .before .before .before in
+    let kind = done .before .before .before .before .before .before .before .before .before .before .before in
+    let set = kind .before .before .before in
     let b = done .step-lent .result .numbers .straight in
-    rw (flag .flag .ensures) (
-      is-flag b,
-      rw (set-flag b, c .step-number .ensures, c .before .step-value .ensures)
-          (rw (c .before .before .step-written .ensures, taken .step-taken .ensures) (ap crossedStep (rw (set .is-set .ensures) at (done .step-lent .ensures)))),
+    let k = done .step-lent .result .numbers .thinning in
+    rw (flag .flag .ensures, told .kind-number .ensures) (
+      (is-flag b, kind-is-flag k),
+      rw (set-flag b)
+          (rw (kind-kept k)
+          (rw (c .step-number .ensures)
+          (rw (c .before .step-value .ensures)
+          (rw (c .before .before .step-written .ensures)
+          (rw (taken .step-taken .ensures) (ap crossedStep (rw (set .is-set .ensures) at (rw (kind .kind .ensures) at (done .step-lent .ensures))))))))),
     )
 
 pub gauge-raw-line-step-spec : {M : Type 1} → statement M
@@ -45,8 +58,10 @@ gauge-raw-line-step-spec =
     tie.close
     (tie.spec
     is-set-requires
+    kind-requires
     step-lent-requires
     flag-requires
+    kind-number-requires
     step-taken-requires
     step-written-requires
     step-value-requires

@@ -1,9 +1,13 @@
 -- `line_of` meets its contract: each part is put together from its fields.
+use mathlib.Core.Path.{refl}
 use Rattle.gauge_line.proofs.Lines.{same-line}
 use Rattle.gauge_line.proofs.Setting.{same-setting}
 use borrow.Author.Needs.{needs}
 use Rattle.gauge_line.proofs.parked_line.line_of.Statement.{statement}
 use Rattle.gauge_line.proofs.parked_line.line_of.Tie as tie
+
+kind-requires : tie.Need-kind-requires
+kind-requires c κs = search needs
 
 decimator-requires : tie.Need-decimator-requires
 decimator-requires c κs = search needs
@@ -22,13 +26,14 @@ resampler-requires c κs = search needs
 
 returns : tie.Need-returns
 returns c =
-    same-line _ _ _ _ _ _ _ _ _ (c .before .before .before .before .decimator .ensures) (c .before .before .before .fir .ensures) (c .before .before .stream .ensures)
+    same-line _ _ _ _ _ _ _ _ _ _ _ _ _ (c .before .before .before .before .before .kind .ensures) (c .before .before .before .before .decimator .ensures) refl (c .before .before .before .fir .ensures) (c .before .before .stream .ensures)
     (same-setting _ _ _ _ _ _ _ _ _ (c .resampler .ensures) (c .before .is-set .ensures))
 
 pub line-of-spec : {M : Type 1} → statement M
 line-of-spec =
     tie.close
     (tie.spec
+    kind-requires
     decimator-requires
     fir-requires
     stream-requires

@@ -12,6 +12,7 @@ use lib.Ieee.{Float}
 use Rattle.theory.specs.Feeds.{Stepped}
 use Rattle.theory.specs.Feeds as F
 use Rattle.theory.proofs.FeedLoop.{Midway, start, after-took, after-both, after-stopped}
+use Rattle.nonrecursive.specs.declared.thinning.Thinning.the-variants as kind
 use Rattle.float.specs.PolyphaseResamp.{toldDue}
 use Rattle.line.specs.Line.{line, valid, fedLine}
 use Rattle.line.specs.Together.{together, takenOf, steppedAt, counted, RanTo}
@@ -25,11 +26,11 @@ use Rattle.line.proofs.feed.feed_on.Statement.{statement}
 use Rattle.line.proofs.feed.feed_on.Tie as tie
 
 abbrev Inv-loop : tie.InvT-loop
-Inv-loop f integrators₀ combs₀ taps fir-delay₀ delays₀ held₀ counts₀ delay₀ prototype samples out₀ n₀ taken₀ written₀ integrators combs fir-delay delays held counts delay out n taken written =
-    Midway line 64 Good line-lawful (together f n₀ integrators₀ combs₀ taps fir-delay₀ delays₀ held₀ counts₀ delay₀ prototype) samples out₀ out (together f n integrators combs taps fir-delay delays held counts delay prototype) taken written
+Inv-loop f integrators₀ combs₀ neighbours₀ taps fir-delay₀ delays₀ held₀ counts₀ delay₀ prototype samples out₀ n₀ taken₀ written₀ integrators combs neighbours fir-delay delays held counts delay out n taken written =
+    Midway line 64 Good line-lawful (together kind.Integrators f n₀ integrators₀ combs₀ neighbours₀ taps fir-delay₀ delays₀ held₀ counts₀ delay₀ prototype) samples out₀ out (together kind.Integrators f n integrators combs neighbours taps fir-delay delays held counts delay prototype) taken written
 
 abbrev μ-loop : tie.MeasureT-loop
-μ-loop f integrators₀ combs₀ taps fir-delay₀ delays₀ held₀ counts₀ delay₀ prototype samples out₀ n₀ taken₀ written₀ integrators combs fir-delay delays held counts delay out n taken written = length samples - taken + (length out₀ - written)
+μ-loop f integrators₀ combs₀ neighbours₀ taps fir-delay₀ delays₀ held₀ counts₀ delay₀ prototype samples out₀ n₀ taken₀ written₀ integrators combs neighbours fir-delay delays held counts delay out n taken written = length samples - taken + (length out₀ - written)
 
 -- the places that the facts below come from: each path is counted once
 abbrev begun : tie.At-loop Inv-loop μ-loop → tie.Start Inv-loop μ-loop
@@ -42,13 +43,13 @@ abbrev emptied : tie.After-at-once Inv-loop μ-loop → tie.After-write-due Inv-
 emptied c = c .before .before .before .before
 
 abbrev sped : tie.After-take-on Inv-loop μ-loop → tie.After-at-once Inv-loop μ-loop
-sped c = c .before .before .before .before .before .before .before .before .before
+sped c = c .before .before .before .before .before .before .before .before .before .before
 
 -- the line as it was lent
 abbrev lent : tie.Start Inv-loop μ-loop → Line
 lent s =
     let a = s .args in
-    together (a .f) (a .s) (now (a .integrators)) (now (a .combs)) (now (a .taps)) (now (a .fir-delay)) (now (a .delays)) (now (a .held)) (now (a .counts)) (now (a .delay)) (now (a .prototype))
+    together kind.Integrators (a .f) (a .s) (now (a .integrators)) (now (a .combs)) (now (a .neighbours)) (now (a .taps)) (now (a .fir-delay)) (now (a .delays)) (now (a .held)) (now (a .counts)) (now (a .delay)) (now (a .prototype))
 
 -- the numbers and the span after the outputs that were due, and the invariant there
 abbrev numbers : tie.After-write-due Inv-loop μ-loop → Numbers
@@ -60,11 +61,11 @@ spanned c = c .write-due .last .1 .1 .1 .1 .1 .1 .1 .0
 due : (c : tie.After-write-due Inv-loop μ-loop) →
     let a = begun (entered c) .args in
     let v = entered c .loop in
-    Drained (lent (begun (entered c))) (now (a .samples)) (now (a .out)) (a .f) (v .n) (v .integrators) (v .combs) (now (a .taps)) (v .fir-delay) (v .delays) (v .held) (v .counts) (v .delay) (now (a .prototype)) (v .taken) (v .written) (toldDue (c .write-due .result) (spanned c))
+    Drained (lent (begun (entered c))) (now (a .samples)) (now (a .out)) kind.Integrators (a .f) (v .n) (v .integrators) (v .combs) (v .neighbours) (now (a .taps)) (v .fir-delay) (v .delays) (v .held) (v .counts) (v .delay) (now (a .prototype)) (v .taken) (v .written) (toldDue (c .write-due .result) (spanned c))
 due c =
     let a = begun (entered c) .args in
     let v = entered c .loop in
-    drained (lent (begun (entered c))) (now (a .samples)) (now (a .out)) (a .f) (v .n) (v .integrators) (v .combs) (now (a .taps)) (v .fir-delay) (v .delays) (v .held) (v .counts) (v .delay) (now (a .prototype)) (v .taken) (v .written) (v .out) (v .inv) (toldDue (c .write-due .result) (spanned c)) (c .write-due .ensures)
+    drained (lent (begun (entered c))) (now (a .samples)) (now (a .out)) kind.Integrators (a .f) (v .n) (v .integrators) (v .combs) (v .neighbours) (now (a .taps)) (v .fir-delay) (v .delays) (v .held) (v .counts) (v .delay) (now (a .prototype)) (v .taken) (v .written) (v .out) (v .inv) (toldDue (c .write-due .result) (spanned c)) (c .write-due .ensures)
 
 below : (c : tie.After-write-due Inv-loop μ-loop) → entered c .loop .n .«sample_counter» < begun (entered c) .args .f .r
 below c = counter-below _ (due c .mid .good)
@@ -83,7 +84,7 @@ abbrev sped-line : (c : tie.After-at-once Inv-loop μ-loop) → Line
 sped-line c =
     let a = begun (entered (emptied c)) .args in
     let v = entered (emptied c) .loop in
-    together (a .f) (counted (numbers (emptied c)) (c .at-once .result)) (c .at-once .last .1 .1 .0) (v .combs) (now (a .taps)) (v .fir-delay) (v .delays) (v .held) (v .counts) (v .delay) (now (a .prototype))
+    together kind.Integrators (a .f) (counted (numbers (emptied c)) (c .at-once .result)) (c .at-once .last .1 .1 .0) (v .combs) (v .neighbours) (now (a .taps)) (v .fir-delay) (v .delays) (v .held) (v .counts) (v .delay) (now (a .prototype))
 
 mid : (c : tie.After-at-once Inv-loop μ-loop) →
     let d = emptied c in
@@ -93,7 +94,7 @@ mid c =
     let d = emptied c in
     let a = begun (entered d) .args in
     let v = entered d .loop in
-    after-at-once (lent (begun (entered d))) (now (a .samples)) (now (a .out)) (spanned d) (a .f) (numbers d) (v .integrators) (v .combs) (now (a .taps)) (v .fir-delay) (v .delays) (v .held) (v .counts) (v .delay) (now (a .prototype)) (v .taken) (d .write-due .result .written) (due d .mid)
+    after-at-once (lent (begun (entered d))) (now (a .samples)) (now (a .out)) (spanned d) (a .f) (numbers d) (v .integrators) (v .combs) (v .neighbours) (now (a .taps)) (v .fir-delay) (v .delays) (v .held) (v .counts) (v .delay) (now (a .prototype)) (v .taken) (d .write-due .result .written) (due d .mid)
     (c .at-once .result) (c .at-once .last .1 .1 .0) (count c) (c .at-once .ensures .1)
 
 -- what a step did, and the line put together after it
@@ -101,7 +102,7 @@ abbrev stepped : (c : tie.After-take-on Inv-loop μ-loop) → Stepped Line Float
 stepped c =
     let a = begun (entered (emptied (sped c))) .args in
     let t = c .take-on .last in
-    steppedAt (a .f) (takenOf (c .take-on .result .step)) (c .take-on .result .numbers) (t .1 .1 .0) (t .1 .1 .1 .0) (now (a .taps)) (t .1 .1 .1 .1 .1 .0) (t .1 .1 .1 .1 .1 .1 .0) (t .1 .1 .1 .1 .1 .1 .1 .0) (t .1 .1 .1 .1 .1 .1 .1 .1 .0) (t .1 .1 .1 .1 .1 .1 .1 .1 .1 .0) (now (a .prototype))
+    steppedAt kind.Integrators (a .f) (takenOf (c .take-on .result .step)) (c .take-on .result .numbers) (t .1 .1 .1 .0) (t .1 .1 .1 .1 .0) (t .1 .1 .1 .1 .1 .0) (now (a .taps)) (t .1 .1 .1 .1 .1 .1 .1 .0) (t .1 .1 .1 .1 .1 .1 .1 .1 .0) (t .1 .1 .1 .1 .1 .1 .1 .1 .1 .0) (t .1 .1 .1 .1 .1 .1 .1 .1 .1 .1 .0) (t .1 .1 .1 .1 .1 .1 .1 .1 .1 .1 .1 .0) (now (a .prototype))
 
 module _ (k : tie.After-take-on Inv-loop μ-loop) where
   abbrev arg : tie.Start Inv-loop μ-loop
@@ -157,7 +158,7 @@ add-taken : tie.Need-add-taken Inv-loop μ-loop
 add-taken c = omega (arith, mid (c .before) .some-taken, begun (entered (emptied (c .before))) .good)
 
 take-on-requires : tie.Need-take-on-requires Inv-loop μ-loop
-take-on-requires c κs = let k = c .before .before .before .before .before .before .before .before in (begun (entered (emptied k)) .pre .0, due (emptied k) .quiet)
+take-on-requires c κs = let k = c .before .before .before .before .before .before .before .before .before in (begun (entered (emptied k)) .pre .0, due (emptied k) .quiet)
 
 enum-told : tie.Need-enum-told Inv-loop μ-loop
 enum-told c = search needs

@@ -1,4 +1,4 @@
--- `feed_lent` meets its contract: it refuses where the line of its numbers and arrays is not valid, and else does what `feed_on` does; demand 3 follows from its answer and its span.
+-- `feed_lent` meets its contract: it refuses where the line of its numbers and arrays is not valid, and else does what `feed_by` does; demand 3 follows from its answer and its span.
 use mathlib.Core.Path.{_≡_, refl, sym, _∙_}
 use mathlib.Core.Bool.{Bool, true, false}
 use borrow.Author.Needs.{needs}
@@ -17,7 +17,7 @@ use Rattle.line.proofs.lent.feed_lent.Tie as tie
 abbrev lent : tie.Start → Line
 lent s =
     let a = s .args in
-    lineOf (a .n) (now (a .integrators)) (now (a .combs)) (now (a .taps)) (now (a .fir-delay)) (now (a .delays)) (now (a .held)) (now (a .counts)) (now (a .delay)) (now (a .prototype))
+    lineOf (a .n) (now (a .integrators)) (now (a .combs)) (now (a .neighbours)) (now (a .taps)) (now (a .fir-delay)) (now (a .delays)) (now (a .held)) (now (a .counts)) (now (a .delay)) (now (a .prototype))
 
 -- the test says whether it is valid
 tested : (c : tie.After-valid-at) → c .valid-at .result ≡ valid (lent (c .before .before .before .before .before))
@@ -44,8 +44,8 @@ returns c =
 good : (c : tie.Else1) → valid (lent (c .before .before .before .before .before .before)) ≡ true
 good c = sym (tested (c .before)) ∙ not-false _ (c .if1 .left)
 
-feed-on-requires : tie.Need-feed-on-requires
-feed-on-requires c κs = rw (c .before .before .before .before .before .before .before .before .before .before .before .before .fixed .ensures, c .before .before .before .before .before .before .before .before .before .before .before .changing .ensures) (bits-apart (lent (c .before .before .before .before .before .before .before .before .before .before .before .before .before .before)) (good (c .before .before .before .before .before .before .before .before)), good (c .before .before .before .before .before .before .before .before))
+feed-by-requires : tie.Need-feed-by-requires
+feed-by-requires c κs = rw (c .before .before .before .before .before .before .before .before .before .before .before .before .before .fixed .ensures, c .before .before .before .before .before .before .before .before .before .before .before .before .changing .ensures) (bits-apart (lent (c .before .before .before .before .before .before .before .before .before .before .before .before .before .before .before)) (good (c .before .before .before .before .before .before .before .before .before)), good (c .before .before .before .before .before .before .before .before .before))
 
 gone-on-requires : tie.Need-gone-on-requires
 gone-on-requires c κs = search needs
@@ -56,7 +56,7 @@ same-length c = search needs
 returns-2 : tie.Need-returns-2
 returns-2 c =
     rw (c .gone-on .ensures)
-    (ran (lent (c .before .before .before .before .before .before .before .before .before .before .before .before .before .before .before .before .before .before .before)) (good (c .before .before .before .before .before .before .before .before .before .before .before .before .before)) _ refl (rw (c .before .before .before .before .before .before .before .before .before .before .before .before .before .before .before .before .before .fixed .ensures, c .before .before .before .before .before .before .before .before .before .before .before .before .before .before .before .before .changing .ensures) at (c .before .before .before .before .feed-on .ensures)))
+    (ran (lent (c .before .before .before .before .before .before .before .before .before .before .before .before .before .before .before .before .before .before .before .before)) (good (c .before .before .before .before .before .before .before .before .before .before .before .before .before .before)) _ refl (rw (c .before .before .before .before .before .before .before .before .before .before .before .before .before .before .before .before .before .before .fixed .ensures, c .before .before .before .before .before .before .before .before .before .before .before .before .before .before .before .before .before .changing .ensures) at (c .before .before .before .before .feed-by .ensures)))
 
 pub feed-lent-spec : {M : Type 1} → statement M
 feed-lent-spec =
@@ -66,7 +66,7 @@ feed-lent-spec =
     changing-requires
     valid-at-requires
     returns
-    feed-on-requires
+    feed-by-requires
     gone-on-requires
     same-length
     returns-2)

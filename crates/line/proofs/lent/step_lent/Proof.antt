@@ -18,7 +18,7 @@ use Rattle.line.proofs.lent.step_lent.Tie as tie
 abbrev lent : tie.Start → Line
 lent s =
     let a = s .args in
-    lineOf (a .n) (now (a .integrators)) (now (a .combs)) (now (a .taps)) (now (a .fir-delay)) (now (a .delays)) (now (a .held)) (now (a .counts)) (now (a .delay)) (now (a .prototype))
+    lineOf (a .n) (now (a .integrators)) (now (a .combs)) (now (a .neighbours)) (now (a .taps)) (now (a .fir-delay)) (now (a .delays)) (now (a .held)) (now (a .counts)) (now (a .delay)) (now (a .prototype))
 
 -- the test says whether it is valid
 tested : (c : tie.After-valid-at) → c .valid-at .result ≡ valid (lent (c .before .before .before .before))
@@ -43,7 +43,7 @@ good : (c : tie.Else1) → valid (lent (c .before .before .before .before .befor
 good c = sym (tested (c .before)) ∙ not-false _ (c .if1 .left)
 
 step-on-requires : tie.Need-step-on-requires
-step-on-requires c κs = rw (c .before .before .before .before .before .before .before .before .before .before .before .fixed .ensures, c .before .before .before .before .before .before .before .before .before .before .changing .ensures) (bits-apart (lent (c .before .before .before .before .before .before .before .before .before .before .before .before)) (good (c .before .before .before .before .before .before .before)), due-limits _ _ _ _ _ _ _ _ _ _ _ (good (c .before .before .before .before .before .before .before)))
+step-on-requires c κs = rw (c .before .before .before .before .before .before .before .before .before .before .before .before .fixed .ensures, c .before .before .before .before .before .before .before .before .before .before .before .changing .ensures) (bits-apart (lent (c .before .before .before .before .before .before .before .before .before .before .before .before .before)) (good (c .before .before .before .before .before .before .before .before)), due-limits _ _ _ _ _ _ _ _ _ _ _ _ _ (good (c .before .before .before .before .before .before .before .before)))
 
 public-step-requires : tie.Need-public-step-requires
 public-step-requires c κs = search needs
@@ -54,8 +54,8 @@ gone-on-requires c κs = search needs
 returns-2 : tie.Need-returns-2
 unfolding stepOutcome
 returns-2 c =
-    rw (good (c .before .before .before .before .before .before .before .before .before .before .before), c .before .public-step .ensures .0, c .before .public-step .ensures .1, c .gone-on .ensures)
-    (ap {B = Outcome (F.Event Float) Line} (λ (e : F.Stepped Line Float). record { number = 0; value = e .event; state = e .line }) (rw (c .before .before .before .before .before .before .before .before .before .before .before .before .before .before .before .fixed .ensures, c .before .before .before .before .before .before .before .before .before .before .before .before .before .before .changing .ensures) at (c .before .before .before .step-on .ensures)))
+    rw (good (c .before .before .before .before .before .before .before .before .before .before .before .before), c .before .public-step .ensures .0, c .before .public-step .ensures .1, c .gone-on .ensures)
+    (ap {B = Outcome (F.Event Float) Line} (λ (e : F.Stepped Line Float). record { number = 0; value = e .event; state = e .line }) (rw (c .before .before .before .before .before .before .before .before .before .before .before .before .before .before .before .before .fixed .ensures, c .before .before .before .before .before .before .before .before .before .before .before .before .before .before .before .changing .ensures) at (c .before .before .before .step-on .ensures)))
 
 pub step-lent-spec : {M : Type 1} → statement M
 step-lent-spec =

@@ -5,8 +5,8 @@ use Rattle.line.specs.Line.{numberAt}
 use Rattle.line.proofs.opening.answer.Statement.{statement}
 use Rattle.line.proofs.opening.answer.Tie as tie
 
-cic-answer-requires : tie.Need-cic-answer-requires
-cic-answer-requires c κs = search needs
+thinning-answer-requires : tie.Need-thinning-answer-requires
+thinning-answer-requires c κs = search needs
 
 settings-answer-in-line-requires : tie.Need-settings-answer-in-line-requires
 settings-answer-in-line-requires c κs = search needs
@@ -28,13 +28,13 @@ first-requires-3 c κs = search needs
 
 returns : tie.Need-returns
 unfolding numberAt
-returns c = rw (c .first3 .ensures, c .before .first2 .ensures, c .before .before .first .ensures, c .before .before .before .resampler-answer .ensures, c .before .before .before .before .depth-answer .ensures, c .before .before .before .before .before .settings-answer-in-line .ensures, c .before .before .before .before .before .before .cic-answer .ensures)
+returns c = rw (c .first3 .ensures, c .before .first2 .ensures, c .before .before .first .ensures, c .before .before .before .resampler-answer .ensures, c .before .before .before .before .depth-answer .ensures, c .before .before .before .before .before .settings-answer-in-line .ensures, c .before .before .before .before .before .before .thinning-answer .ensures)
 
 pub answer-spec : {M : Type 1} → statement M
 answer-spec =
     tie.close
     (tie.spec
-    cic-answer-requires
+    thinning-answer-requires
     settings-answer-in-line-requires
     depth-answer-requires
     resampler-answer-requires

@@ -1,11 +1,13 @@
 -- `sample_in` meets its contract: the decimator makes nothing, or a sum that, scaled and cut, the FIR takes.
 use mathlib.Core.Path.{_≡_, refl, sym, ap, _∙_}
+use mathlib.Core.List.{List}
 use mathlib.Core.Option.{Option, none, some}
 use Prim.Native.Nat.{ℕ, _^_}
 use native.Mathlib.Omega.{arith}
 use borrow.Author.Needs.{needs}
 use denote.Ref.{now}
 use lib.IntN.{ℤ}
+use lib.Ieee.{Float}
 use mir.Syntax.{w16, w32, w64}
 use mir.Val.{SFits, toZ, ofZ}
 use mir.Facts.{toZ-ofZ, sfits-widen}
@@ -13,29 +15,40 @@ use Rattle.theory.specs.Floor.{floorDiv}
 use Rattle.theory.specs.Sections.{each}
 use Rattle.theory.specs.Machines.{before}
 use Rattle.integer.specs.Gain.{gainBits}
-use Rattle.integer.specs.CicDecimator.{decimator, scaledBy, scaledDecimator, sumOf}
-use Rattle.integer.specs.declared.cic_decimator.CicDecimator.{CicDecimator}
+use Rattle.integer.specs.CicDecimator.{scaledBy, sumOf}
+use Rattle.nonrecursive.specs.EitherKind.{Thinner, thinnerOf, nextBy, outBy, kindOf, either}
 use Rattle.q15.specs.Fixed.{cut, isCut}
 use Rattle.q15.specs.FirDecimator.{cutIn, firSumOut}
 use Rattle.theory.specs.Tally.{heldSum}
 use Rattle.theory.proofs.Tally.{held-none}
 use Rattle.line.specs.Outputs.{mostCuts}
 use Rattle.line.specs.Line.{from3, cutsFor}
-use Rattle.line.specs.Together.{cicOf, firOf}
+use Rattle.line.specs.Together.{firOf, together}
+use Rattle.line.specs.declared.gauge_line.Line.{Line}
 use Rattle.line.proofs.Taking.{takes-none, takes-some, two-cuts, takes-line}
 use Rattle.line.proofs.sample.sample_in.Statement.{statement}
 use Rattle.line.proofs.sample.sample_in.Tie as tie
 
-abbrev start : tie.After-sample-at → tie.Start
-start c = c .before .before .before
+abbrev start : tie.After-thin-at → tie.Start
+start c = c .before .before .before .before
 
--- what the decimator made of the sample
-made : (c : tie.After-sample-at) →
+-- section 1 as it was lent
+abbrev lent : tie.Start → Thinner
+lent s = let a = s .args in thinnerOf (kindOf (a .by-neighbours)) (a .f .stages) (a .f .r) (now (a .integrators)) (now (a .combs)) (now (a .neighbours)) (a .s .«sample_counter»)
+
+-- and the line with the prototype h
+abbrev lent-line : tie.Start → List Float → Line
+lent-line s h =
+    let a = s .args in
+    together (kindOf (a .by-neighbours)) (a .f) (a .s) (now (a .integrators)) (now (a .combs)) (now (a .neighbours)) (now (a .taps)) (now (a .fir-delay)) (now (a .delays)) (now (a .held)) (now (a .counts)) (now (a .delay)) h
+
+-- what the decimator of this kind made of the sample
+made : (c : tie.After-thin-at) →
     let a = start c .args in
-    let d = cicOf (a .f) (a .s .«sample_counter») (now (a .integrators)) (now (a .combs)) in
-    (sumOf (c .sample-at .result .sum) ≡ decimator .out d (a .x))
-    × (cicOf (a .f) (c .sample-at .result .«sample_counter») (c .sample-at .last .1 .1 .1 .0) (c .sample-at .last .1 .1 .1 .1 .0) ≡ decimator .next d (a .x))
-made c = rw (toZ-ofZ (start c .fits .x)) at (c .sample-at .ensures)
+    (sumOf (c .thin-at .result .sum) ≡ outBy (kindOf (a .by-neighbours)) (lent (start c)) (a .x))
+    × (thinnerOf (kindOf (a .by-neighbours)) (a .f .stages) (a .f .r) (c .thin-at .last .1 .1 .1 .1 .0) (c .thin-at .last .1 .1 .1 .1 .1 .0) (c .thin-at .last .1 .1 .1 .1 .1 .1 .0) (c .thin-at .result .«sample_counter»)
+    ≡ nextBy (kindOf (a .by-neighbours)) (lent (start c)) (a .x))
+made c = rw (toZ-ofZ (start c .fits .x)) at (c .thin-at .ensures)
 
 -- the sum, scaled and cut
 abbrev sum : (c : tie.After-cut-q15) → ℤ
@@ -58,8 +71,8 @@ cut-is c = c .cut-q15 .ensures .0 ∙ ap (cut w16) (sum-is c)
 cut-said : (c : tie.After-cut-q15) → c .cut-q15 .result .cut ≡ isCut w16 (sum c)
 cut-said c = c .cut-q15 .ensures .1 ∙ ap (isCut w16) (sum-is c)
 
-sample-at-requires : tie.Need-sample-at-requires
-sample-at-requires c κs = search needs
+thin-at-requires : tie.Need-thin-at-requires
+thin-at-requires c κs = search needs
 
 enum-told : tie.Need-enum-told
 enum-told c = search needs
@@ -85,18 +98,18 @@ counted-requires : tie.Need-counted-requires
 counted-requires c κs = search needs
 
 returns : tie.Need-returns
-unfolding scaledDecimator
+unfolding either
 returns c = λ h.
     let k = c .before .before in
     let a = start k .args in
     let g = gainBits (a .f .stages) (a .f .r) in
     let none-made = sym (ap sumOf (c .enum-told .given .1)) ∙ made k .0 in
-    takes-line _ _ _ _
-    (takes-none scaledDecimator (before (each (cut w16)) from3) _ _ _ _ (ap (scaledBy g) none-made) (made k .1))
+    takes-line (lent-line (start k) h) _ (a .x) _
+    (takes-none either (before (each (cut w16)) from3) (lent (start k)) _ (a .x) _ (ap (scaledBy g) none-made) (made k .1))
     (sym (held-none mostCuts (a .s .cuts)) ∙ ap (λ (v : Option ℤ). heldSum mostCuts (a .s .cuts) (cutsFor (firOf (a .f) (a .s .wait) (now (a .taps)) (now (a .fir-delay))) (scaledBy g v))) none-made)
 
 returns-2 : tie.Need-returns-2
-unfolding scaledDecimator
+unfolding either
 returns-2 c = λ h.
     let k = c .before .before .before .before .before .before .before .before .before .before .before .before .before in
     let q = c .before .before .before .before .before .before .before .before in
@@ -104,8 +117,8 @@ returns-2 c = λ h.
     let g = gainBits (a .f .stages) (a .f .r) in
     let s = firOf (a .f) (a .s .wait) (now (a .taps)) (now (a .fir-delay)) in
     let some-made = sym (ap sumOf (q .before .before .before .made .given .1)) ∙ made k .0 in
-    takes-line _ _ _ _
-    (takes-some scaledDecimator (before (each (cut w16)) from3) _ _ _ _ _ _ _ (ap (scaledBy g) some-made) (made k .1)
+    takes-line (lent-line (start k) h) _ (a .x) _
+    (takes-some either (before (each (cut w16)) from3) (lent (start k)) _ (a .x) _ _ _ _ (ap (scaledBy g) some-made) (made k .1)
     (takes-some (each (cut w16)) from3 _ _ _ _ _ _ _ refl refl (rw (cut-is q) at (c .before .fir-in .ensures .0 h))))
     (two-cuts (a .s .cuts) _ _ _ s (sum q) (c .counted .ensures) (cut-said q) (rw (cut-is q) at (c .before .fir-in .ensures .1))
     ∙ ap (λ (v : Option ℤ). heldSum mostCuts (a .s .cuts) (cutsFor s (scaledBy g v))) some-made)
@@ -114,7 +127,7 @@ pub sample-in-spec : {M : Type 1} → statement M
 sample-in-spec =
     tie.close
     (tie.spec
-    sample-at-requires
+    thin-at-requires
     enum-told
     enum-known-made
     scaled-requires

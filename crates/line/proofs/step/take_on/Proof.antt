@@ -11,6 +11,7 @@ use mir.Syntax.{w32}
 use mir.Val.{toZ, ofZ}
 use Rattle.theory.proofs.Steps.{step-full, step-took, step-ended}
 use Rattle.float.specs.PolyphaseResamp.{inLine, isOn}
+use Rattle.nonrecursive.specs.EitherKind.{kindOf}
 use Rattle.line.specs.Line.{line}
 use Rattle.line.specs.Together.{together, dueAt}
 use Rattle.line.specs.declared.gauge_line.Line.{Line}
@@ -21,7 +22,7 @@ use Rattle.line.proofs.step.take_on.Tie as tie
 abbrev at : tie.Start → List Float → Line
 at s h =
     let a = s .args in
-    together (a .f) (a .s) (now (a .integrators)) (now (a .combs)) (now (a .taps)) (now (a .fir-delay)) (now (a .delays)) (now (a .held)) (now (a .counts)) (now (a .delay)) h
+    together (kindOf (a .by-neighbours)) (a .f) (a .s) (now (a .integrators)) (now (a .combs)) (now (a .neighbours)) (now (a .taps)) (now (a .fir-delay)) (now (a .delays)) (now (a .held)) (now (a .counts)) (now (a .delay)) h
 
 -- the test of a due output is the machine's
 due-is : (s : tie.Start) (h : List Float) → line .due (at s h) ≡ dueAt (s .args .f) (s .args .s .mu)
@@ -29,8 +30,8 @@ unfolding inLine isOn dueAt
 due-is s h = refl
 
 -- the sample read is an i32
-told : (c : tie.After-sample-in-arg7) →
-    let a = c .before .before .before .before .before .before .before .before .before .before .args in
+told : (c : tie.After-sample-in-arg8) →
+    let a = c .before .before .before .before .before .before .before .before .before .before .before .args in
     toZ w32 (ofZ w32 (getD (now (a .samples)) (a .at) (pos 0))) ≡ getD (now (a .samples)) (a .at) (pos 0)
 told c = search needs
 
@@ -50,18 +51,18 @@ shared-slice-copy-out-x : tie.Need-shared-slice-copy-out-x
 shared-slice-copy-out-x c = search needs
 
 sample-in-requires : tie.Need-sample-in-requires
-sample-in-requires c κs = c .before .before .before .before .before .before .before .before .before .before .pre .0
+sample-in-requires c κs = c .before .before .before .before .before .before .before .before .before .before .before .pre .0
 
 taking-requires : tie.Need-taking-requires
 taking-requires c κs = search needs
 
 returns-3 : tie.Need-returns-3
 returns-3 c = λ h.
-    let s = c .before .before .before .before .before .before .before .before .before .before .before .before .before in
-    let here = not-false (s .args .place) (c .before .before .before .before .before .before .before .before .before .before .before .before .if1 .left) in
+    let s = c .before .before .before .before .before .before .before .before .before .before .before .before .before .before in
+    let here = not-false (s .args .place) (c .before .before .before .before .before .before .before .before .before .before .before .before .before .if1 .left) in
     let t = rw (told (c .before .before .before)) at (c .before .before .sample-in .ensures h) in
     rw (c .taking .ensures)
-    (step-took line (at s h) (s .args .place) (now (s .args .samples)) (s .args .at) here (pos 0) _ _ (due-is s h ∙ s .pre .1 here) (c .before .before .before .before .before .before .before .before .before .before .before .if2 .left) (t .0) (t .1))
+    (step-took line (at s h) (s .args .place) (now (s .args .samples)) (s .args .at) here (pos 0) _ _ (due-is s h ∙ s .pre .1 here) (c .before .before .before .before .before .before .before .before .before .before .before .before .if2 .left) (t .0) (t .1))
 
 pub take-on-spec : {M : Type 1} → statement M
 take-on-spec =

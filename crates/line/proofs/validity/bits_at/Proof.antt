@@ -3,20 +3,20 @@ use mathlib.Core.Path.{_≡_, refl, sym, ap, _∙_}
 use mathlib.Core.Bool.{true, false}
 use borrow.Author.Needs.{needs}
 use borrow.Author.Tests.{not-true, not-false}
-use Rattle.integer.specs.CicDecimator.{validAt}
+use Rattle.nonrecursive.specs.EitherKind.{validAt}
 use Rattle.integer.specs.Gain.{bitsOf}
 use Rattle.line.specs.Together.{bitsAt}
 use Rattle.line.proofs.validity.bits_at.Statement.{statement}
 use Rattle.line.proofs.validity.bits_at.Tie as tie
 
-valid-requires : tie.Need-valid-requires
-valid-requires c κs = search needs
+thinning-valid-requires : tie.Need-thinning-valid-requires
+thinning-valid-requires c κs = search needs
 
 returns : tie.Need-returns
 unfolding bitsAt
 returns c =
     let a = c .before .before .args in
-    let v : validAt (a .stages) (a .r) (a .sample-counter) ≡ false = sym (c .before .valid .ensures) ∙ not-true _ (c .if1 .taken) in
+    let v : validAt (a .thinning) (a .stages) (a .r) (a .sample-counter) ≡ false = sym (c .before .thinning-valid .ensures) ∙ not-true _ (c .if1 .taken) in
     rw v
 
 gain-of-requires : tie.Need-gain-of-requires
@@ -29,9 +29,9 @@ returns-2 : tie.Need-returns-2
 unfolding bitsAt
 returns-2 c =
     let a = c .before .before .before .before .args in
-    let v : validAt (a .stages) (a .r) (a .sample-counter) ≡ true = sym (c .before .before .before .valid .ensures) ∙ not-false _ (c .before .before .if1 .left) in
+    let v : validAt (a .thinning) (a .stages) (a .r) (a .sample-counter) ≡ true = sym (c .before .before .before .thinning-valid .ensures) ∙ not-false _ (c .before .before .if1 .left) in
     rw v (c .bits-of .ensures ∙ ap bitsOf (c .before .gain-of .ensures))
 
 pub bits-at-spec : {M : Type 1} → statement M
 bits-at-spec =
-    tie.close (tie.spec valid-requires returns gain-of-requires bits-of-requires returns-2)
+    tie.close (tie.spec thinning-valid-requires returns gain-of-requires bits-of-requires returns-2)

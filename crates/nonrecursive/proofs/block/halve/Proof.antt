@@ -1,118 +1,154 @@
--- `halve` meets its contract: after each turn one pair more has handed its value on.
-use mathlib.Core.Path.{_≡_, refl, sym, ap, _∙_}
-use Prim.Native.Nat.{_+_, _-_, _*_, _≤_, _<_}
+-- `halve` meets its contract: each arm is a halving of as many stages as it names.
 use native.Mathlib.Omega.{arith}
 use borrow.Author.Needs.{needs}
-use mathlib.Core.List.{List}
-use denote.Ref.{now}
-use lib.IntN.{ℤ, pos}
-use lib.ListN.{length, getD}
-use mir.Syntax.{w32}
-use mir.Val.{SFits}
-use mir.Facts.{toZ-ofZ}
-use Rattle.nonrecursive.specs.NonrecursiveDecimator.{summed}
-use Rattle.nonrecursive.proofs.OnTape.{Halving, halving-starts, halving-more, halving-done}
 use Rattle.nonrecursive.proofs.block.halve.Statement.{statement}
 use Rattle.nonrecursive.proofs.block.halve.Tie as tie
 
-abbrev Inv-loop : tie.InvT-loop
-Inv-loop stages neighbours₀ tape₀ count at₀ i₀ neighbours tape at i = Halving stages count neighbours₀ tape₀ neighbours tape at i
+halve-of-requires : tie.Need-halve-of-requires
+halve-of-requires c κs = search needs
 
-abbrev μ-loop : tie.MeasureT-loop
-μ-loop stages neighbours₀ tape₀ count at₀ i₀ neighbours tape at i = count - i
+halve-of-requires-2 : tie.Need-halve-of-requires-2
+halve-of-requires-2 c κs = search needs
 
-loop-holds : tie.Need-loop-holds Inv-loop μ-loop
-loop-holds c = halving-starts _ _ _ _ (c .pre)
+halve-of-requires-3 : tie.Need-halve-of-requires-3
+halve-of-requires-3 c κs = search needs
 
-mul-sum-neighbours : tie.Need-mul-sum-neighbours Inv-loop μ-loop
-mul-sum-neighbours c = search needs
+halve-of-requires-4 : tie.Need-halve-of-requires-4
+halve-of-requires-4 c κs = search needs
 
-slice-copy-out-sum-neighbours : tie.Need-slice-copy-out-sum-neighbours Inv-loop μ-loop
-slice-copy-out-sum-neighbours c = search needs
+halve-of-requires-5 : tie.Need-halve-of-requires-5
+halve-of-requires-5 c κs = search needs
 
-sum-neighbours-requires : tie.Need-sum-neighbours-requires Inv-loop μ-loop
-sum-neighbours-requires c κs = search needs
+halve-of-requires-6 : tie.Need-halve-of-requires-6
+halve-of-requires-6 c κs = search needs
 
-add-sum-neighbours : tie.Need-add-sum-neighbours Inv-loop μ-loop
-add-sum-neighbours c = search needs
+halve-of-requires-7 : tie.Need-halve-of-requires-7
+halve-of-requires-7 c κs = search needs
 
-mul-sum-neighbours-2 : tie.Need-mul-sum-neighbours-2 Inv-loop μ-loop
-mul-sum-neighbours-2 c = search needs
+halve-of-requires-8 : tie.Need-halve-of-requires-8
+halve-of-requires-8 c κs = search needs
 
-slice-copy-out-sum-neighbours-2 : tie.Need-slice-copy-out-sum-neighbours-2 Inv-loop μ-loop
-slice-copy-out-sum-neighbours-2 c = search needs
+halve-on-requires : tie.Need-halve-on-requires
+halve-on-requires c κs = search needs
 
-sum-neighbours-requires-2 : tie.Need-sum-neighbours-requires-2 Inv-loop μ-loop
-sum-neighbours-requires-2 c κs = search needs
+same-length : tie.Need-same-length
+same-length c = search needs
 
-mul-second : tie.Need-mul-second Inv-loop μ-loop
-mul-second c = search needs
+same-length-2 : tie.Need-same-length-2
+same-length-2 c = search needs
 
-slice-set-from-second : tie.Need-slice-set-from-second Inv-loop μ-loop
-slice-set-from-second c = search needs
+returns : tie.Need-returns
+returns c = rw (c .before .before .before .before .before .match .keys1) (c .before .before .halve-of .ensures)
 
-add-at : tie.Need-add-at Inv-loop μ-loop
-add-at c = search needs
+same-length-3 : tie.Need-same-length-3
+same-length-3 c = search needs
 
-add-i : tie.Need-add-i Inv-loop μ-loop
-add-i c = search needs
+same-length-4 : tie.Need-same-length-4
+same-length-4 c = search needs
 
-loop-less : tie.Need-loop-less Inv-loop μ-loop
-loop-less c = search needs
+returns-2 : tie.Need-returns-2
+returns-2 c = rw (c .before .before .before .before .before .match .keys2) (c .before .before .halve-of2 .ensures)
 
-loop-again : tie.Need-loop-again Inv-loop μ-loop
-loop-again c =
-    let twice = c .before in
-    let read₂ = twice .before in
-    let once = read₂ .before .before .before in
-    let read₁ = once .before in
-    let k = read₁ .before .before in
-    let v = k .before .loop in
-    let a = k .before .before .args in
-    let x = getD (v .tape) (v .at) (pos 0) in
-    let y = getD (v .tape) (v .at + 1) (pos 0) in
-    let f : SFits w32 x = record { sfits = read₁ .sum-neighbours-arg2 .given } in
-    let g : SFits w32 y = record { sfits = read₂ .sum-neighbours-arg4 .given } in
-    let first = rw (toZ-ofZ f) at (once .sum-neighbours .ensures .0) in
-    let h : SFits w32 (twice .sum-neighbours2 .result) = record { sfits = twice .sum-neighbours2 .ok } in
-    halving-more (a .stages) (a .count) (now (a .neighbours)) (now (a .tape)) (k .before .before .pre) (v .neighbours) (v .tape) (v .at) (v .i) (v .inv) (k .loop-test .taken)
-    x y _ _ refl refl
-    ((rw (toZ-ofZ g) at (twice .sum-neighbours2 .ensures .0)) ∙ ap (λ (l : List ℤ). summed (a .stages) l y .state) first)
-    (toZ-ofZ h ∙ (rw (toZ-ofZ g) at (twice .sum-neighbours2 .ensures .1)) ∙ ap (λ (l : List ℤ). summed (a .stages) l y .val) first)
+same-length-5 : tie.Need-same-length-5
+same-length-5 c = search needs
 
-same-length : tie.Need-same-length Inv-loop μ-loop
-same-length c = c .before .loop .inv .long
+same-length-6 : tie.Need-same-length-6
+same-length-6 c = search needs
 
-same-length-2 : tie.Need-same-length-2 Inv-loop μ-loop
-same-length-2 c = c .before .loop .inv .same
+returns-3 : tie.Need-returns-3
+returns-3 c = rw (c .before .before .before .before .before .match .keys3) (c .before .before .halve-of3 .ensures)
 
-returns : tie.Need-returns Inv-loop μ-loop
-returns c =
-    let v = c .before .loop in
-    let a = c .before .before .args in
-    let d = halving-done (a .stages) (a .count) (now (a .neighbours)) (now (a .tape)) (c .before .before .pre) (v .neighbours) (v .tape) (v .at) (v .i) (v .inv) (omega (arith, c .loop-test .left)) in
-    (d .0, d .1, v .inv .same)
+same-length-7 : tie.Need-same-length-7
+same-length-7 c = search needs
+
+same-length-8 : tie.Need-same-length-8
+same-length-8 c = search needs
+
+returns-4 : tie.Need-returns-4
+returns-4 c = rw (c .before .before .before .before .before .match .keys4) (c .before .before .halve-of4 .ensures)
+
+same-length-9 : tie.Need-same-length-9
+same-length-9 c = search needs
+
+same-length-10 : tie.Need-same-length-10
+same-length-10 c = search needs
+
+returns-5 : tie.Need-returns-5
+returns-5 c = rw (c .before .before .before .before .before .match .keys5) (c .before .before .halve-of5 .ensures)
+
+same-length-11 : tie.Need-same-length-11
+same-length-11 c = search needs
+
+same-length-12 : tie.Need-same-length-12
+same-length-12 c = search needs
+
+returns-6 : tie.Need-returns-6
+returns-6 c = rw (c .before .before .before .before .before .match .keys6) (c .before .before .halve-of6 .ensures)
+
+same-length-13 : tie.Need-same-length-13
+same-length-13 c = search needs
+
+same-length-14 : tie.Need-same-length-14
+same-length-14 c = search needs
+
+returns-7 : tie.Need-returns-7
+returns-7 c = rw (c .before .before .before .before .before .match .keys7) (c .before .before .halve-of7 .ensures)
+
+same-length-15 : tie.Need-same-length-15
+same-length-15 c = search needs
+
+same-length-16 : tie.Need-same-length-16
+same-length-16 c = search needs
+
+returns-8 : tie.Need-returns-8
+returns-8 c = rw (c .before .before .before .before .before .match .keys8) (c .before .before .halve-of8 .ensures)
+
+same-length-17 : tie.Need-same-length-17
+same-length-17 c = search needs
+
+same-length-18 : tie.Need-same-length-18
+same-length-18 c = search needs
+
+returns-9 : tie.Need-returns-9
+returns-9 c = search needs
 
 pub halve-spec : {M : Type 1} → statement M
 halve-spec =
     tie.close
     (tie.spec
-    Inv-loop
-    μ-loop
-    loop-holds
-    mul-sum-neighbours
-    slice-copy-out-sum-neighbours
-    sum-neighbours-requires
-    add-sum-neighbours
-    mul-sum-neighbours-2
-    slice-copy-out-sum-neighbours-2
-    sum-neighbours-requires-2
-    mul-second
-    slice-set-from-second
-    add-at
-    add-i
-    loop-less
-    loop-again
+    halve-of-requires
+    halve-of-requires-2
+    halve-of-requires-3
+    halve-of-requires-4
+    halve-of-requires-5
+    halve-of-requires-6
+    halve-of-requires-7
+    halve-of-requires-8
+    halve-on-requires
     same-length
     same-length-2
-    returns)
+    returns
+    same-length-3
+    same-length-4
+    returns-2
+    same-length-5
+    same-length-6
+    returns-3
+    same-length-7
+    same-length-8
+    returns-4
+    same-length-9
+    same-length-10
+    returns-5
+    same-length-11
+    same-length-12
+    returns-6
+    same-length-13
+    same-length-14
+    returns-7
+    same-length-15
+    same-length-16
+    returns-8
+    same-length-17
+    same-length-18
+    returns-9)

@@ -1,7 +1,7 @@
 -- `thin_tape` meets its contract: after each turn the halvings that are left give of the tape what all were to give.
 use native.Mathlib.Omega.{arith}
 use borrow.Author.Needs.{needs}
-use Rattle.nonrecursive.proofs.TapeSteps.{Thinning, thinning-starts, pairs-left, neighbours-there, thinning-more, thinning-done}
+use Rattle.nonrecursive.proofs.TapeSteps.{Thinning, thinning-starts, pairs-left, neighbours-there, part-enough, thinning-more, thinning-done}
 use Rattle.nonrecursive.proofs.block.thin_tape.Statement.{statement}
 use Rattle.nonrecursive.proofs.block.thin_tape.Tie as tie
 
@@ -36,8 +36,9 @@ mul-halve-2 c =
 halve-requires : tie.Need-halve-requires Inv-loop μ-loop
 halve-requires c κs =
     let v = c .before .before .before .loop in
-    let e = pairs-left _ _ _ _ _ (v .neighbours) (v .tape) (v .left) (v .from) (v .inv) (c .before .before .loop-test .taken) in
-    omega (arith, e, v .inv .values-left)
+    let more = c .before .before .loop-test .taken in
+    let e = pairs-left _ _ _ _ _ (v .neighbours) (v .tape) (v .left) (v .from) (v .inv) more in
+    (part-enough _ _ _ _ _ (v .neighbours) (v .tape) (v .left) (v .from) (v .inv) more, omega (arith, e, v .inv .values-left))
 
 add-from : tie.Need-add-from Inv-loop μ-loop
 add-from c =

@@ -24,17 +24,23 @@ fir-on-requires c κs = search needs
 resampler-on-requires : tie.Need-resampler-on-requires
 resampler-on-requires c κs = search needs
 
-parts-len-requires : tie.Need-parts-len-requires
-parts-len-requires c κs =
-    let l = c .before .before .before .before .before .before .args .line in
-    let v : valid l ≡ true = sym (c .before .before .before .before .before .line-valid .ensures) ∙ not-false _ (c .before .before .before .before .if1 .left) in
-    rw (c .before .before .fir-on .ensures, c .resampler-on .ensures) (limits-of l v)
+neighbours-array-requires : tie.Need-neighbours-array-requires
+neighbours-array-requires c κs = search needs
+
+slice-aggregate-len-by : tie.Need-slice-aggregate-len-by
+slice-aggregate-len-by c = sym (c .before .before .before .before .before .before .neighbours-array .ensures)
+
+len-by-requires : tie.Need-len-by-requires
+len-by-requires c κs =
+    let l = c .before .before .before .before .before .before .before .before .before .args .line in
+    let v : valid l ≡ true = sym (c .before .before .before .before .before .before .before .before .line-valid .ensures) ∙ not-false _ (c .before .before .before .before .before .before .before .if1 .left) in
+    (rw (c .before .before .before .fir-on .ensures, c .before .resampler-on .ensures) (limits-of l v), c .before .before .before .before .before .before .neighbours-array .ensures)
 
 returns-2 : tie.Need-returns-2
 unfolding K.lengthAnswer K.parkedLine E.lineEntries
 returns-2 c =
-    let v : valid (c .before .before .before .before .before .before .before .args .line) ≡ true = sym (c .before .before .before .before .before .before .line-valid .ensures) ∙ not-false _ (c .before .before .before .before .before .if1 .left) in
-    rw (v, c .parts-len .ensures, c .before .before .before .fir-on .ensures, c .before .resampler-on .ensures)
+    let v : valid (c .before .before .before .before .before .before .before .before .before .before .args .line) ≡ true = sym (c .before .before .before .before .before .before .before .before .before .line-valid .ensures) ∙ not-false _ (c .before .before .before .before .before .before .before .before .if1 .left) in
+    rw (v, c .len-by .ensures, c .before .before .before .before .fir-on .ensures, c .before .before .resampler-on .ensures)
 
 pub parked-len-spec : {M : Type 1} → statement M
 parked-len-spec =
@@ -42,7 +48,9 @@ parked-len-spec =
     (tie.spec
     line-valid-requires
     returns
+    neighbours-array-requires
     fir-on-requires
     resampler-on-requires
-    parts-len-requires
+    slice-aggregate-len-by
+    len-by-requires
     returns-2)

@@ -18,6 +18,8 @@ agrees-spec =
     (λ c κs. search needs)
     (λ c κs. search needs)
     (λ c κs. search needs)
+    (λ c κs. search needs)
+    (λ c. ((λ h. absurd (omega arith)), (λ h. absurd (omega arith))))
     (λ c. ((λ h. absurd (omega arith)), (λ h. absurd (omega arith))))
     (λ c. ((λ h. absurd (omega arith)), (λ h. absurd (omega arith))))
     (λ c. ((λ h. absurd (omega arith)), (λ h. absurd (omega arith))))

@@ -17,11 +17,14 @@ both-requires-3 c κs = search needs
 both-requires-4 : tie.Need-both-requires-4
 both-requires-4 c κs = search needs
 
+both-requires-5 : tie.Need-both-requires-5
+both-requires-5 c κs = search needs
+
 returns : tie.Need-returns
 unfolding T.inLimits
 returns c =
-    rw (c .both4 .ensures, c .before .both3 .ensures, c .before .before .before .before .both2 .ensures, c .before .before .before .before .before .both .ensures)
+    rw (c .both5 .ensures, c .before .both4 .ensures, c .before .before .before .before .both3 .ensures, c .before .before .before .before .before .before .both2 .ensures, c .before .before .before .before .before .before .before .both .ensures)
 
 pub in-limits-spec : {M : Type 1} → statement M
 in-limits-spec =
-    tie.close (tie.spec both-requires both-requires-2 both-requires-3 both-requires-4 returns)
+    tie.close (tie.spec both-requires both-requires-2 both-requires-3 both-requires-4 both-requires-5 returns)

@@ -17,7 +17,7 @@ same-length : tie.Need-same-length
 same-length c = search needs
 
 returns : tie.Need-returns
-returns c = rw (c .assembled .ensures) (rw (c .before .before .before .before .before .before .before .before .before .before .before .before .before .before .before .before .before .before .before .before .before .before .before .before .before .before .before .before .numbers-in .ensures) at (c .before .before .before .before .feed-lent .ensures))
+returns c = rw (c .assembled .ensures) (rw (c .before .before .before .before .before .before .before .before .before .before .before .before .before .before .before .before .before .before .before .before .before .before .before .before .before .before .before .before .before .before .numbers-in .ensures) at (c .before .before .before .before .feed-lent .ensures))
 
 pub feed-spec : {M : Type 1} → statement M
 feed-spec =

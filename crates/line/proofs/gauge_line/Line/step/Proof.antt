@@ -14,7 +14,7 @@ assembled-requires : tie.Need-assembled-requires
 assembled-requires c κs = search needs
 
 returns : tie.Need-returns
-returns c = rw (c .assembled .ensures) (rw (c .before .before .before .before .before .before .before .before .before .before .before .before .before .before .before .before .before .before .before .before .before .before .before .before .before .numbers-in .ensures) at (c .before .before .step-lent .ensures))
+returns c = rw (c .assembled .ensures) (rw (c .before .before .before .before .before .before .before .before .before .before .before .before .before .before .before .before .before .before .before .before .before .before .before .before .before .before .before .numbers-in .ensures) at (c .before .before .step-lent .ensures))
 
 pub step-spec : {M : Type 1} → statement M
 step-spec =

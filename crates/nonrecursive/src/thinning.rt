@@ -1,0 +1,66 @@
+// 02, §13: "the line may be opened with either": section 1 of the line, by the kind of its thinning.
+ghost use mathlib.Core.Path.{_≡_};
+ghost use Rattle.integer.specs.CicDecimator as C;
+ghost use Rattle.nonrecursive.specs.EitherKind as E;
+use crate::nonrecursive_decimator::MAX_NEIGHBOURS;
+use crate::nonrecursive_decimator::nonrecursive_at;
+use crate::nonrecursive_decimator::power_of_two;
+use integer::cic_decimator::CicAt;
+use integer::cic_decimator::sample_at;
+use integer::cic_decimator::valid;
+use integer::limits::MAX_STAGES;
+
+// The CIC decimator, or sums of neighbours.
+pub enum Thinning {
+    Integrators,
+    Neighbours,
+}
+
+// Row 23, which is for neighbours only.
+pub fn factor_for(thinning: Thinning, r: usize) -> bool
+    ensures { λ b. ⌜ b ≡ E.factorFor thinning r ⌝ }
+{
+    match thinning {
+        Thinning::Integrators => true,
+        Thinning::Neighbours => power_of_two(r),
+    }
+}
+
+// Whether a call on a state with these numbers is not refused by 15.
+pub fn thinning_valid(thinning: Thinning, stages: usize, r: usize, sample_counter: usize) -> bool
+    ensures { λ b. ⌜ b ≡ E.validAt thinning stages r «sample_counter» ⌝ }
+{
+    if !valid(stages, r, sample_counter) {
+        return false;
+    }
+    factor_for(thinning, r)
+}
+
+// One sample, the numbers by value and the arrays lent. The arrays of the other kind stay as they are. The kind is a bool, since the compiler folds a constant one
+// where it inlines the call: an enum is passed in memory.
+pub fn thin_at(
+    by_neighbours: bool,
+    stages: usize,
+    r: usize,
+    sample_counter: usize,
+    integrators: &mut [i32; MAX_STAGES],
+    combs: &mut [i32; MAX_STAGES],
+    neighbours: &mut [i32; MAX_NEIGHBOURS],
+    input: i32,
+) -> CicAt
+    ensures { λ a. ⌜ (
+        let kind = E.kindOf «by_neighbours» in
+        let before = E.thinnerOf kind stages r (now (integrators .entry)) (now (combs .entry)) (now (neighbours .entry)) «sample_counter» in
+        let after = E.thinnerOf kind stages r (now (integrators .exit)) (now (combs .exit)) (now (neighbours .exit)) (a .«sample_counter») in
+        (C.sumOf (a .sum) ≡ E.outBy kind before input) × (after ≡ E.nextBy kind before input)) ⌝ }
+{
+    if by_neighbours {
+        let at = nonrecursive_at(stages, r, sample_counter, neighbours, input);
+        let sum = at.sum;
+        return CicAt {
+            sum,
+            sample_counter: at.place,
+        };
+    }
+    sample_at(stages, r, sample_counter, integrators, combs, input)
+}
