@@ -29,7 +29,7 @@ per_sample() {
         'BEGIN { printf "%.2f %s\n", (three - one) / 2 / samples, unit }'
 }
 
-printf '4. Instructions per sample, by callgrind\n\n'
+printf '5. Instructions per sample, by callgrind\n\n'
 printf 'Blocks of 4096 for converters, one piece of 65536 for lines.\n\n'
 printf '%-52s%-8s%10s%10s%10s\n' case sample ours Rust ours/Rust
 "$bench" --list "$@" | while read -r case; do

@@ -43,3 +43,12 @@ impl Case {
         [(self.ours)(block), (self.rust)(block)]
     }
 }
+
+/// One converter with two settings, ours alone: their outputs differ.
+pub struct Settings {
+    pub name: String,
+    pub unit: Unit,
+    pub blocks: &'static [usize],
+    pub first: Build,
+    pub second: Build,
+}

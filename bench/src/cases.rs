@@ -6,7 +6,7 @@ pub mod line;
 mod linear;
 mod linear_phase;
 mod polyphase_q15;
-mod resampler;
+pub mod resampler;
 
 use crate::case::Case;
 

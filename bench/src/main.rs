@@ -26,8 +26,10 @@ fn main() -> ExitCode {
     };
     let mut converters = cases::converters();
     let mut lines = cases::line::cases();
+    let mut phases = cases::resampler::phases();
     converters.retain(|case| case.name.contains(&options.only));
     lines.retain(|case| case.name.contains(&options.only));
+    phases.retain(|case| case.name.contains(&options.only));
 
     if options.list {
         for case in converters.iter().chain(&lines) {
@@ -40,6 +42,7 @@ fn main() -> ExitCode {
         report::converters(&converters, options.rounds);
         report::lines(&lines, options.rounds);
         report::pieces(&lines, options.rounds);
+        report::phases(&phases, options.rounds);
     }
     ExitCode::SUCCESS
 }

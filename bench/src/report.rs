@@ -1,9 +1,9 @@
 //! The tables.
 
-use crate::case::{Case, Unit};
+use crate::case::{Case, Settings, Unit};
 use crate::cases::line::PIECES;
 use crate::cases::{BLOCK, SHORT_BLOCK};
-use crate::race::least_times;
+use crate::race::{least_times, timed};
 
 const SIDES: &str = "      ours      Rust ours/Rust";
 
@@ -52,6 +52,31 @@ fn raced(case: &Case, block: usize, rounds: usize) -> String {
     let samples = case.unit.samples(&*sides[0]);
     let [ours, rust] = times.map(|time| nanoseconds(time, samples));
     format!("{ours:10.2}{rust:10.2}{:10.2}", ours / rust)
+}
+
+pub fn phases(cases: &[Settings], rounds: usize) {
+    println!(
+        "
+4. Straight phase: ns per sample, the least of {rounds} rounds by turns, ours alone, beside wrapped
+phase, whose outputs are others
+"
+    );
+    let long = format!("blocks of {BLOCK}");
+    let short = format!("blocks of {SHORT_BLOCK}");
+    println!("{:44}{long:>30}{short:>30}", "");
+    let sides = "  straight   wrapped     ratio";
+    println!("{:36}{:8}{sides}{sides}", "converter", "sample");
+    for case in cases {
+        print!("{:36}{:8}", case.name, case.unit.name());
+        for block in case.blocks {
+            let mut sides = [(case.first)(*block), (case.second)(*block)];
+            let [first, second] = timed(&mut sides, rounds);
+            let samples = case.unit.samples(&*sides[0]);
+            let [first, second] = [first, second].map(|time| nanoseconds(time, samples));
+            print!("{first:10.2}{second:10.2}{:10.2}", first / second);
+        }
+        println!();
+    }
 }
 
 pub fn pieces(cases: &[Case], rounds: usize) {

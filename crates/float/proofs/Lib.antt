@@ -4,6 +4,7 @@ pub mod Place
 pub mod PolyphaseOutput
 pub mod DelayLine
 pub mod Tape
+pub mod Laid
 pub mod Packing
 pub mod PolyphaseRange
 pub mod PolyphaseWhole

@@ -5,7 +5,7 @@ use mathlib.Core.Bool.{Bool, true, false, not, cond, true≢false}
 use Prim.Native.Nat.{ℕ, zero, suc, _+_, _-_, _*_, _/_, _^_, _≤_, _<_}
 use native.Mathlib.Nat.{le-trans, le-of-eq, mul-comm, mul-left-comm, mul-right-comm, mul-one, mul-le-mul-right, mul-pos, le-of-mul-le-mul-right, div-le-of-le-mul}
 use native.Mathlib.Omega.{arith}
-use borrow.Author.Tests.{le-ltb}
+use borrow.Author.Tests.{le-ltb, ltb-true}
 use lib.Dec.{T, ltb, eqb→eq, nltb→le}
 use lib.IntN.{pos}
 use lib.Ieee.{Float, nan, inf, fin, binary32, ofBits, up, down, odd, units, round, neg, sum, add, sub, mul, lt, eq, le, ofInt, toUnsigned}
@@ -91,6 +91,36 @@ cut-unit mu = go (lt mu zero32) refl (lt one32 mu) refl
     go true h c k = unfold ofBits in (tt, omega arith)
     go false h true k = unfold ofBits in (tt, omega arith)
     go false h false k = uncut mu h k
+
+-- what is below 1 is not above it
+pub below-one : (x : Float) → lt x one32 ≡ true → lt one32 x ≡ false
+unfolding lt ofBits
+below-one nan h = refl
+below-one (inf true) h = refl
+below-one (inf false) h = absurd (true≢false (sym h))
+below-one (fin true m e) h = refl
+below-one (fin false m e) h = le-ltb (1 * down e) (m * up e * 1) (let l = ltb-true (m * up e * 1) (1 * down e) h in omega arith)
+
+-- a mu that is cut stays
+cut-is : (mu : Float) (b c : Bool) → lt mu zero32 ≡ b → lt one32 mu ≡ c → cutUnit mu ≡ cond b zero32 (cond c one32 mu)
+unfolding cutUnit
+cut-is mu b c h k = rw (h, k)
+
+zero-cut : cutUnit zero32 ≡ zero32
+unfolding cutUnit lt ofBits
+zero-cut = refl
+
+one-cut : cutUnit one32 ≡ one32
+unfolding cutUnit lt ofBits
+one-cut = refl
+
+pub cut-cut : (mu : Float) → cutUnit mu ≡ cutUnit (cutUnit mu)
+cut-cut mu = go (lt mu zero32) refl (lt one32 mu) refl
+  where
+    go : (b : Bool) → lt mu zero32 ≡ b → (c : Bool) → lt one32 mu ≡ c → cutUnit mu ≡ cutUnit (cutUnit mu)
+    go true h c k = let e = cut-is mu true c h k in e ∙ sym zero-cut ∙ ap cutUnit (sym e)
+    go false h true k = let e = cut-is mu false true h k in e ∙ sym one-cut ∙ ap cutUnit (sym e)
+    go false h false k = ap cutUnit (sym (cut-is mu false false h k))
 
 less-cut : (c : Float) → Unit-cut c → UpTo 1 (sub binary32 one32 c)
 unfolding sub add neg sum ofBits

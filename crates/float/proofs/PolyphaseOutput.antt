@@ -15,6 +15,7 @@ use Rattle.float.specs.F32.{one32, zero32, blend}
 use Rattle.float.specs.PolyphaseOutput.{tap, straightTap, reading, cutUnit, place, phase0, phase1, firstPlace, secondPlace, fraction, phaseSum, output}
 use Rattle.float.specs.PolyphaseResamp.{within, inLimits, Inside}
 use Rattle.float.proofs.Flags.{both-true}
+use Rattle.float.proofs.Place.{cut-cut}
 
 within-says : (least most n : ℕ) → within least most n ≡ true → (least ≤ n) × (n ≤ most)
 unfolding within
@@ -127,9 +128,25 @@ unfolding firstPlace
 first-up-to true P q some a = a
 first-up-to false P q some a = le-of-lt (first-below P q some)
 
+-- a whole part before the end of the first places, and one that is not
+pub within-places : (straight : Bool) (P : ℕ) (q : Float) (w n : ℕ) → w ≡ toUnsigned 64 q → n ≡ cond straight (P + 1) P → w < n → w ≡ firstPlace straight P q
+unfolding firstPlace phase0
+within-places true P q w n e m h = e
+within-places false P q w n e m h = let l : toUnsigned 64 q < P = omega (arith, e, m, h) in e ∙ sym (mod-eq-of-lt l)
+
+pub past-places : (straight : Bool) (P : ℕ) (q : Float) (w n : ℕ) → w ≡ toUnsigned 64 q → n ≡ cond straight (P + 1) P → toUnsigned 64 q ≤ P → n ≤ w → 0 ≡ firstPlace straight P q
+unfolding firstPlace phase0
+past-places true P q w n e m a h = absurd (omega (arith, e, m, a, h))
+past-places false P q w n e m a h = let t : toUnsigned 64 q ≡ P = omega (arith, e, m, a, h) in rw t (sym (mod-self P))
+
 pub after-up-to : (straight : Bool) (P p : ℕ) → p ≤ P → cond straight (p + 1) 0 ≤ P + 1
 after-up-to true P p a = omega arith
 after-up-to false P p a = omega arith
+
+-- ---- the output at a mu that is cut
+pub output-cut : (straight : Bool) (P T : ℕ) (mu : Float) (d h : List Float) → output straight P T (cutUnit mu) d h ≡ output straight P T mu d h
+unfolding output place
+output-cut straight P T mu d h = rw (← cut-cut mu)
 
 -- ---- the result, from what its parts ensure
 whole :

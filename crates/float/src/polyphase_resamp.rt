@@ -5,8 +5,8 @@ ghost use mathlib.Core.List.{_∷_};
 ghost use Prim.Native.Nat.{_+_, _-_, _*_, _≤_, _<_};
 ghost use lib.Dec.{ltb};
 ghost use lib.ListN.{length, getD, take, drop};
-ghost use lib.Ieee.{nan, binary32, ofBits, le, toUnsigned};
-ghost use Rattle.float.specs.F32.{zero32, aboveZero, blend};
+ghost use lib.Ieee.{nan, binary32, ofBits, le, lt, toUnsigned};
+ghost use Rattle.float.specs.F32.{zero32, one32, aboveZero, blend};
 ghost use Rattle.float.specs.PolyphaseOutput.{tap, straightTap, cutUnit, firstPlace, phaseSum, output};
 ghost use Rattle.float.specs.PolyphaseResamp as R;
 ghost use Rattle.float.specs.PolyphaseWhole as W;
@@ -174,16 +174,36 @@ fn cut_unit(x: f32) -> f32
     x
 }
 
-// The first place at q. Its whole part is at most P, so that no division is needed to reduce it; straight phase does not.
+// The same of an x below 1.0.
+fn cut_below(x: f32) -> f32
+    requires { ⌜ lt x one32 ≡ true ⌝ }
+    ensures { λ r. ⌜ r ≡ cutUnit x ⌝ }
+{
+    if x < 0.0 {
+        return 0.0;
+    }
+    x
+}
+
+// The first places: P in wrapped phase; one more in straight phase, at q = P.
+fn first_places(straight: bool, phases: usize) -> usize
+    requires { ⌜ phases ≤ R.mostPhases ⌝ }
+    ensures { λ r. ⌜ r ≡ cond straight (phases + 1) phases ⌝ }
+{
+    if straight {
+        return phases + 1;
+    }
+    phases
+}
+
+// The first place at q. Its whole part is at most P, so that no division is needed to reduce it, and in straight phase it stays. How many there are is worked
+// out once for many outputs.
 fn first_place(straight: bool, q: f32, phases: usize) -> usize
-    requires { ⌜ (1 ≤ phases) × (le (ofBits binary32 0x4b80_0000) q ≡ false) × (toUnsigned 64 q ≤ phases) ⌝ }
+    requires { ⌜ (1 ≤ phases) × (phases ≤ R.mostPhases) × (le (ofBits binary32 0x4b80_0000) q ≡ false) × (toUnsigned 64 q ≤ phases) ⌝ }
     ensures { λ r. ⌜ r ≡ firstPlace straight phases q ⌝ }
 {
     let whole = whole_part(q);
-    if straight {
-        return whole;
-    }
-    if whole < phases {
+    if whole < first_places(straight, phases) {
         return whole;
     }
     0
@@ -294,8 +314,8 @@ fn blended_at_the_end(
     blend_of(y0, y1, f)
 }
 
-// One output at mu, by the setting. Below the last phase both settings read the same cells, two neighbouring phases as pairs: so these have a call of their own,
-// and the settings differ at the prototype's end alone.
+// One output at a mu that is cut, by the setting. Below the last phase both settings read the same cells, two neighbouring phases as pairs: so these have a call of
+// their own, and the settings differ at the prototype's end alone.
 fn interpolate_within(
     prototype: &[f32; MOST_CELLS],
     delay: &[f32],
@@ -304,10 +324,10 @@ fn interpolate_within(
     taps: usize,
     mu: f32,
 ) -> f32
-    requires { ⌜ (R.inLimits phases taps ≡ true) × (taps ≤ length (now delay)) ⌝ }
+    requires { ⌜ (R.inLimits phases taps ≡ true) × (taps ≤ length (now delay)) × (mu ≡ cutUnit mu) ⌝ }
     ensures { λ r. ⌜ r ≡ output straight phases taps mu (now (delay .entry)) (now (prototype .entry)) ⌝ }
 {
-    let q = (1.0 - cut_unit(mu)) * (phases as f32);
+    let q = (1.0 - mu) * (phases as f32);
     let p = first_place(straight, q, phases);
     let f = q - (p as f32);
     if p + 1 < phases {
@@ -333,7 +353,8 @@ pub fn interpolate(
         return 0.0;
     }
     lent_whole(*delay);
-    interpolate_within(prototype, delay, straight, phases, taps, mu)
+    let cut = cut_unit(mu);
+    interpolate_within(prototype, delay, straight, phases, taps, cut)
 }
 
 // An array by value is known to be as long as its type says, and one that is lent is not: this call, which compiles to nothing, tells it.
@@ -397,7 +418,8 @@ fn due_within(
     let mut written = from;
     while written < dst.len() {
         if next < 1.0 {
-            dst[written] = interpolate_within(prototype, delay, straight, phases, taps, next);
+            let cut = cut_below(next);
+            dst[written] = interpolate_within(prototype, delay, straight, phases, taps, cut);
             written += 1;
             next = next + step;
         } else {
@@ -430,30 +452,30 @@ fn run(
     let mut at = mu;
     let mut taken = 0usize;
     let mut written = 0usize;
-    loop {
-        let window = &tape[newest..];
-        let due = due_within(
-            prototype,
-            window,
-            straight,
-            phases,
-            taps,
-            step,
-            at,
-            dst,
-            written,
-        );
-        at = due.mu;
-        written = due.written;
-        if dst.len() <= written {
-            break;
+    while written < dst.len() {
+        if at < 1.0 {
+            let window = &tape[newest..];
+            let due = due_within(
+                prototype,
+                window,
+                straight,
+                phases,
+                taps,
+                step,
+                at,
+                dst,
+                written,
+            );
+            at = due.mu;
+            written = due.written;
+        } else {
+            if src.len() <= taken {
+                break;
+            }
+            newest = take_in(&mut tape, newest, taps, src[taken]);
+            taken += 1;
+            at = at - 1.0;
         }
-        if src.len() <= taken {
-            break;
-        }
-        newest = take_in(&mut tape, newest, taps, src[taken]);
-        taken += 1;
-        at = at - 1.0;
     }
     let past = newest + taps;
     put_at_end(&mut held[..taps], &tape[newest..past]);

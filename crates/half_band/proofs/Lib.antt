@@ -8,6 +8,7 @@ pub mod Folding
 pub mod Sliding
 pub mod Earlier
 pub mod WholeLists
+pub mod PairsAlong
 pub mod Blocks
 pub mod Expanding
 pub mod Along

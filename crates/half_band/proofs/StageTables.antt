@@ -10,7 +10,7 @@ use lib.ListN.{length, getD, take, drop, length-drop}
 use lib.Seq.{length-take-le}
 use lib.Ieee.{Float}
 use Rattle.half_band.specs.HbfTaps.{Table, stageTaps, PlaceOf, decimation, interpolation}
-use Rattle.half_band.specs.HbfTaps98.{decimation98, tableOf}
+use Rattle.half_band.specs.HbfTaps98.{decimation98, ofTable, tableOf}
 use Rattle.half_band.specs.declared.hbf_taps.HbfTable.{HbfTable}
 use Rattle.half_band.specs.declared.hbf_taps.HbfTable.the-variants.{Db140, Db98}
 use Rattle.half_band.proofs.Decimals.{patterns, taps-printed}
@@ -110,10 +110,20 @@ dec98-fits =
 pub dec98-stages : FiveStages (stageTaps decimation98)
 dec98-stages = stages patterns98 decimation98 dec98-fits
 
--- the stages of the table that a cascade runs
+-- the taps and the stages of the table that a cascade runs
+abbrev pub patternsOf : HbfTable → List Float
+patternsOf t = ofTable t patterns patterns98
+
+pub few-cells : (t : HbfTable) → length (patternsOf t) ≤ 45
+few-cells Db140 = lit≤ tt
+few-cells Db98 = lit≤ tt
+
+pub fits-of : (t : HbfTable) → Fits (patternsOf t) (tableOf t)
+fits-of Db140 = dec-fits
+fits-of Db98 = dec98-fits
+
 pub stages-of : (t : HbfTable) → FiveStages (stageTaps (tableOf t))
-stages-of Db140 = dec-stages
-stages-of Db98 = dec98-stages
+stages-of t = stages (patternsOf t) (tableOf t) (fits-of t)
 
 pub int-stages : FiveStages (stageTaps interpolation)
 int-stages = stages patterns interpolation int-fits

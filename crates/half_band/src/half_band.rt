@@ -8,7 +8,9 @@ ghost use Rattle.theory.specs.Sections.{state, outs};
 ghost use Rattle.half_band.specs.HalfBand.{flat};
 ghost use Rattle.float.specs.F32.{zero32};
 ghost use Rattle.half_band.specs.Windows.{slid, folded, decValue, intValue, pairs, decimator, interpolator};
+use crate::limits::DEC_DELAYS;
 use crate::limits::MOST_HALF_BAND_TAPS;
+use float::span::lay;
 use float::span::put_at_end;
 
 // Places for the longest window and for many samples more, or for six frames of the deepest cascade.
@@ -49,6 +51,15 @@ fn folded_sum(window: &[f32], taps: &[f32], step: usize, start: f32) -> f32
     acc
 }
 
+// The decimator's output at a window.
+fn dec_at(window: &[f32], taps: &[f32]) -> f32
+    requires { ⌜ (1 ≤ length (now taps)) × (length (now window) ≡ 4 * length (now taps)) ⌝ }
+    ensures { λ r. ⌜ r ≡ decValue (now (taps .entry)) (now (window .entry)) ⌝ }
+{
+    let centre = window[2 * taps.len() - 1];
+    0.5 * folded_sum(window, taps, 2, centre)
+}
+
 // The decimator takes a pair in, and gives its output.
 pub(crate) fn take_pair(window: &mut [f32], taps: &[f32], a: f32, b: f32) -> f32
     requires { ⌜ (1 ≤ length (now taps)) × (length (now window) ≡ 4 * length (now taps)) ⌝ }
@@ -58,8 +69,7 @@ pub(crate) fn take_pair(window: &mut [f32], taps: &[f32], a: f32, b: f32) -> f32
     move_down(window, 2);
     window[n - 2] = a;
     window[n - 1] = b;
-    let centre = window[2 * taps.len() - 1];
-    0.5 * folded_sum(window, taps, 2, centre)
+    dec_at(window, taps)
 }
 
 // The decimator takes n pairs of src in, and their outputs stand in front of dst.
@@ -75,18 +85,39 @@ pub(crate) fn decimate(window: &mut [f32], taps: &[f32], src: &[f32], dst: &mut 
     }
 }
 
-// The first 2n values of the span go through the decimator, and their outputs stand in front of it. An output is never written over a value that is still
-// to be read: output i stands i places before the pair i.
-pub(crate) fn decimate_in_place(window: &mut [f32], taps: &[f32], span: &mut [f32], n: usize)
-    requires { ⌜ (1 ≤ length (now taps)) × (length (now window) ≡ 4 * length (now taps)) × (2 * n ≤ length (now span)) ⌝ }
-    ensures { λ _. ⌜ (now (window .exit) ≡ state (decimator (now (taps .entry))) (now (window .entry)) (pairs (take (2 * n) (now (span .entry))))) × (now (span .exit) ≡ outs (decimator (now (taps .entry))) (now (window .entry)) (pairs (take (2 * n) (now (span .entry)))) ++ drop n (now (span .entry))) ⌝ }
+// The window in front of a line moves along it by pairs, and the outputs stand in front of the span.
+fn decimate_along(line: &[f32], taps: &[f32], span: &mut [f32], n: usize)
+    requires { ⌜ (1 ≤ length (now taps)) × (length (now taps) ≤ 23) × (length (now line) ≡ 4 * length (now taps) + 2 * n) × (n ≤ length (now span)) ⌝ }
+    ensures { λ _. ⌜ (
+        let long = 4 * length (now (taps .entry)) in
+        let line = now (line .entry) in
+        now (span .exit) ≡ outs (decimator (now (taps .entry))) (take long line) (pairs (drop long line)) ++ drop n (now (span .entry))) ⌝ }
 {
+    let long = 4 * taps.len();
     let mut i = 0;
     while i < n {
-        let y = take_pair(window, taps, span[2 * i], span[2 * i + 1]);
-        span[i] = y;
+        let from = 2 * i + 2;
+        let past = from + long;
+        span[i] = dec_at(&line[from..past], taps);
         i += 1;
     }
+}
+
+// Places for the longest window and for a tape behind it.
+const LINE: usize = DEC_DELAYS + TAPE;
+
+// The first 2n values of the span go through the decimator, and their outputs stand in front of it. They are put behind the window on a line of their own, so
+// that nothing is moved for a pair.
+pub(crate) fn decimate_in_place(window: &mut [f32], taps: &[f32], span: &mut [f32], n: usize)
+    requires { ⌜ (1 ≤ length (now taps)) × (length (now taps) ≤ 23) × (length (now window) ≡ 4 * length (now taps)) × (2 * n ≤ length (now span)) × (2 * n ≤ 192) ⌝ }
+    ensures { λ _. ⌜ (now (window .exit) ≡ state (decimator (now (taps .entry))) (now (window .entry)) (pairs (take (2 * n) (now (span .entry))))) × (now (span .exit) ≡ outs (decimator (now (taps .entry))) (now (window .entry)) (pairs (take (2 * n) (now (span .entry)))) ++ drop n (now (span .entry))) ⌝ }
+{
+    let values = 2 * n;
+    let past = values + window.len();
+    let mut line = [0.0f32; LINE];
+    lay(&mut line, window, &span[..values]);
+    put_at_end(window, &line[values..past]);
+    decimate_along(&line[..past], taps, span, n);
 }
 
 // The two outputs that the interpolator makes of a sample.

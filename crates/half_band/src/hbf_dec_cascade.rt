@@ -8,8 +8,8 @@ ghost use Rattle.theory.specs.Sections.{state, outs};
 ghost use Rattle.refusal.specs.Outcome.{openingNumber};
 ghost use Rattle.half_band.specs.Answers.{toldOpening, toldCount};
 ghost use Rattle.float.specs.F32.{zero32};
-ghost use Rattle.half_band.specs.HbfTaps.{stageTaps, decimation};
-ghost use Rattle.half_band.specs.HbfTaps98.{decimation98, tableOf};
+ghost use Rattle.half_band.specs.HbfTaps.{stageTaps};
+ghost use Rattle.half_band.specs.HbfTaps98.{tableOf};
 ghost use Rattle.half_band.specs.Windows.{pairs, decimator, spliced};
 ghost use Rattle.half_band.specs.HbfStream.{stream, streamOf};
 ghost use Rattle.half_band.specs.HbfDecCascade.{cascadeOf, decCascadeFresh, decCascadeOpening, decCascadeReset, blockBy, spanBy, decCascadeBlock, decCascadeSpan, DecCascadeMeets};
@@ -19,8 +19,8 @@ use crate::half_band::on_tape;
 use crate::hbf_taps::HBF_TAPS;
 use crate::hbf_taps::HBF_TAPS_98;
 use crate::hbf_taps::HbfTable;
-use crate::hbf_taps::decimation_98_stage;
-use crate::hbf_taps::decimation_stage;
+use crate::hbf_taps::cells_of;
+use crate::hbf_taps::stage_of;
 use crate::limits::DEC_CASCADE_DELAYS;
 use crate::limits::DEC_DELAYS;
 use crate::limits::MOST_STAGES;
@@ -49,41 +49,18 @@ pub struct HbfDecCascadeBlock {
     pub state: HbfDecCascade,
 }
 
-// The first 2n values of the span go through stage k of the 140 dB table, and their outputs stand in front of it.
-fn decimate_stage_140(k: usize, delays: &mut [f32], span: &mut [f32], n: usize)
-    requires { ⌜ (k < 5) × (length (now delays) ≡ 480) × (2 * n ≤ length (now span)) ⌝ }
-    ensures { λ _. ⌜ (now (delays .exit) ≡ spliced (96 * k) (4 * length (stageTaps decimation k)) (state (decimator (stageTaps decimation k)) (take (4 * length (stageTaps decimation k)) (drop (96 * k) (now (delays .entry)))) (pairs (take (2 * n) (now (span .entry))))) (now (delays .entry))) × (now (span .exit) ≡ outs (decimator (stageTaps decimation k)) (take (4 * length (stageTaps decimation k)) (drop (96 * k) (now (delays .entry)))) (pairs (take (2 * n) (now (span .entry)))) ++ drop n (now (span .entry))) ⌝ }
-{
-    let taps = decimation_stage(k);
-    let first = taps.first;
-    let end = first + taps.count;
-    let from = DEC_DELAYS * k;
-    let past = from + 4 * taps.count;
-    decimate_in_place(&mut delays[from..past], &HBF_TAPS[first..end], span, n)
-}
-
-// The first 2n values of the span go through stage k of the 98 dB table.
-fn decimate_stage_98(k: usize, delays: &mut [f32], span: &mut [f32], n: usize)
-    requires { ⌜ (k < 5) × (length (now delays) ≡ 480) × (2 * n ≤ length (now span)) ⌝ }
-    ensures { λ _. ⌜ (now (delays .exit) ≡ spliced (96 * k) (4 * length (stageTaps decimation98 k)) (state (decimator (stageTaps decimation98 k)) (take (4 * length (stageTaps decimation98 k)) (drop (96 * k) (now (delays .entry)))) (pairs (take (2 * n) (now (span .entry))))) (now (delays .entry))) × (now (span .exit) ≡ outs (decimator (stageTaps decimation98 k)) (take (4 * length (stageTaps decimation98 k)) (drop (96 * k) (now (delays .entry)))) (pairs (take (2 * n) (now (span .entry)))) ++ drop n (now (span .entry))) ⌝ }
-{
-    let taps = decimation_98_stage(k);
-    let first = taps.first;
-    let end = first + taps.count;
-    let from = DEC_DELAYS * k;
-    let past = from + 4 * taps.count;
-    decimate_in_place(&mut delays[from..past], &HBF_TAPS_98[first..end], span, n)
-}
-
 // The first 2n values of the span go through stage k, and their outputs stand in front of it.
 fn decimate_stage(k: usize, delays: &mut [f32], span: &mut [f32], n: usize, table: HbfTable)
-    requires { ⌜ (k < 5) × (length (now delays) ≡ 480) × (2 * n ≤ length (now span)) ⌝ }
+    requires { ⌜ (k < 5) × (length (now delays) ≡ 480) × (2 * n ≤ length (now span)) × (2 * n ≤ 192) ⌝ }
     ensures { λ _. ⌜ (now (delays .exit) ≡ spliced (96 * k) (4 * length (stageTaps (tableOf table) k)) (state (decimator (stageTaps (tableOf table) k)) (take (4 * length (stageTaps (tableOf table) k)) (drop (96 * k) (now (delays .entry)))) (pairs (take (2 * n) (now (span .entry))))) (now (delays .entry))) × (now (span .exit) ≡ outs (decimator (stageTaps (tableOf table) k)) (take (4 * length (stageTaps (tableOf table) k)) (drop (96 * k) (now (delays .entry)))) (pairs (take (2 * n) (now (span .entry)))) ++ drop n (now (span .entry))) ⌝ }
 {
-    match table {
-        HbfTable::Db140 => decimate_stage_140(k, delays, span, n),
-        HbfTable::Db98 => decimate_stage_98(k, delays, span, n),
-    }
+    let taps = stage_of(table, k);
+    let first = taps.first;
+    let end = first + taps.count;
+    let from = DEC_DELAYS * k;
+    let past = from + 4 * taps.count;
+    let cells = cells_of(table, &HBF_TAPS, &HBF_TAPS_98);
+    decimate_in_place(&mut delays[from..past], &cells[first..end], span, n)
 }
 
 // So many frames of the span go through the stages, and an output of each stands in front of it.
@@ -94,7 +71,7 @@ fn decimate_stages(
     frames: usize,
     table: HbfTable,
 )
-    requires { ⌜ (depth ≤ 5) × (length (now delays) ≡ 480) × (frames * 2 ^ depth ≤ length (now span)) ⌝ }
+    requires { ⌜ (depth ≤ 5) × (length (now delays) ≡ 480) × (frames * 2 ^ depth ≤ length (now span)) × (length (now span) ≤ 192) ⌝ }
     ensures { λ _. ⌜ (streamOf depth (now (delays .exit)) (replicate 5 zero32) (replicate 5 0) ≡ state (stream (stageTaps (tableOf table))) (streamOf depth (now (delays .entry)) (replicate 5 zero32) (replicate 5 0)) (take (frames * 2 ^ depth) (now (span .entry)))) × (take frames (now (span .exit)) ≡ outs (stream (stageTaps (tableOf table))) (streamOf depth (now (delays .entry)) (replicate 5 zero32) (replicate 5 0)) (take (frames * 2 ^ depth) (now (span .entry)))) ⌝ }
 {
     let mut n = frames * rate_change(depth);

@@ -2,7 +2,7 @@
 ghost use mathlib.Core.Path.{_≡_};
 ghost use Prim.Native.Nat.{_<_};
 ghost use Rattle.half_band.specs.HbfTaps.{hbfTaps, decimation, interpolation, PlaceOf};
-ghost use Rattle.half_band.specs.HbfTaps98.{hbfTaps98, decimation98};
+ghost use Rattle.half_band.specs.HbfTaps98.{hbfTaps98, decimation98, ofTable, tableOf};
 use crate::limits::MOST_STAGES;
 
 pub const HBF_TAPS: [f32; 45] = [
@@ -125,6 +125,27 @@ pub(crate) fn decimation_98_stage(k: usize) -> StageTaps
     StageTaps {
         first: DECIMATION_98_STARTS[k],
         count: DECIMATION_98_LENGTHS[k],
+    }
+}
+
+// The stages of a table.
+pub(crate) fn stage_of(table: HbfTable, k: usize) -> StageTaps
+    requires { ⌜ k < 5 ⌝ }
+    ensures { λ r. ⌜ PlaceOf (tableOf table) k (r .first) (r .count) ⌝ }
+{
+    match table {
+        HbfTable::Db140 => decimation_stage(k),
+        HbfTable::Db98 => decimation_98_stage(k),
+    }
+}
+
+// Of the two tables' taps those of one.
+pub(crate) fn cells_of<'a>(table: HbfTable, db140: &'a [f32], db98: &'a [f32]) -> &'a [f32]
+    ensures { λ r. ⌜ now r ≡ ofTable table (now (db140 .entry)) (now (db98 .entry)) ⌝ }
+{
+    match table {
+        HbfTable::Db140 => db140,
+        HbfTable::Db98 => db98,
     }
 }
 

@@ -4,7 +4,7 @@ use mathlib.Core.List.{List, [], _++_, append-nil, append-assoc}
 use Prim.Native.Nat.{ℕ, _+_, _-_, _≤_, min}
 use native.Mathlib.Omega.{arith}
 use lib.ListN.{length, getD, take, drop, length-append, length-drop, drop-of-length-le}
-use lib.Seq.{length-take-le, take-at, take-add, take-take, take-all, take-append-le, drop-drop}
+use lib.Seq.{length-take-le, take-at, take-add, take-take, take-all, take-append-le, drop-drop, take-append-add}
 use lib.Ieee.{Float, nan}
 use Rattle.theory.specs.Lists.{listed}
 use Rattle.q15.proofs.Filling.{listed-take}
@@ -47,19 +47,25 @@ module _ (w : ℕ) (t d : List Float) (k : ℕ) (h : w ≤ length d) (room : k +
       ap (take (k + w)) (sym (append-assoc (take k t) (take w d) (drop (k + w) t)))
       ∙ take-at (take k t ++ take w d) (drop (k + w) t) (k + w) (length-append (take k t) (take w d) ∙ omega (arith, before, values))
 
--- a delay of at most sixteen places and two groups of samples, each put over what is too much of the one before
-pub laid-groups : (delay samples t₀ t₁ t₂ t₃ : List Float) (long : ℕ) → long ≤ 16 → 16 ≤ length delay → 32 ≤ length samples → length t₀ ≡ 48
+-- a delay of at most sixteen places and two groups of samples, the second from s on, each put over what is too much of the one before
+pub laid-groups : (delay samples t₀ t₁ t₂ t₃ : List Float) (long s n : ℕ) → n ≡ s + 16 → long ≤ 16 → s ≤ 16 → 16 ≤ length delay → s + 16 ≤ length samples → length t₀ ≡ 48
     → t₁ ≡ take 16 delay ++ drop 16 t₀ → t₂ ≡ take long t₁ ++ (take 16 samples ++ drop (long + 16) t₁)
-    → t₃ ≡ take (long + 16) t₂ ++ (take 16 (drop 16 samples) ++ drop (long + 16 + 16) t₂) → take (long + 32) t₃ ≡ take long delay ++ take 32 samples
-laid-groups delay samples t₀ t₁ t₂ t₃ long few h room size e₁ e₂ e₃ =
+    → t₃ ≡ take (long + s) t₂ ++ (take 16 (drop s samples) ++ drop (long + s + 16) t₂) → take (long + n) t₃ ≡ take long delay ++ take n samples
+laid-groups delay samples t₀ t₁ t₂ t₃ long s n count few part h room size e₁ e₂ e₃ =
     let d : length (take 16 delay) ≡ 16 = length-take-le 16 delay h in
     let l₁ : length t₁ ≡ 48 = ap length e₁ ∙ length-append (take 16 delay) (drop 16 t₀) ∙ omega (arith, d, length-drop 16 t₀, size) in
     let l₂ : length t₂ ≡ 48 = ap length e₂ ∙ long-from 16 t₁ samples long (omega arith) (omega (arith, l₁)) ∙ l₁ in
-    let further : long + 32 ≡ long + 16 + 16 = omega arith in
+    let k : length (take long t₁) ≡ long = length-take-le long t₁ (omega (arith, l₁)) in
+    let further : long + n ≡ long + s + 16 = omega arith in
     ap₂ {C = List Float} take further e₃
-    ∙ up-to 16 t₂ (drop 16 samples) (long + 16) (simp length-drop (omega arith)) (omega (arith, l₂))
-    ∙ ap (λ (l : List Float). l ++ take 16 (drop 16 samples)) (ap (take (long + 16)) e₂ ∙ up-to 16 t₁ samples long (omega arith) (omega (arith, l₁)))
-    ∙ append-assoc (take long t₁) (take 16 samples) (take 16 (drop 16 samples))
+    ∙ up-to 16 t₂ (drop s samples) (long + s) (simp length-drop (omega arith)) (omega (arith, l₂))
+    ∙ ap (λ (l : List Float). l ++ take 16 (drop s samples))
+    (sym (take-take (long + s) (long + 16) t₂ (omega arith))
+    ∙ ap (take (long + s)) (ap (take (long + 16)) e₂ ∙ up-to 16 t₁ samples long (omega arith) (omega (arith, l₁)))
+    ∙ ap (λ (n : ℕ). take (n + s) (take long t₁ ++ take 16 samples)) (sym k)
+    ∙ take-append-add (take long t₁) (take 16 samples) s
+    ∙ ap (λ (l : List Float). take long t₁ ++ l) (take-take s 16 samples part))
+    ∙ append-assoc (take long t₁) (take s samples) (take 16 (drop s samples))
     ∙ ap₂ {C = List Float} _++_
     (ap (take long) e₁ ∙ take-append-le long (take 16 delay) (drop 16 t₀) (omega (arith, d)) ∙ take-take long 16 delay few)
-    (sym (take-add 16 16 samples))
+    (sym (take-add s 16 samples) ∙ ap (λ (k : ℕ). take k samples) (sym count))

@@ -17,21 +17,11 @@ use crate::limits::LINEAR_PHASE_DELAYS;
 use crate::limits::MOST_LINEAR_PHASE_TAPS;
 use crate::one::filter_one;
 use crate::pairs::has_centre;
+use float::span::lay;
 use float::span::put_at_end;
 
 // Places for the longest delay, and for the samples that the last group of windows beginning in it reaches.
 const TAPE: usize = 2 * LINEAR_PHASE_DELAYS + LANES;
-
-// Delay and samples in front of a tape.
-fn lay(tape: &mut [f32], delay: &[f32], samples: &[f32])
-    requires { ⌜ length (now delay) + length (now samples) ≤ length (now tape) ⌝ }
-    ensures { λ _. ⌜ take (length (now (delay .entry)) + length (now (samples .entry))) (now (tape .exit)) ≡ now (delay .entry) ++ now (samples .entry) ⌝ }
-{
-    let long = delay.len();
-    let past = long + samples.len();
-    put_at_end(&mut tape[..long], delay);
-    put_at_end(&mut tape[..past], samples);
-}
 
 // The last samples are the next delay; where there are fewer than it has places, they stand on the tape behind it.
 fn last_in(delay: &mut [f32], tape: &[f32], samples: &[f32])
@@ -85,30 +75,32 @@ pub(crate) fn filter(
     outputs_back(&tape, src, own, taps, long, minus, centre, span);
 }
 
-// Whether the delay is no longer than a group, and the samples are two groups at least.
+// Whether the delay is no longer than a group, and the samples are a group at least.
 pub(crate) fn is_short(long: usize, n: usize) -> bool
-    ensures { λ r. ⌜ (r ≡ true → (long ≤ 16) × (32 ≤ n)) ⌝ }
+    ensures { λ r. ⌜ (r ≡ true → (long ≤ 16) × (16 ≤ n)) ⌝ }
 {
     if LANES < long {
         return false;
     }
-    2 * LANES <= n
+    LANES <= n
 }
 
 // The places for such a delay and two groups of samples.
 const SHORT_TAPE: usize = 3 * LANES;
 
-// They are put there in whole groups, each over what is too much of the one before.
+// They are put there in whole groups, each over what is too much of the one before; the second group ends with the samples where these are fewer than two.
 fn lay_groups(tape: &mut [f32], delay: &[f32], long: usize, samples: &[f32])
-    requires { ⌜ (long ≤ 16) × (16 ≤ length (now delay)) × (32 ≤ length (now samples)) × (length (now tape) ≡ 48) ⌝ }
-    ensures { λ _. ⌜ take (long + 32) (now (tape .exit)) ≡ take long (now (delay .entry)) ++ take 32 (now (samples .entry)) ⌝ }
+    requires { ⌜ (long ≤ 16) × (16 ≤ length (now delay)) × (16 ≤ length (now samples)) × (length (now tape) ≡ 48) ⌝ }
+    ensures { λ _. ⌜ (let n = min (length (now (samples .entry))) 32 in
+        take (long + n) (now (tape .exit)) ≡ take long (now (delay .entry)) ++ take n (now (samples .entry))) ⌝ }
 {
     let early = taken(delay);
     put_all(tape, early);
     let front = taken(samples);
     put_all(&mut tape[long..], front);
-    let next = taken(&samples[LANES..]);
-    let at = long + LANES;
+    let second = least(samples.len() - LANES, LANES);
+    let next = taken(&samples[second..]);
+    let at = long + second;
     put_all(&mut tape[at..], next);
 }
 
@@ -124,7 +116,7 @@ pub(crate) fn filter_short(
     span: &mut [f32],
 )
     requires { ⌜ (1 ≤ length (now taps)) × (length (now taps) ≤ 23) × (long ≡ P.reach odd (length (now taps))) × (length (now delay) ≡ 46) ⌝ }
-    requires { ⌜ (long ≤ 16) × (32 ≤ length (now span)) × (length (W.picked own (now span) (now src)) ≡ length (now span)) ⌝ }
+    requires { ⌜ (long ≤ 16) × (16 ≤ length (now span)) × (length (W.picked own (now span) (now src)) ≡ length (now span)) ⌝ }
     ensures delay { λ _. ⌜ (let samples = W.picked own (now (span .entry)) (now (src .entry)) in
         let next = state (W.linearPhase odd minus (now (taps .entry))) (take long (now (delay .entry))) samples in
         now (delay .exit) ≡ next ++ drop long (now (delay .entry))) ⌝ }

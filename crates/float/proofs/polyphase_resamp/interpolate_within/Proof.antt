@@ -1,10 +1,11 @@
 -- `interpolate_within` meets its contract: q is from 0 to P, so the first place is at most P, and `whole-before` and `whole-end` put the parts together.
+use mathlib.Core.Path.{sym, subst}
 use Prim.Native.Nat.{_≤_}
 use native.Mathlib.Nat.{le-trans}
 use native.Mathlib.Omega.{arith}
 use borrow.Author.Needs.{needs}
 use lib.IntN.{pos}
-use lib.Ieee.{binary32, ofInt, sub, mul}
+use lib.Ieee.{Float, binary32, ofInt, sub, mul}
 use Rattle.float.specs.F32.{one32}
 use Rattle.float.specs.PolyphaseOutput.{place}
 use Rattle.float.proofs.Place.{UpTo, place-up-to, below-all-whole, whole-up-to}
@@ -15,67 +16,66 @@ use Rattle.float.proofs.polyphase_resamp.interpolate_within.Tie as tie
 limits : (c : tie.Start) → Limits (c .args .phases) (c .args .taps)
 limits c = limits-say _ _ (c .pre .0)
 
-cut-unit-requires : tie.Need-cut-unit-requires
-cut-unit-requires c κs = search needs
-
 int-to-float-q : tie.Need-int-to-float-q
-int-to-float-q c = exact _ 64 (limits (c .before .before .before) .few-phases) tt
+int-to-float-q c = exact _ 64 (limits (c .before .before) .few-phases) tt
 
 -- q is from 0 to P
-placed : (c : tie.After-row-known) → UpTo (c .before .before .before .args .phases) (mul binary32 (sub binary32 one32 (c .before .cut-unit .result)) (ofInt binary32 (pos (c .before .before .before .args .phases))))
+placed : (c : tie.After-row-known) → UpTo (c .before .before .args .phases) (mul binary32 (sub binary32 one32 (c .before .before .args .mu)) (ofInt binary32 (pos (c .before .before .args .phases))))
 unfolding place
-placed c = rw (c .before .cut-unit .ensures) (place-up-to _ (c .before .before .before .args .mu) (limits (c .before .before .before) .few-phases))
+placed c =
+    let s = c .before .before in
+    subst (λ (x : Float). UpTo (s .args .phases) (mul binary32 (sub binary32 one32 x) (ofInt binary32 (pos (s .args .phases))))) (sym (s .pre .2)) (place-up-to _ (s .args .mu) (limits s .few-phases))
 
 first-place-requires : tie.Need-first-place-requires
 first-place-requires c κs =
-    let l = limits (c .before .before .before) in
-    (omega arith, below-all-whole _ _ (l .few-phases) (placed c), whole-up-to _ _ (placed c))
+    let l = limits (c .before .before) in
+    (omega arith, l .few-phases, below-all-whole _ _ (l .few-phases) (placed c), whole-up-to _ _ (placed c))
 
 -- the first place is at most P
-at-most : (c : tie.After-first-place) → c .first-place .result ≤ c .before .before .before .before .args .phases
+at-most : (c : tie.After-first-place) → c .first-place .result ≤ c .before .before .before .args .phases
 at-most c =
-    let s = c .before .before .before .before in
+    let s = c .before .before .before in
     rw (c .first-place .ensures) (first-up-to (s .args .straight) _ _ (let l = limits s in omega arith) (whole-up-to _ _ (placed (c .before))))
 
 int-to-float-f : tie.Need-int-to-float-f
-int-to-float-f c = exact _ 64 (le-trans (at-most (c .before)) (limits (c .before .before .before .before .before) .few-phases)) tt
+int-to-float-f c = exact _ 64 (le-trans (at-most (c .before)) (limits (c .before .before .before .before) .few-phases)) tt
 
 add-if1 : tie.Need-add-if1
-add-if1 c = record { fits = omega (arith, at-most (c .before), limits (c .before .before .before .before .before) .few-phases) }
+add-if1 c = record { fits = omega (arith, at-most (c .before), limits (c .before .before .before .before) .few-phases) }
 
 add-blended : tie.Need-add-blended
 add-blended c = search needs
 
 blended-requires : tie.Need-blended-requires
 blended-requires c κs =
-    let s = c .before .before .before .before .before .before in
+    let s = c .before .before .before .before .before in
     (s .pre .0, s .pre .1, omega (arith, c .if1 .taken), c .if1 .taken)
 
 returns : tie.Need-returns
 returns c =
     let p = c .before .before .before in
-    whole-before _ _ _ _ _ _ _ _ _ (p .before .before .cut-unit .ensures) (p .first-place .ensures) (c .before .if1 .taken) (c .blended .ensures)
+    whole-before _ _ _ _ _ _ _ _ _ (p .before .before .before .pre .2) (p .first-place .ensures) (c .before .if1 .taken) (c .blended .ensures)
 
 place-after-requires : tie.Need-place-after-requires
-place-after-requires c κs = le-trans (at-most (c .before .before)) (limits (c .before .before .before .before .before .before) .few-phases)
+place-after-requires c κs = le-trans (at-most (c .before .before)) (limits (c .before .before .before .before .before) .few-phases)
 
 blended-at-the-end-requires : tie.Need-blended-at-the-end-requires
 blended-at-the-end-requires c κs =
     let p = c .before .before .before in
-    let s = p .before .before .before .before in
+    let s = p .before .before .before in
     (s .pre .0, s .pre .1, at-most p, rw (c .place-after .ensures) (after-up-to (s .args .straight) _ _ (at-most p)))
 
 returns-2 : tie.Need-returns-2
 returns-2 c =
     let p = c .before .before .before .before in
-    let l = limits (p .before .before .before .before) in
-    whole-end _ _ _ _ _ _ _ _ _ (p .before .before .cut-unit .ensures) (p .first-place .ensures) _ (omega (arith, l .some-phases)) (c .before .before .if1 .left) (c .before .place-after .ensures) (c .blended-at-the-end .ensures)
+    let s = p .before .before .before in
+    let l = limits s in
+    whole-end _ _ _ _ _ _ _ _ _ (s .pre .2) (p .first-place .ensures) _ (omega (arith, l .some-phases)) (c .before .before .if1 .left) (c .before .place-after .ensures) (c .blended-at-the-end .ensures)
 
 pub interpolate-within-spec : {M : Type 1} → statement M
 interpolate-within-spec =
     tie.close
     (tie.spec
-    cut-unit-requires
     int-to-float-q
     first-place-requires
     int-to-float-f

@@ -1,139 +1,137 @@
--- `half_band::half_band::decimate_in_place` meets its contract: after i turns the window and the span are those of the first i pairs, and the pairs left stand where they
--- stood.
-use mathlib.Core.Path.{_≡_, refl, sym, ap, _∙_, subst}
-use mathlib.Core.List.{List, [], _∷_, _++_}
-use mathlib.Core.Option.{some}
-use Prim.Native.Nat.{ℕ, _+_, _*_, _-_, _≤_, _<_}
-use native.Mathlib.Nat.{le-antisymm, le-of-eq}
-use lib.ListN.{length, getD, take, drop}
-use lib.Seq.{length-take-le, getD-take, take-all}
-use lib.Ieee.{Float, nan}
+-- `half_band::half_band::decimate_in_place` meets its contract: window and values stand in a row on the line, whose last places are the window left and whose windows give the outputs.
+use mathlib.Core.Path.{_≡_, sym, ap, ap₂, _∙_}
+use mathlib.Core.List.{List, _++_}
+use Prim.Native.Nat.{ℕ, _+_, _*_, _-_, _≤_}
+use lib.ListN.{length, take, drop, length-replicate, length-append}
+use lib.Seq.{length-take-le, take-at, drop-at}
+use lib.Ieee.{Float}
 use denote.Ref.{now}
-use Rattle.theory.specs.Sections.{state, outs}
-use Rattle.half_band.specs.Windows.{slid, decValue, pairs, decimator}
-use Rattle.half_band.proofs.Blocks.{Emitted, emitted-start, emitted-rest, emitted-one}
-use Rattle.half_band.proofs.Moving.{length-slid}
-use Rattle.half_band.proofs.WholeLists.{pairs-front, pair-at}
+use Rattle.theory.specs.Sections.{outs}
+use Rattle.half_band.specs.Windows.{pairs, decimator}
+use Rattle.float.proofs.Laid.{put-last, tape-last}
+use Rattle.half_band.proofs.PairsAlong.{state-along}
 use native.Mathlib.Omega.{arith}
 use borrow.Author.Needs.{needs}
 use Rattle.half_band.proofs.half_band.decimate_in_place.Statement.{statement}
 use Rattle.half_band.proofs.half_band.decimate_in_place.Tie as tie
 
-abbrev Inv-loop : tie.InvT-loop
-Inv-loop window₀ taps span₀ n i₀ window span i = (i ≤ n) × (length window ≡ length window₀) × Emitted (decimator taps) window₀ (pairs (take (2 * n) span₀)) span₀ window span i i
+abbrev begun : tie.After-lay → tie.Start
+begun c = c .before .before .before .before .before .before .before
 
-abbrev μ-loop : tie.MeasureT-loop
-μ-loop window₀ taps span₀ n i₀ window span i = n - i
+-- the values
+abbrev values : tie.Start → List Float
+values s = take (2 * s .args .n) (now (s .args .span))
 
-abbrev begun : tie.At-loop Inv-loop μ-loop → tie.Start Inv-loop μ-loop
-begun c = c .before .before .before .before
+values-long : (s : tie.Start) → length (values s) ≡ 2 * s .args .n
+values-long s = length-take-le _ _ (s .pre .3)
 
--- the pair that is read stands where it stood
-pair-there :
-    (taps window₀ span₀ window span : List Float) (n i : ℕ) → Emitted (decimator taps) window₀ (pairs (take (2 * n) span₀)) span₀ window span i i → i < n → 2 * n ≤ length span₀
-    → getD (pairs (take (2 * n) span₀)) i (nan, nan) ≡ (getD span (2 * i) nan, getD span (2 * i + 1) nan)
-pair-there taps window₀ span₀ window span n i q h room =
-    let long : length (take (2 * n) span₀) ≡ 2 * n = length-take-le (2 * n) span₀ room in
-    pair-at (take (2 * n) span₀) i (omega arith)
-    ∙ ap {B = Float × Float} (λ (x : Float). (x, getD (take (2 * n) span₀) (2 * i + 1) nan)) (there (2 * i) (omega arith) (omega arith))
-    ∙ ap {B = Float × Float} (λ (x : Float). (getD span (2 * i) nan, x)) (there (2 * i + 1) (omega arith) (omega arith))
-  where
-    there : (j : ℕ) → i ≤ j → j < 2 * n → getD (take (2 * n) span₀) j nan ≡ getD span j nan
-    there j l r = getD-take (2 * n) span₀ j nan r ∙ sym (emitted-rest (decimator taps) window₀ (pairs (take (2 * n) span₀)) span₀ window span i i q j nan l)
+line-long : (c : tie.After-lay) → length (c .lay .last .0) ≡ 288
+line-long c = search needs
 
-loop-holds : tie.Need-loop-holds Inv-loop μ-loop
-loop-holds c = (search needs, refl, emitted-start _ _ _ _)
+room : (c : tie.After-lay) → let s = begun c in length (now (s .args .window)) + length (values s) ≤ length (c .lay .last .0)
+room c = let s = begun c in omega (arith, line-long c, values-long s, s .pre)
 
-mul-take-pair : tie.Need-mul-take-pair Inv-loop μ-loop
-mul-take-pair c = search needs
+in-a-row : (c : tie.After-lay) → let s = begun c in let w = now (s .args .window) in take (length w + length (values s)) (c .lay .last .0) ≡ w ++ values s
+in-a-row c = let s = begun c in c .lay .ensures (simp length-replicate (omega (arith, values-long s, s .pre)))
 
-mul-take-pair-2 : tie.Need-mul-take-pair-2 Inv-loop μ-loop
-mul-take-pair-2 c = search needs
+-- the part of the line that is read
+whole : (c : tie.After-lay) → let s = begun c in let w = now (s .args .window) in take (2 * s .args .n + length w) (c .lay .last .0) ≡ w ++ values s
+whole c =
+    let s = begun c in
+    let e : 2 * begun c .args .n + length (now (begun c .args .window)) ≡ length (now (begun c .args .window)) + length (values (begun c)) = omega (arith, values-long s) in
+    ap (λ (k : ℕ). take k (c .lay .last .0)) e ∙ in-a-row c
 
-slice-read-take-pair : tie.Need-slice-read-take-pair Inv-loop μ-loop
-slice-read-take-pair c = search needs
+-- and its last places
+last : (c : tie.After-lay) → let s = begun c in let w = now (s .args .window) in let n = 2 * s .args .n in take (n + length w - n) (drop n (c .lay .last .0)) ≡ drop (length (values s)) (w ++ values s)
+last c =
+    let s = begun c in
+    let w = now (s .args .window) in
+    ap (λ (k : ℕ). take (k + length w - k) (drop k (c .lay .last .0))) (sym (values-long s)) ∙ tape-last (c .lay .last .0) w (values s) (room c) (in-a-row c)
 
-mul-take-pair-3 : tie.Need-mul-take-pair-3 Inv-loop μ-loop
-mul-take-pair-3 c = search needs
+mul-values : tie.Need-mul-values
+mul-values c = search needs
 
-add-take-pair : tie.Need-add-take-pair Inv-loop μ-loop
-add-take-pair c = search needs
+add-past : tie.Need-add-past
+add-past c = search needs
 
-mul-take-pair-4 : tie.Need-mul-take-pair-4 Inv-loop μ-loop
-mul-take-pair-4 c = search needs
+slice-aggregate-lay : tie.Need-slice-aggregate-lay
+slice-aggregate-lay c = search needs
 
-slice-read-take-pair-2 : tie.Need-slice-read-take-pair-2 Inv-loop μ-loop
-slice-read-take-pair-2 c = search needs
+slice-reshare-prefix-lay : tie.Need-slice-reshare-prefix-lay
+slice-reshare-prefix-lay c = search needs
 
-take-pair-requires : tie.Need-take-pair-requires Inv-loop μ-loop
-take-pair-requires c κs = search needs
+slice-aggregate-lay-2 : tie.Need-slice-aggregate-lay-2
+slice-aggregate-lay-2 c = sym (values-long (c .before .before .before .before .before .before))
 
-mul-span : tie.Need-mul-span Inv-loop μ-loop
-mul-span c = search needs
+lay-requires : tie.Need-lay-requires
+lay-requires c κs = search needs
 
-slice-write-span : tie.Need-slice-write-span Inv-loop μ-loop
-slice-write-span c = omega (arith, c .before .before .before .before .before .before .before .loop .inv .2 .same)
+mul-put-at-end : tie.Need-mul-put-at-end
+mul-put-at-end c = search needs
 
-add-i : tie.Need-add-i Inv-loop μ-loop
-add-i c = search needs
+sub-put-at-end : tie.Need-sub-put-at-end
+sub-put-at-end c = search needs
 
-loop-less : tie.Need-loop-less Inv-loop μ-loop
-loop-less c = search needs
+part-put-at-end-start : tie.Need-part-put-at-end-start
+part-put-at-end-start c = search needs
 
-loop-again : tie.Need-loop-again Inv-loop μ-loop
-unfolding decimator
-loop-again c = let m = c .before .before .before .before .before .before .before in
-    let l = m .loop in
-    let a = begun m .args in
-    let t = c .before .before .take-pair in
-    let p = begun m .pre .2 in
-    let v = take (2 * a .n) (now (a .span)) in
-    let q = pair-there (now (a .taps)) (now (a .window)) (now (a .span)) (l .window) (l .span) (a .n) (l .i) (l .inv .2) (omega arith) p in (
-      omega arith,
-      ap length (t .ensures .0) ∙ length-slid (l .window) (getD (l .span) (2 * l .i) nan ∷ getD (l .span) (2 * l .i + 1) nan ∷ []) (omega arith) ∙ l .inv .1,
-      emitted-one (decimator (now (a .taps))) (now (a .window)) (pairs v) (now (a .span)) (l .window) (l .span) (l .i) (l .i) (nan, nan) (l .inv .2) (omega (arith, pairs-front (a .n) (now (a .span)) p)) (t .last .0)
-          (t .ensures .0 ∙ ap (λ (r : Float × Float). slid (l .window) (r .0 ∷ r .1 ∷ [])) (sym q))
-          (t .result)
-          (ap (λ (r : Float × Float). some (decValue (now (a .taps)) (slid (l .window) (r .0 ∷ r .1 ∷ [])))) q ∙ ap some (sym (t .ensures .1)))
-          (omega arith),
+part-put-at-end-end : tie.Need-part-put-at-end-end
+part-put-at-end-end c = search needs
+
+put-at-end-requires : tie.Need-put-at-end-requires
+put-at-end-requires c κs = search needs
+
+array-share-prefix-line : tie.Need-array-share-prefix-line
+array-share-prefix-line c = search needs
+
+slice-aggregate-decimate-along : tie.Need-slice-aggregate-decimate-along
+slice-aggregate-decimate-along c = let m = c .before .before .before .before .before .before .before .before in sym (length-take-le _ _ (omega (arith, room m, values-long (begun m))))
+
+decimate-along-requires : tie.Need-decimate-along-requires
+decimate-along-requires c κs =
+    let m = c .before .before .before .before .before .before .before .before .before in
+    let s = begun m in
+    (s .pre .0, s .pre .1, ap length (whole m) ∙ length-append (now (s .args .window)) (values s) ∙ omega (arith, values-long s, s .pre), omega (arith, s .pre))
+
+same-length : tie.Need-same-length
+same-length c = search needs
+
+same-length-2 : tie.Need-same-length-2
+same-length-2 c = search needs
+
+returns : tie.Need-returns
+returns c =
+    let m = c .before .before .before .before .before .before .before .before .before .before .before .before in
+    let s = begun m in
+    let a = s .args in
+    let w = now (a .window) in
+    let t = now (a .taps) in
+    let f = decimator t in
+    let v = values s in (
+      put-last w v _ _ (last m) (c .before .before .before .before .before .before .before .put-at-end .ensures) ∙ sym (state-along t v w (a .n) (omega (arith, s .pre)) (values-long s)),
+      c .before .before .decimate-along .ensures
+          ∙ ap (λ (l : List Float). outs f (take (4 * length t) l) (pairs (drop (4 * length t) l)) ++ drop (a .n) (now (a .span))) (whole m)
+          ∙ ap₂ {C = List Float} (λ (x y : List Float). outs f x (pairs y) ++ drop (a .n) (now (a .span))) (take-at w v (4 * length t) (s .pre .2)) (drop-at w v (4 * length t) (s .pre .2)),
     )
-
-same-length : tie.Need-same-length Inv-loop μ-loop
-same-length c = c .before .loop .inv .1
-
-same-length-2 : tie.Need-same-length-2 Inv-loop μ-loop
-same-length-2 c = c .before .loop .inv .2 .same
-
-returns : tie.Need-returns Inv-loop μ-loop
-returns c = let l = c .before .loop in
-    let a = begun (c .before) .args in
-    let p = begun (c .before) .pre .2 in
-    let v = take (2 * a .n) (now (a .span)) in
-    let f = decimator (now (a .taps)) in
-    let e = take-all (a .n) (pairs v) (le-of-eq (pairs-front (a .n) (now (a .span)) p)) in
-    let all = subst (λ (k : ℕ). Emitted f (now (a .window)) (pairs v) (now (a .span)) (l .window) (l .span) k k) (le-antisymm (l .inv .0) (c .loop-test .left)) (l .inv .2) in
-    (all .state-is ∙ ap (state f (now (a .window))) e, all .span-is ∙ ap (λ (r : List (Float × Float)). outs f (now (a .window)) r ++ drop (a .n) (now (a .span))) e)
 
 pub decimate-in-place-spec : {M : Type 1} → statement M
 decimate-in-place-spec =
     tie.close
     (tie.spec
-    Inv-loop
-    μ-loop
-    loop-holds
-    mul-take-pair
-    mul-take-pair-2
-    slice-read-take-pair
-    mul-take-pair-3
-    add-take-pair
-    mul-take-pair-4
-    slice-read-take-pair-2
-    take-pair-requires
-    mul-span
-    slice-write-span
-    add-i
-    loop-less
-    loop-again
+    mul-values
+    add-past
+    slice-aggregate-lay
+    slice-reshare-prefix-lay
+    slice-aggregate-lay-2
+    lay-requires
+    mul-put-at-end
+    sub-put-at-end
+    part-put-at-end-start
+    part-put-at-end-end
+    put-at-end-requires
+    array-share-prefix-line
+    slice-aggregate-decimate-along
+    decimate-along-requires
     same-length
     same-length-2
     returns)

@@ -1,12 +1,11 @@
 -- `half_band::half_band::take_pair` meets its contract: the two stores behind the moved window make the slid one, and the sum is taken of that.
 use mathlib.Core.Path.{_≡_, ap, _∙_}
 use mathlib.Core.List.{List, [], _∷_}
-use Prim.Native.Nat.{_*_, _-_}
-use lib.ListN.{length, getD, set, length-set}
-use lib.Ieee.{Float, nan, binary32, mul}
+use Prim.Native.Nat.{_-_}
+use lib.ListN.{length, set, length-set}
+use lib.Ieee.{Float}
 use denote.Ref.{now}
-use Rattle.half_band.specs.HalfBand.{half32}
-use Rattle.half_band.specs.Windows.{slid, folded, decValue}
+use Rattle.half_band.specs.Windows.{slid, decValue}
 use Rattle.half_band.proofs.Moving.{pair-in}
 use native.Mathlib.Omega.{arith}
 use borrow.Author.Needs.{needs}
@@ -47,29 +46,14 @@ mul-window-2 c = search needs
 slice-write-window-2 : tie.Need-slice-write-window-2
 slice-write-window-2 c = simp length-set (omega arith)
 
-mul-centre : tie.Need-mul-centre
-mul-centre c = search needs
-
-sub-centre : tie.Need-sub-centre
-sub-centre c = search needs
-
-mul-centre-2 : tie.Need-mul-centre-2
-mul-centre-2 c = search needs
-
-slice-read-centre : tie.Need-slice-read-centre
-slice-read-centre c = simp length-set (omega arith)
-
-folded-sum-requires : tie.Need-folded-sum-requires
-folded-sum-requires c κs = (omega arith, simp length-set (omega arith))
+dec-at-requires : tie.Need-dec-at-requires
+dec-at-requires c κs = (omega arith, simp length-set (omega arith))
 
 same-length : tie.Need-same-length
 same-length c = search needs
 
 returns : tie.Need-returns
-unfolding decValue
-returns c = let a = begun (c .before .before .before .before .before) .args in
-    let e = taken (c .before .before .before .before .before) in
-    (e, ap (mul binary32 half32) (c .folded-sum .ensures ∙ ap (λ (w : List Float). folded 2 (now (a .taps)) w (getD w (2 * length (now (a .taps)) - 1) nan) (length (now (a .taps)))) e))
+returns c = let e = taken (c .before .before .before .before) in (e, c .dec-at .ensures ∙ ap (decValue (now (begun (c .before .before .before .before) .args .taps))) e)
 
 pub take-pair-spec : {M : Type 1} → statement M
 take-pair-spec =
@@ -82,10 +66,6 @@ take-pair-spec =
     sub-window-2
     mul-window-2
     slice-write-window-2
-    mul-centre
-    sub-centre
-    mul-centre-2
-    slice-read-centre
-    folded-sum-requires
+    dec-at-requires
     same-length
     returns)

@@ -35,7 +35,7 @@ loop-holds c = let s = begun c in shrink-start (stageTaps (tableOf (s .args .tab
 decimate-stage-requires : tie.Need-decimate-stage-requires Inv-loop μ-loop
 decimate-stage-requires c κs = let m = c .before .before in
     let g = m .before .loop .inv in
-    (omega (arith, m .loop-test .taken, begun (m .before .before) .pre), g .long, omega (arith, g .room))
+    (omega (arith, m .loop-test .taken, begun (m .before .before) .pre), g .long, omega (arith, g .room), omega (arith, g .room, g .same, begun (m .before .before) .pre))
 
 add-k : tie.Need-add-k Inv-loop μ-loop
 add-k c = omega (arith, c .before .before .before .before .before .before .before .loop-test .taken, begun (c .before .before .before .before .before .before .before .before .before) .pre)

@@ -11,7 +11,8 @@ use lib.Seq.{length-take-le}
 use lib.Ieee.{Float}
 use Rattle.linear_phase.specs.Windows.{windowValues, picked, OnTape}
 use Rattle.linear_phase.proofs.WholeList.{reaches}
-use Rattle.linear_phase.proofs.Tapes.{delay-in-front, samples-behind, state-on, values-on}
+use Rattle.float.proofs.Laid.{delay-in-front, samples-behind}
+use Rattle.linear_phase.proofs.Tapes.{state-on, values-on}
 use Rattle.linear_phase.proofs.filter.filter.Statement.{statement}
 use Rattle.linear_phase.proofs.filter.filter.Tie as tie
 
@@ -36,8 +37,12 @@ lent-first c =
 tape-long : (c : tie.After-lay) → length (c .lay .last .0) ≡ 108
 tape-long c = search needs
 
+-- what stands on it
+laid-there : (c : tie.After-lay) → let d = now (c .before .before .before .before .before .before .before .before .before .before .before .before .args .delay) in let v = take (c .before .before .before .before .before .before .before .least .result) (now (c .before .before .before .before .picked .result)) in take (length d + length v) (c .lay .last .0) ≡ d ++ v
+laid-there c = c .lay .ensures (simp length-replicate (omega (arith, lent-first (c .before .before .before .before), most (c .before .before .before .before .before .before .before .before .before .before .before .before), c .before .before .before .before .before .before .before .least .ensures)))
+
 front : (c : tie.After-lay) → take (length (now (c .before .before .before .before .before .before .before .before .before .before .before .before .args .delay))) (c .lay .last .0) ≡ now (c .before .before .before .before .before .before .before .before .before .before .before .before .args .delay)
-front c = delay-in-front (c .lay .last .0) (now (c .before .before .before .before .before .before .before .before .before .before .before .before .args .delay)) _ (c .lay .ensures)
+front c = delay-in-front (c .lay .last .0) (now (c .before .before .before .before .before .before .before .before .before .before .before .before .args .delay)) _ (laid-there c)
 
 on-lent : (c : tie.After-lay) → let d = now (c .before .before .before .before .before .before .before .before .before .before .before .before .args .delay) in let v = now (c .before .before .before .before .picked .result) in
     take (min (length v) (length d + 16)) (drop (length d) (c .lay .last .0)) ≡ take (min (length v) (length d + 16)) v
@@ -49,7 +54,7 @@ on-lent c =
     let e : h .result ≡ min (length (now (c .before .before .before .before .picked .result))) (length (now (c .before .before .before .before .before .before .before .before .before .before .before .before .args .delay)) + 16) =
     h .ensures ∙ ap (λ (n : ℕ). min n (length d + 16)) (sym (s .pre .1) ∙ ap length (sym (p .picked .ensures))) in
     ap (λ (k : ℕ). take k (drop (length d) (c .lay .last .0))) (sym e ∙ sym (lent-first p))
-    ∙ samples-behind (c .lay .last .0) d (take (h .result) (now (p .picked .result))) (c .lay .ensures)
+    ∙ samples-behind (c .lay .last .0) d (take (h .result) (now (p .picked .result))) (laid-there c)
     ∙ ap (λ (k : ℕ). take k (now (p .picked .result))) e
 
 on-tape : (c : tie.After-lay) → let s = c .before .before .before .before .before .before .before .before .before .before .before .before in OnTape (length (now (s .args .delay))) (c .lay .last .0) (samples s) (length (now (s .args .span)))
@@ -62,7 +67,7 @@ on-tape c =
       all = s .pre .1;
       same =
           ap (λ (k : ℕ). take k (drop (length d) (c .lay .last .0))) (sym (h .ensures) ∙ sym (lent-first p))
-          ∙ samples-behind (c .lay .last .0) d (take (h .result) (now (p .picked .result))) (c .lay .ensures)
+          ∙ samples-behind (c .lay .last .0) d (take (h .result) (now (p .picked .result))) (laid-there c)
           ∙ ap₂ {C = List Float} take (h .ensures) (p .picked .ensures);
     }
 
@@ -85,7 +90,7 @@ slice-aggregate-lay-2 : tie.Need-slice-aggregate-lay-2
 slice-aggregate-lay-2 c = sym (lent-first (c .before .before .before))
 
 lay-requires : tie.Need-lay-requires
-lay-requires c κs = simp length-replicate (omega (arith, lent-first (c .before .before .before), most (c .before .before .before .before .before .before .before .before .before .before .before), c .before .before .before .before .before .before .least .ensures))
+lay-requires c κs = search needs
 
 slice-aggregate-last-in : tie.Need-slice-aggregate-last-in
 slice-aggregate-last-in c = search needs

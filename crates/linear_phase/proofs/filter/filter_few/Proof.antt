@@ -11,7 +11,8 @@ use lib.Seq.{take-all}
 use lib.Ieee.{Float}
 use Rattle.linear_phase.specs.Windows.{windowValues, picked, OnTape}
 use Rattle.linear_phase.proofs.WholeList.{reaches}
-use Rattle.linear_phase.proofs.Tapes.{delay-in-front, samples-behind, put-last, tape-last, state-on, values-on}
+use Rattle.float.proofs.Laid.{delay-in-front, samples-behind, put-last, tape-last}
+use Rattle.linear_phase.proofs.Tapes.{state-on, values-on}
 use Rattle.linear_phase.proofs.filter.filter_few.Statement.{statement}
 use Rattle.linear_phase.proofs.filter.filter_few.Tie as tie
 
@@ -35,8 +36,12 @@ tape-long c = search needs
 room : (c : tie.After-lay) → let s = c .before .before .before .before .before .before .before .before .before .before in length (now (s .args .delay)) + length (now (c .before .before .before .picked .result)) ≤ length (c .lay .last .0)
 room c = let s = c .before .before .before .before .before .before .before .before .before .before in omega (arith, tape-long c, lent-long (c .before .before .before), most s, s .pre .1 .1)
 
+-- what stands on it
+laid-there : (c : tie.After-lay) → let d = now (c .before .before .before .before .before .before .before .before .before .before .args .delay) in let v = now (c .before .before .before .picked .result) in take (length d + length v) (c .lay .last .0) ≡ d ++ v
+laid-there c = let s = c .before .before .before .before .before .before .before .before .before .before in c .lay .ensures (simp length-replicate (omega (arith, lent-long (c .before .before .before), most s, s .pre .1 .1)))
+
 front : (c : tie.After-lay) → let d = now (c .before .before .before .before .before .before .before .before .before .before .args .delay) in take (length d) (c .lay .last .0) ≡ d
-front c = delay-in-front (c .lay .last .0) (now (c .before .before .before .before .before .before .before .before .before .before .args .delay)) (now (c .before .before .before .picked .result)) (c .lay .ensures)
+front c = delay-in-front (c .lay .last .0) (now (c .before .before .before .before .before .before .before .before .before .before .args .delay)) (now (c .before .before .before .picked .result)) (laid-there c)
 
 on-tape : (c : tie.After-lay) → let s = c .before .before .before .before .before .before .before .before .before .before in OnTape (length (now (s .args .delay))) (c .lay .last .0) (samples s) (length (now (s .args .span)))
 on-tape c =
@@ -49,7 +54,7 @@ on-tape c =
       all = s .pre .1 .0;
       same =
           ap (λ (k : ℕ). take k (drop (length d) (c .lay .last .0))) lent
-          ∙ samples-behind (c .lay .last .0) d v (c .lay .ensures)
+          ∙ samples-behind (c .lay .last .0) d v (laid-there c)
           ∙ sym (take-all (length v) v (omega arith))
           ∙ ap₂ {C = List Float} take (sym lent) (p .picked .ensures);
     }
@@ -62,7 +67,7 @@ last c =
     let d = now (s .args .delay) in
     let p = c .before .before .before in
     ap (λ (k : ℕ). take (k + length d - k) (drop k (c .lay .last .0))) (sym (lent-long p))
-    ∙ tape-last (c .lay .last .0) d (now (p .picked .result)) (room c) (c .lay .ensures)
+    ∙ tape-last (c .lay .last .0) d (now (p .picked .result)) (room c) (laid-there c)
 
 add-past : tie.Need-add-past
 add-past c = search needs
@@ -77,7 +82,7 @@ slice-aggregate-lay : tie.Need-slice-aggregate-lay
 slice-aggregate-lay c = search needs
 
 lay-requires : tie.Need-lay-requires
-lay-requires c κs = let s = c .before .before .before .before .before .before .before .before .before in simp length-replicate (omega (arith, lent-long (c .before .before), most s, s .pre .1 .1))
+lay-requires c κs = search needs
 
 mul-put-at-end : tie.Need-mul-put-at-end
 mul-put-at-end c = search needs

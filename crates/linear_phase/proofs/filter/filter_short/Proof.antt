@@ -11,7 +11,8 @@ use lib.Seq.{length-take-le, take-take}
 use lib.Ieee.{Float}
 use Rattle.linear_phase.specs.Windows.{windowValues, picked, OnTape}
 use Rattle.linear_phase.proofs.WholeList.{reaches}
-use Rattle.linear_phase.proofs.Tapes.{delay-in-front, samples-behind, state-on, values-on}
+use Rattle.float.proofs.Laid.{delay-in-front, samples-behind}
+use Rattle.linear_phase.proofs.Tapes.{state-on, values-on}
 use Rattle.linear_phase.proofs.filter.filter_short.Statement.{statement}
 use Rattle.linear_phase.proofs.filter.filter_short.Tie as tie
 
@@ -31,19 +32,26 @@ some-delay s = omega (arith, delay-is s, reaches (s .args .odd) (length (now (s 
 tape-long : (c : tie.After-lay-groups) → length (c .lay-groups .last .0) ≡ 48
 tape-long c = search needs
 
-many : (c : tie.After-picked) → 32 ≤ length (now (c .picked .result))
+-- so many samples stand on it
+abbrev shown : List Float → ℕ
+shown v = min (length v) 32
+
+shown-long : (v : List Float) → length (take (shown v) v) ≡ shown v
+shown-long v = length-take-le (shown v) v (omega arith)
+
+many : (c : tie.After-picked) → 16 ≤ length (now (c .picked .result))
 many c = omega (arith, ap length (c .picked .ensures), c .before .before .before .before .before .before .before .pre .1)
 
 -- what stands on the tape
-laid : (c : tie.After-lay-groups) → let d = delay (c .before .before .before .before .before .before .before .before .before .before) in let v = take 32 (now (c .before .before .before .picked .result)) in
+laid : (c : tie.After-lay-groups) → let d = delay (c .before .before .before .before .before .before .before .before .before .before) in let l = now (c .before .before .before .picked .result) in let v = take (shown l) l in
     take (length d + length v) (c .lay-groups .last .0) ≡ d ++ v
 laid c =
     let p = c .before .before .before in
-    ap₂ {C = List Float} (λ (k n : ℕ). take (k + n) (c .lay-groups .last .0)) (delay-is (c .before .before .before .before .before .before .before .before .before .before)) (length-take-le 32 (now (p .picked .result)) (many p))
+    ap₂ {C = List Float} (λ (k n : ℕ). take (k + n) (c .lay-groups .last .0)) (delay-is (c .before .before .before .before .before .before .before .before .before .before)) (shown-long (now (p .picked .result)))
     ∙ c .lay-groups .ensures
 
 front : (c : tie.After-lay-groups) → let d = delay (c .before .before .before .before .before .before .before .before .before .before) in take (length d) (c .lay-groups .last .0) ≡ d
-front c = delay-in-front (c .lay-groups .last .0) (delay (c .before .before .before .before .before .before .before .before .before .before)) (take 32 (now (c .before .before .before .picked .result))) (laid c)
+front c = delay-in-front (c .lay-groups .last .0) (delay (c .before .before .before .before .before .before .before .before .before .before)) (take (shown (now (c .before .before .before .picked .result))) (now (c .before .before .before .picked .result))) (laid c)
 
 on-lent : (c : tie.After-lay-groups) → let d = delay (c .before .before .before .before .before .before .before .before .before .before) in let v = now (c .before .before .before .picked .result) in
     take (min (length v) (length d + 16)) (drop (length d) (c .lay-groups .last .0)) ≡ take (min (length v) (length d + 16)) v
@@ -52,11 +60,11 @@ on-lent c =
     let p = c .before .before .before in
     let d = delay s in
     let v = now (p .picked .result) in
-    let h : min (length (now (c .before .before .before .picked .result))) (length (delay (c .before .before .before .before .before .before .before .before .before .before)) + 16) ≤ 32 = omega (arith, delay-is s, s .pre .1 .0) in
-    sym (take-take _ 32 (drop (length d) (c .lay-groups .last .0)) h)
-    ∙ ap (λ (k : ℕ). take (min (length v) (length d + 16)) (take k (drop (length d) (c .lay-groups .last .0)))) (sym (length-take-le 32 v (many p)))
-    ∙ ap (take (min (length v) (length d + 16))) (samples-behind (c .lay-groups .last .0) d (take 32 v) (laid c))
-    ∙ take-take _ 32 v h
+    let h : min (length (now (c .before .before .before .picked .result))) (length (delay (c .before .before .before .before .before .before .before .before .before .before)) + 16) ≤ shown (now (c .before .before .before .picked .result)) = omega (arith, delay-is s, s .pre .1 .0) in
+    sym (take-take _ (shown v) (drop (length d) (c .lay-groups .last .0)) h)
+    ∙ ap (λ (k : ℕ). take (min (length v) (length d + 16)) (take k (drop (length d) (c .lay-groups .last .0)))) (sym (shown-long v))
+    ∙ ap (take (min (length v) (length d + 16))) (samples-behind (c .lay-groups .last .0) d (take (shown v) v) (laid c))
+    ∙ take-take _ (shown v) v h
 
 on-tape : (c : tie.After-lay-groups) → let s = c .before .before .before .before .before .before .before .before .before .before in OnTape (s .args .long) (c .lay-groups .last .0) (samples s) (length (now (s .args .span)))
 on-tape c =

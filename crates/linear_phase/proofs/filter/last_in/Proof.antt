@@ -2,7 +2,8 @@
 use native.Mathlib.Omega.{arith}
 use borrow.Author.Needs.{needs}
 use denote.Ref.{now}
-use Rattle.linear_phase.proofs.Tapes.{put-last, few-last, many-last}
+use Rattle.float.proofs.Laid.{put-last}
+use Rattle.linear_phase.proofs.Tapes.{few-last, many-last}
 use Rattle.linear_phase.proofs.filter.last_in.Statement.{statement}
 use Rattle.linear_phase.proofs.filter.last_in.Tie as tie
 

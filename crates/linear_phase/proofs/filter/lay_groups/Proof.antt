@@ -1,7 +1,7 @@
 -- `linear_phase::filter::lay_groups` meets its contract: each group stands behind what is kept of the one before (`laid-groups`).
-use mathlib.Core.Path.{_≡_, ap, _∙_}
+use mathlib.Core.Path.{_≡_, sym, ap, _∙_}
 use mathlib.Core.List.{List, _++_}
-use Prim.Native.Nat.{_+_, _-_}
+use Prim.Native.Nat.{_+_, _-_, _≤_, min}
 use native.Mathlib.Omega.{arith}
 use borrow.Author.Needs.{needs}
 use denote.Ref.{now}
@@ -73,48 +73,64 @@ part-put-all-end c = search needs
 put-all-requires-2 : tie.Need-put-all-requires-2
 put-all-requires-2 c κs = simp rest (simp length-drop (omega (arith, first-long (c .before .before .before .before), c .before .before .before .before .before .before .before .before .before .before .pre)))
 
+sub-least : tie.Need-sub-least
+sub-least c = omega (arith, c .before .before .before .before .before .before .before .before .before .before .before .before .before .pre)
+
+least-requires : tie.Need-least-requires
+least-requires c κs = search needs
+
+-- where the second group begins: at most sixteen on, and so that it ends with the samples
+within : (c : tie.After-least) → (c .least .result ≤ 16) × (c .least .result + 16 ≡ min (length (now (c .before .before .before .before .before .before .before .before .before .before .before .before .before .before .args .samples))) 32)
+within c = (omega (arith, c .least .ensures), omega (arith, c .least .ensures, c .before .before .before .before .before .before .before .before .before .before .before .before .before .before .pre))
+
+mul-taken : tie.Need-mul-taken
+mul-taken c = search (needs, within c)
+
 sub-taken : tie.Need-sub-taken
-sub-taken c = omega (arith, c .before .before .before .before .before .before .before .before .before .before .before .before .before .pre)
+sub-taken c = omega (arith, within c)
 
 part-taken-start : tie.Need-part-taken-start
-part-taken-start c = omega (arith, c .before .before .before .before .before .before .before .before .before .before .before .before .before .pre)
+part-taken-start c = omega (arith, within c)
 
 part-taken-end : tie.Need-part-taken-end
 part-taken-end c = search needs
 
 taken-requires-3 : tie.Need-taken-requires-3
-taken-requires-3 c κs = simp rest (simp length-drop (omega (arith, c .before .before .before .before .before .before .before .before .before .before .before .before .before .before .pre)))
+taken-requires-3 c κs = simp rest (simp length-drop (omega (arith, within (c .before))))
 
 add-at : tie.Need-add-at
-add-at c = search needs
+add-at c = search (needs, within (c .before .before), c .before .before .before .before .before .before .before .before .before .before .before .before .before .before .before .before .pre .0)
 
 mul-put-all-2 : tie.Need-mul-put-all-2
-mul-put-all-2 c = search needs
+mul-put-all-2 c = search (needs, within (c .before .before), c .before .before .before .before .before .before .before .before .before .before .before .before .before .before .before .before .pre .0)
 
 sub-put-all-2 : tie.Need-sub-put-all-2
-sub-put-all-2 c = omega (arith, next-long (c .before .before .before .before), c .before .before .before .before .before .before .before .before .before .before .before .before .before .before .before .pre)
+sub-put-all-2 c = omega (arith, next-long (c .before .before .before .before .before), within (c .before .before), c .before .before .before .before .before .before .before .before .before .before .before .before .before .before .before .before .pre)
 
 part-put-all-start-2 : tie.Need-part-put-all-start-2
-part-put-all-start-2 c = omega (arith, next-long (c .before .before .before .before), c .before .before .before .before .before .before .before .before .before .before .before .before .before .before .before .pre)
+part-put-all-start-2 c = omega (arith, next-long (c .before .before .before .before .before), within (c .before .before), c .before .before .before .before .before .before .before .before .before .before .before .before .before .before .before .before .pre)
 
 part-put-all-end-2 : tie.Need-part-put-all-end-2
 part-put-all-end-2 c = search needs
 
 put-all-requires-3 : tie.Need-put-all-requires-3
-put-all-requires-3 c κs = simp rest (simp length-drop (omega (arith, next-long (c .before .before .before .before .before), c .before .before .before .before .before .before .before .before .before .before .before .before .before .before .before .before .pre)))
+put-all-requires-3 c κs = simp rest (simp length-drop (omega (arith, next-long (c .before .before .before .before .before .before), within (c .before .before .before), c .before .before .before .before .before .before .before .before .before .before .before .before .before .before .before .before .before .pre)))
 
 same-length : tie.Need-same-length
 same-length c = search needs
 
 returns : tie.Need-returns
 returns c =
-    let s = c .before .before .before .before .before .before .before .before .before .before .before .before .before .before .before .before .before .before .before in
+    let s = c .before .before .before .before .before .before .before .before .before .before .before .before .before .before .before .before .before .before .before .before in
     let a = s .args in
     let v = now (a .samples) in
-    let m = c .before .before .before .before .before .before .before .before in
+    let m = c .before .before .before .before .before .before .before .before .before in
     let y = c .before .before .before .before .taken3 in
-    laid-groups (now (a .delay)) v (now (a .tape)) (c .before .before .before .before .before .before .before .before .before .before .before .before .before .put-all .last .0) (written m) _ (a .long) (s .pre .0) (s .pre .1) (s .pre .2) (s .pre .3) (first (c .before .before .before .before .before .before .before .before .before .before .before .before .before)) (next m)
-    (put-from 16 (written m) (y .result) (drop 16 v) _ (a .long + 16) (y .ensures ∙ ap (take 16) (rest v 16)) (simp length-drop (omega (arith, s .pre))) (omega (arith, next-long m, s .pre)) (c .before .before .put-all3 .ensures))
+    let f = c .before .before .before .before .before .before .before .before .before .before .before .before .before .before in
+    let o = c .before .before .before .before .before .before in
+    let k = o .least .result in
+    laid-groups (now (a .delay)) v (now (a .tape)) (f .put-all .last .0) (written m) _ (a .long) k (min (length v) 32) (sym (within o .1)) (s .pre .0) (within o .0) (s .pre .1) (omega (arith, within o .1)) (s .pre .3) (first f) (next m)
+    (put-from 16 (written m) (y .result) (drop k v) _ (a .long + k) (y .ensures ∙ ap (take 16) (rest v k)) (simp length-drop (omega (arith, within o .1))) (omega (arith, next-long m, within o .0, s .pre)) (c .before .before .put-all3 .ensures))
 
 pub lay-groups-spec : {M : Type 1} → statement M
-lay-groups-spec = tie.close (tie.spec taken-requires put-all-requires taken-requires-2 mul-put-all sub-put-all part-put-all-start part-put-all-end put-all-requires-2 sub-taken part-taken-start part-taken-end taken-requires-3 add-at mul-put-all-2 sub-put-all-2 part-put-all-start-2 part-put-all-end-2 put-all-requires-3 same-length returns)
+lay-groups-spec = tie.close (tie.spec taken-requires put-all-requires taken-requires-2 mul-put-all sub-put-all part-put-all-start part-put-all-end put-all-requires-2 sub-least least-requires mul-taken sub-taken part-taken-start part-taken-end taken-requires-3 add-at mul-put-all-2 sub-put-all-2 part-put-all-start-2 part-put-all-end-2 put-all-requires-3 same-length returns)
