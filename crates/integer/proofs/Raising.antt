@@ -8,7 +8,8 @@ use Prim.Native.Nat.{ℕ, zero, suc, _+_, _-_, _*_, _≤_, _<_}
 use native.Mathlib.Nat.{suc-mul, zero-mul, add-mul, one-mul, mul-le-mul-right}
 use native.Mathlib.Numerals.{add-one}
 use native.Mathlib.Omega.{arith}
-use lib.Dec.{leb}
+use borrow.Author.Tests.{lt-ltb, le-ltb}
+use lib.Dec.{leb, ltb}
 use lib.ListN.{length, take, drop, getD, length-append, length-drop, drop-of-length-le}
 use lib.Seq.{take-suc, take-all, take-at, drop-at, drop-drop, length-take-le}
 use lib.IntN.{ℤ, pos, _+ℤ_, +ℤ-idr}
@@ -135,32 +136,42 @@ module _ (N r : ℕ) (combs₀ integrators : List ℤ) (w span : List ℤ) (coun
             ∙ ap (λ q. q ++ drop ((i + 1) * r) span) (sym (outs-joined d (take i w) (x ∷ [])) ∙ ap (outs d) t);
       }
 
-  -- the same of what the code's calls hand on, each known by an equation: the outputs are written in the part of the span from j on
-  pub goes-on-by : (combs held out : List ℤ) (i j : ℕ) (x y v : ℤ) (combs₁ held₁ held₂ part : List ℤ) → 1 ≤ N → 1 ≤ r → 0 < length integrators → i < count → count ≤ length w
-      → Raised combs held out i j
-      → x ≡ getD w i (pos 0)
-      → combs₁ ≡ combed N combs x .state
-      → y ≡ combed N combs x .val
-      → v ≡ y
-      → held₁ ≡ integrated 1 held v .state
-      → held₂ ≡ filled N held₁ (pos 0) r .state
-      → part ≡ filled N held₁ (pos 0) r .outs ++ drop r (take (length out - j) (drop j out))
-      → Raised combs₁ held₂ (take j out ++ (part ++ drop (length out - j) (drop j out))) (i + 1) (j + r)
-  goes-on-by combs held out i j x y v combs₁ held₁ held₂ part hN hr some h enough l ex ec ey ev e₁ e₂ ep =
+  -- the same with the next sample entered, if there is one: through the combs, and into the first integrator
+  pub record Entered (combs held out : List ℤ) (i j : ℕ) : Type 0 where
+    pub combs₁ : List ℤ
+    pub held₁ : List ℤ
+    pub before : Raised combs₁ held₁ out i j
+    pub kept : combs ≡ cond (ltb i count) (combed N combs₁ (getD w i (pos 0)) .state) combs₁
+    pub summed : held ≡ cond (ltb i count) (integrated 1 held₁ (combed N combs₁ (getD w i (pos 0)) .val) .state) held₁
+
+  -- its outputs are written in the part of the span from j on
+  pub written-out : (combs held out : List ℤ) (i j : ℕ) (held₂ part : List ℤ) → 1 ≤ N → 1 ≤ r → 0 < length integrators → i < count → count ≤ length w
+      → Entered combs held out i j
+      → held₂ ≡ filled N held (pos 0) r .state
+      → part ≡ filled N held (pos 0) r .outs ++ drop r (take (length out - j) (drop j out))
+      → Raised combs held₂ (take j out ++ (part ++ drop (length out - j) (drop j out))) (i + 1) (j + r)
+  written-out combs held out i j held₂ part hN hr some h enough l e₂ ep =
       let b = drop j out in
       let long : length b ≤ length out - j = omega (arith, length-drop j out) in
-      let f = filled N held₁ (pos 0) r .outs in
+      let f = filled N held (pos 0) r .outs in
       let whole : part ++ drop (length out - j) b ≡ f ++ drop r b =
       ap (λ q. part ++ q) (drop-of-length-le b long) ∙ append-nil part ∙ ep ∙ ap (λ q. f ++ drop r q) (take-all (length out - j) b long) in
-      rw (whole, e₂, e₁, ev, ey, ec, ex) (goes-on combs held out i j hN hr some h enough l)
+      let yes : ltb i count ≡ true = lt-ltb i count h in
+      let k = rw yes at (l .kept) in
+      let s = rw yes at (l .summed) in
+      rw (whole, e₂, s, k) (goes-on (l .combs₁) (l .held₁) out i j hN hr some h enough (l .before))
 
   -- all of them, the stages in use written back in front of those behind them
-  pub done : (combs held out : List ℤ) (taken written : ℕ) → count ≤ taken → Raised combs held out taken written →
+  pub done : (combs held out : List ℤ) (taken written : ℕ) → count ≤ taken → Entered combs held out taken written →
       (interpolatorOf N r combs (take N held ++ drop N integrators) ≡ state d (take count w)) × (out ≡ outs d (take count w) ++ drop (count * r) span)
-  done combs held out taken written h l =
+  done combs held out taken written h a =
+      let l = a .before in
+      let no : ltb taken count ≡ false = le-ltb taken count h in
+      let k = rw no at (a .kept) in
+      let s = rw no at (a .summed) in
       let e : taken ≡ count = omega (arith, l .within) in
-      let behind : drop N held ≡ drop N integrators = ap (λ (q : CicInterpolator). drop N (q .«integrator_state»)) (l .left) ∙ state-behind d (take taken w) in (
-        ap (interpolatorOf N r combs) (front-kept N held integrators behind) ∙ l .left ∙ ap (λ k. state d (take k w)) e,
+      let behind : drop N (a .held₁) ≡ drop N integrators = ap (λ (q : CicInterpolator). drop N (q .«integrator_state»)) (l .left) ∙ state-behind d (take taken w) in (
+        rw (s, k) (ap (interpolatorOf N r (a .combs₁)) (front-kept N (a .held₁) integrators behind) ∙ l .left ∙ ap (λ k. state d (take k w)) e),
         l .made ∙ ap (λ k. outs d (take k w) ++ drop (k * r) span) e,
       )
 

@@ -1,12 +1,15 @@
 // 01, section 7: the cascaded integrator-comb interpolator.
 ghost use mathlib.Core.Path.{_≡_};
 ghost use mathlib.Core.List.{_++_};
-ghost use mathlib.Core.Bool.{true};
+ghost use mathlib.Core.Bool.{true, cond};
 ghost use Prim.Native.Nat.{_-_, _*_, _≤_};
-ghost use lib.ListN.{length, take, drop};
+ghost use lib.Dec.{ltb};
+ghost use lib.IntN.{pos};
+ghost use lib.ListN.{length, take, drop, getD};
 ghost use Rattle.refusal.specs.Outcome.{openingNumber};
 ghost use Rattle.integer.specs.Opening.{opening, onState};
 ghost use Rattle.integer.specs.Gain.{gainOf, gainBits, toldGain, toldBits, Least};
+ghost use Rattle.integer.specs.Stages.{integrated, combed};
 ghost use Rattle.integer.specs.CicInterpolator as I;
 use crate::gain::Gain;
 use crate::gain::GainBits;
@@ -156,8 +159,32 @@ pub fn sample_at(
     Count::Written(r)
 }
 
+// Sample number `taken`, where it is one of the first `count`: through the combs, and into the first integrator.
+fn enter(
+    stages: usize,
+    combs: &mut [i32; MAX_STAGES],
+    integrators: &mut [i32; MAX_STAGES],
+    src: &[i32],
+    taken: usize,
+    count: usize,
+)
+    requires { ⌜ count ≤ length (now src) ⌝ }
+    ensures combs { λ _. ⌜ (
+        let x = getD (now (src .entry)) taken (pos 0) in
+        now (combs .exit) ≡ cond (ltb taken count) (combed stages (now (combs .entry)) x .state) (now (combs .entry))) ⌝ }
+    ensures integrators { λ _. ⌜ (
+        let handed = combed stages (now (combs .entry)) (getD (now (src .entry)) taken (pos 0)) .val in
+        now (integrators .exit) ≡ cond (ltb taken count) (integrated 1 (now (integrators .entry)) handed .state) (now (integrators .entry))) ⌝ }
+{
+    if taken < count {
+        let val = comb(stages, combs, src[taken]);
+        integrate(1, integrators, val);
+    }
+}
+
 // The outputs of the first `count` samples, in front of dst, the integrators held in a local. A sample goes into the first one by itself: its r outputs are then
-// those of zeros, which leave that one alone. The combs stay where they are, for they are used once a sample and the integrators want the registers.
+// those of zeros, which leave that one alone. It enters a turn ahead, or else the compiler works the combs' differences into the sums of the outputs. The combs stay
+// where they are, for they are used once a sample and the integrators want the registers.
 fn raise_of(
     stages: usize,
     r: usize,
@@ -179,12 +206,12 @@ fn raise_of(
     eight(held);
     let mut taken = 0;
     let mut written = 0;
+    enter(stages, combs, &mut held, src, taken, count);
     while taken < count {
-        let val = comb(stages, combs, src[taken]);
-        integrate(1, &mut held, val);
         fill_on(stages, &mut held, 0, r, &mut dst[written..]);
         taken += 1;
         written += r;
+        enter(stages, combs, &mut held, src, taken, count);
     }
     write_back(stages, held, integrators);
 }
