@@ -202,18 +202,18 @@ fn raise_of(
         let before = I.interpolatorOf stages r (now (combs .entry)) (now (integrators .entry)) in
         now (dst .exit) ≡ I.outs before (take count (now (src .entry))) ++ drop (count * r) (now (dst .entry))) ⌝ }
 {
-    let mut held = *integrators;
-    eight(held);
+    let mut sums = *integrators;
+    eight(sums);
     let mut taken = 0;
     let mut written = 0;
-    enter(stages, combs, &mut held, src, taken, count);
+    enter(stages, combs, &mut sums, src, taken, count);
     while taken < count {
-        fill_on(stages, &mut held, 0, r, &mut dst[written..]);
+        fill_on(stages, &mut sums, 0, r, &mut dst[written..]);
         taken += 1;
         written += r;
-        enter(stages, combs, &mut held, src, taken, count);
+        enter(stages, combs, &mut sums, src, taken, count);
     }
-    write_back(stages, held, integrators);
+    write_back(stages, sums, integrators);
 }
 
 // The same of one stage. Its r outputs are one value: where they are few, a loop costs more than they do, so r is a constant in the first arms.
@@ -375,11 +375,11 @@ impl CicInterpolator {
         ensures answer { λ b. ⌜ I.toldBlock b ≡ I.block self (now (src .entry)) (length (now (dst .entry))) ⌝ }
         ensures span { λ b. ⌜ now (dst .exit) ≡ I.blockSpan self (now (src .entry)) (now (dst .entry)) ⌝ }
     {
-        let mut combs = self.comb_state;
-        let mut integrators = self.integrator_state;
-        let counts = block_at(self.stages, self.r, &mut combs, &mut integrators, src, dst);
-        self.comb_state = combs;
-        self.integrator_state = integrators;
+        let mut kept = self.comb_state;
+        let mut sums = self.integrator_state;
+        let counts = block_at(self.stages, self.r, &mut kept, &mut sums, src, dst);
+        self.comb_state = kept;
+        self.integrator_state = sums;
         CicInterpolatorBlock {
             counts,
             state: self,

@@ -14,11 +14,11 @@ use Rattle.integer.proofs.cic_interpolator.raise_of.Statement.{statemen
 use Rattle.integer.proofs.cic_interpolator.raise_of.Tie as tie
 
 abbrev Inv-loop : tie.InvT-loop
-Inv-loop stages r combs₀ integrators src dst₀ count held₀ taken₀ written₀ combs dst held taken written =
-    (lent : List ℤ) → Entered stages r lent integrators src dst₀ count combs₀ held₀ dst₀ taken₀ written₀ → Entered stages r lent integrators src dst₀ count combs held dst taken written
+Inv-loop stages r combs₀ integrators src dst₀ count sums₀ taken₀ written₀ combs dst sums taken written =
+    (lent : List ℤ) → Entered stages r lent integrators src dst₀ count combs₀ sums₀ dst₀ taken₀ written₀ → Entered stages r lent integrators src dst₀ count combs sums dst taken written
 
 abbrev μ-loop : tie.MeasureT-loop
-μ-loop stages r combs₀ integrators src dst₀ count held₀ taken₀ written₀ combs dst held taken written = count - taken
+μ-loop stages r combs₀ integrators src dst₀ count sums₀ taken₀ written₀ combs dst sums taken written = count - taken
 
 -- the places that the facts below come from: each path is counted once
 abbrev begun : tie.In-loop Inv-loop μ-loop → tie.Start Inv-loop μ-loop
@@ -31,7 +31,7 @@ turned c = c .before .before .before .before
 entered : (c : tie.At-loop Inv-loop μ-loop) →
     let a = c .before .before .before .before .before .before .args in
     let v = c .loop in
-    Entered (a .stages) (a .r) (now (a .combs)) (now (a .integrators)) (now (a .src)) (now (a .dst)) (a .count) (v .combs) (v .held) (v .dst) (v .taken) (v .written)
+    Entered (a .stages) (a .r) (now (a .combs)) (now (a .integrators)) (now (a .src)) (now (a .dst)) (a .count) (v .combs) (v .sums) (v .dst) (v .taken) (v .written)
 entered c =
     let e = c .before .enter in
     c .loop .inv _ (record { combs₁ = _; held₁ = _; before = starts _ _ _ _ _ _ _; kept = e .ensures .0; summed = e .ensures .1 })
