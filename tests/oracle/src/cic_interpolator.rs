@@ -279,7 +279,10 @@ pub fn more(rng: &mut Rng) -> Cases {
         0 => damaged(rng),
         1 => midway(rng, 4096),
         2..=8 => midway(rng, 24),
-        _ => State::opened(cic_settings::stages(rng), cic_settings::factor_up_to(rng, 24)),
+        _ => State::opened(
+            cic_settings::stages(rng),
+            cic_settings::factor_up_to(rng, 24),
+        ),
     };
     (0..rng.within(1, 6))
         .map(|_| sample_or_block(rng, &mut state))
