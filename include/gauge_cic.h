@@ -193,6 +193,18 @@ static inline uint64_t GaugeCicInterpolator_process_sample(
     );
 }
 
+// Takes samples from the front of `src`, as many as `dst` has r places for, and writes r outputs of each to the front
+// of dst. Continue behind the samples taken. Both may be of any length.
+// Refusals: 15, then 4 where dst is shorter than r.
+static inline uint64_t GaugeCicInterpolator_process_block(
+    GaugeCicInterpolator *state, const int32_t *src, uint64_t src_len, int32_t *dst, uint64_t dst_len, uint64_t *taken,
+    uint64_t *written
+) {
+    return gauge_raw_cic_interpolator_process_block(
+        GAUGE_CIC_INTERPOLATOR_FIELDS(state), src, src_len, dst, dst_len, taken, written
+    );
+}
+
 #undef GAUGE_CIC_INTERPOLATOR_FIELDS
 
 #ifdef __cplusplus

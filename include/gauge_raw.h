@@ -59,6 +59,10 @@ uint64_t gauge_raw_cic_interpolator_process_sample(
     uint64_t *stages, uint64_t *r, int32_t combs[GAUGE_MOST_STAGES], int32_t integrators[GAUGE_MOST_STAGES],
     int32_t input, int32_t *out_buf, uint64_t out_buf_len, uint64_t *written
 );
+uint64_t gauge_raw_cic_interpolator_process_block(
+    uint64_t *stages, uint64_t *r, int32_t combs[GAUGE_MOST_STAGES], int32_t integrators[GAUGE_MOST_STAGES],
+    const int32_t *src, uint64_t src_len, int32_t *dst, uint64_t dst_len, uint64_t *taken, uint64_t *written
+);
 
 uint64_t gauge_raw_plan_3(
     uint64_t stages, uint64_t r, uint64_t factor, uint64_t depth, uint64_t phases, uint64_t phase_taps,

@@ -119,6 +119,21 @@ static void put_interpolator(const GaugeCicInterpolator *state) {
     put_values("integrators", I32, state->integrators, 8);
 }
 
+// Blocks of a few samples, with a span from none to some more than they need.
+static void interpolate_blocks(GaugeCicInterpolator *state) {
+    static int32_t dst[3 * GAUGE_MOST_FACTOR + 2];
+    int32_t src[8];
+    for (int feed = 0; feed < FEEDS; feed++) {
+        uint64_t r = state->r <= GAUGE_MOST_FACTOR ? state->r : 2;
+        uint64_t len = below(8), places = below(3 * r + 2), taken, written;
+        fill_i32(src, 8);
+        fill_i32(dst, places + 2);
+        uint64_t refused = GaugeCicInterpolator_process_block(state, src, len, dst, places, &taken, &written);
+        put_counts("block", refused, taken, written);
+        put_values("dst", I32, written <= SPAN ? dst : dst + written - SPAN, written <= SPAN ? written + 2 : SPAN + 2);
+    }
+}
+
 static void interpolator(uint64_t stages, uint64_t r) {
     static int32_t out[GAUGE_MOST_FACTOR + 2];
     GaugeCicInterpolator state;
@@ -135,6 +150,7 @@ static void interpolator(uint64_t stages, uint64_t r) {
         put_counts("sample", answer, places, written);
         put_values("out", I32, written <= SPAN ? out : out + written - SPAN, written <= SPAN ? written + 2 : SPAN + 2);
     }
+    interpolate_blocks(&state);
     put_interpolator(&state);
 }
 

@@ -60,6 +60,13 @@ static void cic_interpolator(void) {
     CHECK(GaugeCicInterpolator_process_sample(&state, 3, out, 2, &written) == GAUGE_NOT_REFUSED);
     CHECK(written == 2 && out[0] == 3 && out[1] == 6);
     CHECK(GaugeCicInterpolator_process_sample(&state, 3, out, 1, &written) == GAUGE_REFUSED_SPAN && written == 0);
+    const int32_t src[3] = {3, 3, 3};
+    int32_t dst[5] = {7, 7, 7, 7, 7};
+    uint64_t taken;
+    CHECK(GaugeCicInterpolator_process_block(&state, src, 3, dst, 5, &taken, &written) == GAUGE_NOT_REFUSED);
+    CHECK(taken == 2 && written == 4 && dst[0] == 6 && dst[1] == 6 && dst[2] == 6 && dst[3] == 6 && dst[4] == 7);
+    CHECK(GaugeCicInterpolator_process_block(&state, src, 3, dst, 1, &taken, &written) == GAUGE_REFUSED_SPAN);
+    CHECK(taken == 0 && written == 0 && dst[0] == 6);
 }
 
 static void q15_blocks(void) {

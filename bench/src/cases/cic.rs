@@ -1,10 +1,10 @@
 //! CIC decimators and interpolators.
 
-use super::{BLOCK, BLOCKS, STREAM};
+use super::{BLOCKS, STREAM};
 use crate::blocks::{Cut, side};
 use crate::case::{Case, Unit};
 use crate::original;
-use crate::ours::{accepted, ours, took_all};
+use crate::ours::{ours, took_all};
 use crate::samples::cells;
 use gauge_line::{CicDecimator, CicInterpolator, NonrecursiveDecimator};
 
@@ -63,11 +63,10 @@ fn interpolator<const N: usize>(r: usize) -> Case {
     Case {
         name: format!("CicInterpolator N={N} r={r}"),
         unit: Unit::Output,
-        // A call is one sample, so a shorter block would be the same calls.
-        blocks: &[BLOCK],
+        blocks: BLOCKS,
         ours: Box::new(move |block| {
-            let converter = ours(CicInterpolator::new(N, r), move |cic, src, dst| {
-                sample_by_sample(cic, r, src, dst)
+            let converter = ours(CicInterpolator::new(N, r), |cic, src, dst| {
+                took_all(src, cic.process_block(src, dst))
             });
             side(converter, cut(block), cells)
         }),
@@ -79,13 +78,4 @@ fn interpolator<const N: usize>(r: usize) -> Case {
             )
         }),
     }
-}
-
-// There is no block form.
-fn sample_by_sample(cic: &mut CicInterpolator, r: usize, src: &[i32], dst: &mut [i32]) -> usize {
-    let mut written = 0;
-    for (&sample, outputs) in src.iter().zip(dst.chunks_exact_mut(r)) {
-        written += accepted(cic.process_sample(sample, outputs));
-    }
-    written
 }

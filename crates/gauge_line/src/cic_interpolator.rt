@@ -1,6 +1,8 @@
 // `CicInterpolator`: stages, r, combs, integrators.
 ghost use mathlib.Core.Path.{_≡_};
 ghost use Prim.Native.Nat.{_-_};
+ghost use lib.ListN.{length};
+ghost use Rattle.refusal.specs.Outcome.{Moved};
 ghost use Rattle.integer.specs.Opening.{opening, onState};
 ghost use Rattle.integer.specs.Gain.{gainOf, gainBits, Least};
 ghost use Rattle.integer.specs.CicInterpolator as I;
@@ -9,12 +11,16 @@ use crate::answers::bits_number;
 use crate::answers::bits_value;
 use crate::answers::count_number;
 use crate::answers::count_written;
+use crate::answers::counts_number;
+use crate::answers::counts_taken;
+use crate::answers::counts_written;
 use crate::answers::gain_number;
 use crate::answers::gain_value;
 use crate::answers::opening_number;
 use crate::states::interpolator;
 use crate::states::put_interpolator;
 use integer::CicInterpolator;
+use integer::cic_interpolator::block_at;
 use integer::cic_interpolator::sample_at;
 use integer::limits::MAX_STAGES;
 
@@ -89,4 +95,28 @@ pub extern "C" fn gauge_raw_cic_interpolator_process_sample(
     let answer = sample_at(*stages, *r, combs, integrators, input, out_buf);
     *written = count_written(answer);
     count_number(answer)
+}
+
+#[no_mangle]
+pub extern "C" fn gauge_raw_cic_interpolator_process_block(
+    stages: &mut usize,
+    r: &mut usize,
+    combs: &mut [i32; MAX_STAGES],
+    integrators: &mut [i32; MAX_STAGES],
+    src: &[i32],
+    dst: &mut [i32],
+    taken: &mut usize,
+    written: &mut usize,
+) -> usize
+    ensures answer { λ n. ⌜ (
+        let before = interpolatorAt entry stages r combs integrators in
+        let after = interpolatorAt exit stages r combs integrators in
+        let moved : Moved = record { taken = now (taken .exit); written = now (written .exit) } in
+        record { number = n; value = moved; state = after } ≡ I.block before (now (src .entry)) (length (now (dst .entry)))) ⌝ }
+    ensures span { λ n. ⌜ now (dst .exit) ≡ I.blockSpan (interpolatorAt entry stages r combs integrators) (now (src .entry)) (now (dst .entry)) ⌝ }
+{
+    let counts = block_at(*stages, *r, combs, integrators, src, dst);
+    *taken = counts_taken(counts);
+    *written = counts_written(counts);
+    counts_number(counts)
 }

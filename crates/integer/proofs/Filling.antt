@@ -57,13 +57,14 @@ module _ (n : ℕ) (s : List ℤ) (v : ℤ) (r : ℕ) (span : List ℤ) where
             ∙ ap (λ p. p ++ drop r span) (sym (append-nil (take i out)) ∙ sym (ap (λ f. f .outs) q)),
       )
 
-filled-behind : (n : ℕ) (s : List ℤ) (v : ℤ) (k : ℕ) → drop n (filled n s v k .state) ≡ drop n s
+pub filled-behind : (n : ℕ) (s : List ℤ) (v : ℤ) (k : ℕ) → drop n (filled n s v k .state) ≡ drop n s
 unfolding filled integrated
 filled-behind n s v zero = refl
 filled-behind n s v (suc k) = filled-behind n (integrated n s v .state) (pos 0) k ∙ behind sum32 sum32 n s v
 
 -- so the stages in front of what stood behind them are all of it
+pub front-kept : (n : ℕ) (a s : List ℤ) → drop n a ≡ drop n s → take n a ++ drop n s ≡ a
+front-kept n a s e = ap (λ d. take n a ++ d) (sym e) ∙ take-append-drop n a
+
 pub front-filled : (n : ℕ) (s : List ℤ) (v : ℤ) (k : ℕ) → take n (filled n s v k .state) ++ drop n s ≡ filled n s v k .state
-front-filled n s v k =
-    let a = filled n s v k .state in
-    ap (λ d. take n a ++ d) (sym (filled-behind n s v k)) ∙ take-append-drop n a
+front-filled n s v k = front-kept n (filled n s v k .state) s (filled-behind n s v k)

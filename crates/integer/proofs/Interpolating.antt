@@ -17,12 +17,13 @@ use Rattle.theory.proofs.Listed.{ascending, ascending-append, ascending-listed}
 use Rattle.integer.specs.Limits.{stagesOk, factorOk}
 use Rattle.integer.specs.Stages.{Passed, integrated, combed}
 use Rattle.integer.specs.MovingSums.{Signal, signalOf, delay, movingSum, fold, stuffed, stuffedSums}
-use Rattle.integer.specs.CicInterpolator.{interpolatorOf, fresh, validAt, valid, Filled, filled, ahead, raised, next, outs, state, Streams}
+use Rattle.integer.specs.CicInterpolator.{interpolatorOf, fresh, validAt, valid, Filled, filled, ahead, raised, next, outs, state, takenOf, Streams}
 use Rattle.integer.specs.declared.cic_interpolator.CicInterpolator.{CicInterpolator}
 use Rattle.integer.proofs.Hogenauer.{prefix, diff, fold-commutes, prefix-delay}
 use Rattle.integer.proofs.Stuffing.{stuffing, stuffed-at, stuffed-off}
 use Rattle.integer.proofs.Towers.{tower, tower-zero, wrap-zero, integrators, combs}
 use Rattle.integer.proofs.Within.{stages-within, factor-within}
+use Rattle.integer.proofs.Raising.{joined}
 
 diff-delay : (f : Signal) → diff (delay f) ≡ delay (diff f)
 diff-delay f = fun-ext go
@@ -131,4 +132,7 @@ streams N r okN okR =
     record {
       unrefused = λ w. still-valid (fresh N r) w ∙ rw (okN, okR);
       sums-made = interpolates N r (stages-within N okN .1) (factor-within r okR .0);
+      blocks-unrefused = λ h. ap valid (joined (fresh N r) h .0) ∙ still-valid (fresh N r) (takenOf (fresh N r) h) ∙ rw (okN, okR);
+      blocks-state = λ h. joined (fresh N r) h .0;
+      blocks-made = λ h all. joined (fresh N r) h .1 ∙ interpolates N r (stages-within N okN .1) (factor-within r okR .0) (takenOf (fresh N r) h) all;
     }

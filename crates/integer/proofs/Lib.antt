@@ -13,5 +13,6 @@ pub mod ExactSums
 pub mod Blocking
 pub mod Stuffing
 pub mod Filling
+pub mod Raising
 pub mod Interpolating
 pub mod Readings

@@ -45,3 +45,8 @@ sound N r counter e =
 pub interpolator-stages : (N r : ℕ) → interpolatorValid N r ≡ true → 1 ≤ N
 unfolding interpolatorValid
 interpolator-stages N r e = stages-within N (and-true (stagesOk N) (factorOk r) e .0) .0
+
+-- and a factor within its limits
+pub interpolator-factor : (N r : ℕ) → interpolatorValid N r ≡ true → (1 ≤ r) × (r ≤ 4096)
+unfolding interpolatorValid
+interpolator-factor N r e = factor-within r (and-true (stagesOk N) (factorOk r) e .1)

@@ -2,19 +2,21 @@
 use mathlib.Core.Path.{_≡_}
 use mathlib.Core.Bool.{Bool, true, cond, _&&_}
 use mathlib.Core.List.{List, [], _∷_, _++_}
-use Prim.Native.Nat.{ℕ, zero, suc}
+use Prim.Native.Nat.{ℕ, zero, suc, _*_, _/_, min}
 use lib.Dec.{leb}
 use lib.IntN.{ℤ, pos}
-use lib.ListN.{length, drop, getD, replicate}
+use lib.ListN.{length, take, drop, getD, replicate}
 use mir.Syntax.{w32}
 use mir.Val.{SFits}
-use Rattle.refusal.specs.Outcome.{Outcome, Opened, openingNumber, countAnswer}
+use Rattle.theory.specs.Feeds.{History, opened, fed}
+use Rattle.refusal.specs.Outcome.{Outcome, Opened, Moved, openingNumber, countAnswer, countsAnswer}
 use Rattle.integer.specs.Limits.{mostStages, stagesOk, factorOk}
 use Rattle.integer.specs.Stages.{integrated, combed}
 use Rattle.integer.specs.MovingSums.{stuffedSums}
 use Rattle.integer.specs.declared.cic_interpolator.CicInterpolator.{CicInterpolator}
 use Rattle.integer.specs.declared.cic_interpolator.CicInterpolatorOpened.{CicInterpolatorOpened}
 use Rattle.integer.specs.declared.cic_interpolator.CicInterpolated.{CicInterpolated}
+use Rattle.integer.specs.declared.cic_interpolator.CicInterpolatorBlock.{CicInterpolatorBlock}
 
 -- an interpolator from its parts
 abbrev pub interpolatorOf : ℕ → ℕ → List ℤ → List ℤ → CicInterpolator
@@ -61,13 +63,6 @@ sample d x span =
 unfoldable pub sampleSpan : CicInterpolator → ℤ → List ℤ → List ℤ
 sampleSpan d x span = cond (valid d) (cond (leb (d .r) (length span)) (raised d x .outs ++ drop (d .r) span) span) span
 
--- what the answers tell
-abbrev pub toldOpening : CicInterpolatorOpened → Opened CicInterpolator
-toldOpening o = record { number = openingNumber (o .answer); state = o .state }
-
-abbrev pub toldSample : CicInterpolated → Outcome ℕ CicInterpolator
-toldSample s = record { number = countAnswer (s .written) .number; value = countAnswer (s .written) .value; state = s .state }
-
 -- a list of samples: the outputs joined, whatever spans they were written to, and the state after them
 abbrev pub outs : CicInterpolator → List ℤ → List ℤ
 outs d [] = []
@@ -77,9 +72,61 @@ abbrev pub state : CicInterpolator → List ℤ → CicInterpolator
 state d [] = d
 state d (x ∷ w) = state (next d x) w
 
+-- `process_block`, which 01 does not name (docs/DECISIONS.md): `process_sample` for as many samples from the front as the span has r places for
+abbrev pub blockTaken : CicInterpolator → List ℤ → ℕ → ℕ
+blockTaken d w places = min (length w) (places / d .r)
+
+unfoldable pub block : CicInterpolator → List ℤ → ℕ → Outcome Moved CicInterpolator
+block d w places =
+    cond (valid d)
+    (cond (leb (d .r) places)
+    (record {
+      number = 0;
+      value = record { taken = blockTaken d w places; written = blockTaken d w places * d .r };
+      state = state d (take (blockTaken d w places) w);
+    })
+    (record { number = 4; value = record { taken = 0; written = 0 }; state = d }))
+    (record { number = 15; value = record { taken = 0; written = 0 }; state = d })
+
+-- the outputs that it writes, and the span that it leaves
+unfoldable pub blockOuts : CicInterpolator → List ℤ → ℕ → List ℤ
+blockOuts d w places = cond (valid d) (cond (leb (d .r) places) (outs d (take (blockTaken d w places) w)) []) []
+
+abbrev pub blockSpan : CicInterpolator → List ℤ → List ℤ → List ℤ
+blockSpan d w span = blockOuts d w (length span) ++ drop (block d w (length span) .value .written) span
+
+-- what the answers tell
+abbrev pub toldOpening : CicInterpolatorOpened → Opened CicInterpolator
+toldOpening o = record { number = openingNumber (o .answer); state = o .state }
+
+abbrev pub toldSample : CicInterpolated → Outcome ℕ CicInterpolator
+toldSample s = record { number = countAnswer (s .written) .number; value = countAnswer (s .written) .value; state = s .state }
+
+abbrev pub toldBlock : CicInterpolatorBlock → Outcome Moved CicInterpolator
+toldBlock b = record { number = countsAnswer (b .counts) .number; value = countsAnswer (b .counts) .value; state = b .state }
+
+-- blocks one after the other: the state that the last one left, the samples taken and the outputs written, each joined in order
+module _ (d : CicInterpolator) where
+  abbrev pub stateOf : History ℤ → CicInterpolator
+  stateOf opened = d
+  stateOf (fed h w places) = block (stateOf h) w places .state
+
+  abbrev pub takenOf : History ℤ → List ℤ
+  takenOf opened = []
+  takenOf (fed h w places) = takenOf h ++ take (block (stateOf h) w places .value .taken) w
+
+  abbrev pub writtenOf : History ℤ → List ℤ
+  writtenOf opened = []
+  writtenOf (fed h w places) = writtenOf h ++ blockOuts (stateOf h) w places
+
 -- What an interpolator d of N stages and factor r keeps over every list of i32 samples
 pub record Streams (N r : ℕ) (d : CicInterpolator) : Type 0 where
   -- no sample is refused for its state
   pub unrefused : (w : List ℤ) → valid (state d w) ≡ true
   -- the outputs are the moving sums of the samples with their zeros
   pub sums-made : (w : List ℤ) → ((k : ℕ) → SFits w32 (getD w k (pos 0))) → outs d w ≡ stuffedSums N r w
+  -- and so they are for every way of cutting the list into blocks and spans: no block is refused for its state, the state is what the samples taken leave
+  -- one by one, and the outputs joined are those of the samples joined
+  pub blocks-unrefused : (h : History ℤ) → valid (stateOf d h) ≡ true
+  pub blocks-state : (h : History ℤ) → stateOf d h ≡ state d (takenOf d h)
+  pub blocks-made : (h : History ℤ) → ((k : ℕ) → SFits w32 (getD (takenOf d h) k (pos 0))) → writtenOf d h ≡ stuffedSums N r (takenOf d h)

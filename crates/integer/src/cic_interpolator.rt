@@ -1,11 +1,15 @@
 // 01, section 7: the cascaded integrator-comb interpolator.
 ghost use mathlib.Core.Path.{_≡_};
 ghost use mathlib.Core.List.{_++_};
-ghost use Prim.Native.Nat.{_-_, _≤_};
-ghost use lib.ListN.{length, drop};
+ghost use mathlib.Core.Bool.{true, cond};
+ghost use Prim.Native.Nat.{_-_, _*_, _≤_};
+ghost use lib.Dec.{ltb};
+ghost use lib.IntN.{pos};
+ghost use lib.ListN.{length, take, drop, getD};
 ghost use Rattle.refusal.specs.Outcome.{openingNumber};
 ghost use Rattle.integer.specs.Opening.{opening, onState};
 ghost use Rattle.integer.specs.Gain.{gainOf, gainBits, toldGain, toldBits, Least};
+ghost use Rattle.integer.specs.Stages.{integrated, combed};
 ghost use Rattle.integer.specs.CicInterpolator as I;
 use crate::gain::Gain;
 use crate::gain::GainBits;
@@ -13,11 +17,14 @@ use crate::gain::bits_of;
 use crate::gain::gain_of;
 use crate::limits::MAX_STAGES;
 use crate::limits::factor_ok;
+use crate::limits::least;
 use crate::limits::stages_ok;
 use crate::stages::comb;
+use crate::stages::eight;
 use crate::stages::integrate;
 use crate::stages::write_back;
 use refusal::Count;
+use refusal::Counts;
 use refusal::Opening;
 use refusal::Refusal;
 
@@ -37,6 +44,12 @@ pub struct CicInterpolatorOpened {
 // What a sample gave: how many outputs stand in front of the span, and the next state.
 pub struct CicInterpolated {
     pub written: Count,
+    pub state: CicInterpolator,
+}
+
+// What a block gave: samples taken from the front of src, outputs written to the front of dst, and the next state.
+pub struct CicInterpolatorBlock {
+    pub counts: Counts,
     pub state: CicInterpolator,
 }
 
@@ -60,8 +73,29 @@ fn valid(stages: usize, r: usize) -> bool
     factor_ok(r)
 }
 
-// r values out of the integrators, which are held in a local: input goes in, and then zeros. Only the stages in use are written back,
-// one by one: the next sample reads them so, and a load that is wider than the stores before it waits for them.
+// r values out of the integrators: input goes in, and then zeros.
+fn fill_on(
+    stages: usize,
+    integrators: &mut [i32; MAX_STAGES],
+    input: i32,
+    r: usize,
+    out_buf: &mut [i32],
+)
+    requires { ⌜ r ≤ length (now «out_buf») ⌝ }
+    ensures { λ _. ⌜ (now (integrators .exit) ≡ I.filled stages (now (integrators .entry)) input r .state) × (now («out_buf» .exit) ≡ I.filled stages (now (integrators .entry)) input r .outs ++ drop r (now («out_buf» .entry))) ⌝ }
+{
+    let mut val = input;
+    let mut i = 0;
+    while i < r {
+        let y = integrate(stages, integrators, val);
+        out_buf[i] = y;
+        val = 0;
+        i += 1;
+    }
+}
+
+// The same with the integrators held in a local. Only the stages in use are written back, one by one: the next sample reads them so, and a load that is wider than
+// the stores before it waits for them.
 fn fill_of(
     stages: usize,
     integrators: &mut [i32; MAX_STAGES],
@@ -73,14 +107,7 @@ fn fill_of(
     ensures { λ _. ⌜ (now (integrators .exit) ≡ I.filled stages (now (integrators .entry)) input r .state) × (now («out_buf» .exit) ≡ I.filled stages (now (integrators .entry)) input r .outs ++ drop r (now («out_buf» .entry))) ⌝ }
 {
     let mut held = *integrators;
-    let mut val = input;
-    let mut i = 0;
-    while i < r {
-        let y = integrate(stages, &mut held, val);
-        out_buf[i] = y;
-        val = 0;
-        i += 1;
-    }
+    fill_on(stages, &mut held, input, r, out_buf);
     write_back(stages, held, integrators);
 }
 
@@ -130,6 +157,149 @@ pub fn sample_at(
     let val = comb(stages, combs, input);
     fill(stages, integrators, val, r, out_buf);
     Count::Written(r)
+}
+
+// Sample number `taken`, where it is one of the first `count`: through the combs, and into the first integrator.
+fn enter(
+    stages: usize,
+    combs: &mut [i32; MAX_STAGES],
+    integrators: &mut [i32; MAX_STAGES],
+    src: &[i32],
+    taken: usize,
+    count: usize,
+)
+    requires { ⌜ count ≤ length (now src) ⌝ }
+    ensures combs { λ _. ⌜ (
+        let x = getD (now (src .entry)) taken (pos 0) in
+        now (combs .exit) ≡ cond (ltb taken count) (combed stages (now (combs .entry)) x .state) (now (combs .entry))) ⌝ }
+    ensures integrators { λ _. ⌜ (
+        let handed = combed stages (now (combs .entry)) (getD (now (src .entry)) taken (pos 0)) .val in
+        now (integrators .exit) ≡ cond (ltb taken count) (integrated 1 (now (integrators .entry)) handed .state) (now (integrators .entry))) ⌝ }
+{
+    if taken < count {
+        let val = comb(stages, combs, src[taken]);
+        integrate(1, integrators, val);
+    }
+}
+
+// The outputs of the first `count` samples, in front of dst, the integrators held in a local. A sample goes into the first one by itself: its r outputs are then
+// those of zeros, which leave that one alone. It enters a turn ahead, or else the compiler works the combs' differences into the sums of the outputs. The combs stay
+// where they are, for they are used once a sample and the integrators want the registers.
+fn raise_of(
+    stages: usize,
+    r: usize,
+    combs: &mut [i32; MAX_STAGES],
+    integrators: &mut [i32; MAX_STAGES],
+    src: &[i32],
+    dst: &mut [i32],
+    count: usize,
+)
+    requires { ⌜ (I.validAt stages r ≡ true) × (count ≤ length (now src)) × (count * r ≤ length (now dst)) ⌝ }
+    ensures state { λ _. ⌜ (
+        let before = I.interpolatorOf stages r (now (combs .entry)) (now (integrators .entry)) in
+        I.interpolatorOf stages r (now (combs .exit)) (now (integrators .exit)) ≡ I.state before (take count (now (src .entry)))) ⌝ }
+    ensures span { λ _. ⌜ (
+        let before = I.interpolatorOf stages r (now (combs .entry)) (now (integrators .entry)) in
+        now (dst .exit) ≡ I.outs before (take count (now (src .entry))) ++ drop (count * r) (now (dst .entry))) ⌝ }
+{
+    let mut sums = *integrators;
+    eight(sums);
+    let mut taken = 0;
+    let mut written = 0;
+    enter(stages, combs, &mut sums, src, taken, count);
+    while taken < count {
+        fill_on(stages, &mut sums, 0, r, &mut dst[written..]);
+        taken += 1;
+        written += r;
+        enter(stages, combs, &mut sums, src, taken, count);
+    }
+    write_back(stages, sums, integrators);
+}
+
+// The same of one stage. Its r outputs are one value: where they are few, a loop costs more than they do, so r is a constant in the first arms.
+fn raise_one(
+    r: usize,
+    combs: &mut [i32; MAX_STAGES],
+    integrators: &mut [i32; MAX_STAGES],
+    src: &[i32],
+    dst: &mut [i32],
+    count: usize,
+)
+    requires { ⌜ (I.validAt 1 r ≡ true) × (count ≤ length (now src)) × (count * r ≤ length (now dst)) ⌝ }
+    ensures state { λ _. ⌜ (
+        let before = I.interpolatorOf 1 r (now (combs .entry)) (now (integrators .entry)) in
+        I.interpolatorOf 1 r (now (combs .exit)) (now (integrators .exit)) ≡ I.state before (take count (now (src .entry)))) ⌝ }
+    ensures span { λ _. ⌜ (
+        let before = I.interpolatorOf 1 r (now (combs .entry)) (now (integrators .entry)) in
+        now (dst .exit) ≡ I.outs before (take count (now (src .entry))) ++ drop (count * r) (now (dst .entry))) ⌝ }
+{
+    match r {
+        1 => raise_of(1, 1, combs, integrators, src, dst, count),
+        2 => raise_of(1, 2, combs, integrators, src, dst, count),
+        3 => raise_of(1, 3, combs, integrators, src, dst, count),
+        4 => raise_of(1, 4, combs, integrators, src, dst, count),
+        _ => raise_of(1, r, combs, integrators, src, dst, count),
+    }
+}
+
+// The same, the number of stages a constant in each arm, so that the compiler unrolls the stages.
+fn raise(
+    stages: usize,
+    r: usize,
+    combs: &mut [i32; MAX_STAGES],
+    integrators: &mut [i32; MAX_STAGES],
+    src: &[i32],
+    dst: &mut [i32],
+    count: usize,
+)
+    requires { ⌜ (I.validAt stages r ≡ true) × (count ≤ length (now src)) × (count * r ≤ length (now dst)) ⌝ }
+    ensures state { λ _. ⌜ (
+        let before = I.interpolatorOf stages r (now (combs .entry)) (now (integrators .entry)) in
+        I.interpolatorOf stages r (now (combs .exit)) (now (integrators .exit)) ≡ I.state before (take count (now (src .entry)))) ⌝ }
+    ensures span { λ _. ⌜ (
+        let before = I.interpolatorOf stages r (now (combs .entry)) (now (integrators .entry)) in
+        now (dst .exit) ≡ I.outs before (take count (now (src .entry))) ++ drop (count * r) (now (dst .entry))) ⌝ }
+{
+    match stages {
+        1 => raise_one(r, combs, integrators, src, dst, count),
+        2 => raise_of(2, r, combs, integrators, src, dst, count),
+        3 => raise_of(3, r, combs, integrators, src, dst, count),
+        4 => raise_of(4, r, combs, integrators, src, dst, count),
+        5 => raise_of(5, r, combs, integrators, src, dst, count),
+        6 => raise_of(6, r, combs, integrators, src, dst, count),
+        7 => raise_of(7, r, combs, integrators, src, dst, count),
+        8 => raise_of(8, r, combs, integrators, src, dst, count),
+        _ => raise_of(stages, r, combs, integrators, src, dst, count),
+    }
+}
+
+// A block, the numbers by value and the arrays lent. Refusals 15, 4.
+pub fn block_at(
+    stages: usize,
+    r: usize,
+    combs: &mut [i32; MAX_STAGES],
+    integrators: &mut [i32; MAX_STAGES],
+    src: &[i32],
+    dst: &mut [i32],
+) -> Counts
+    ensures answer { λ n. ⌜ (
+        let before = I.interpolatorOf stages r (now (combs .entry)) (now (integrators .entry)) in
+        let after = I.interpolatorOf stages r (now (combs .exit)) (now (integrators .exit)) in
+        I.toldBlock (record { counts = n; state = after }) ≡ I.block before (now (src .entry)) (length (now (dst .entry)))) ⌝ }
+    ensures span { λ _. ⌜ now (dst .exit) ≡ I.blockSpan (I.interpolatorOf stages r (now (combs .entry)) (now (integrators .entry))) (now (src .entry)) (now (dst .entry)) ⌝ }
+{
+    if !valid(stages, r) {
+        return Counts::Refused(Refusal::State);
+    }
+    if dst.len() < r {
+        return Counts::Refused(Refusal::Span);
+    }
+    let taken = least(src.len(), dst.len() / r);
+    raise(stages, r, combs, integrators, src, dst, taken);
+    Counts::Moved {
+        taken,
+        written: taken * r,
+    }
 }
 
 impl CicInterpolator {
@@ -196,6 +366,22 @@ impl CicInterpolator {
         self.integrator_state = integrators;
         CicInterpolated {
             written,
+            state: self,
+        }
+    }
+
+    // The samples of src, as many as dst has r places for.
+    pub fn process_block(mut self, src: &[i32], dst: &mut [i32]) -> CicInterpolatorBlock
+        ensures answer { λ b. ⌜ I.toldBlock b ≡ I.block self (now (src .entry)) (length (now (dst .entry))) ⌝ }
+        ensures span { λ b. ⌜ now (dst .exit) ≡ I.blockSpan self (now (src .entry)) (now (dst .entry)) ⌝ }
+    {
+        let mut kept = self.comb_state;
+        let mut sums = self.integrator_state;
+        let counts = block_at(self.stages, self.r, &mut kept, &mut sums, src, dst);
+        self.comb_state = kept;
+        self.integrator_state = sums;
+        CicInterpolatorBlock {
+            counts,
             state: self,
         }
     }

@@ -11,7 +11,7 @@ use crate::wrapping::wrapping_add_i32;
 use crate::wrapping::wrapping_sub_i32;
 
 // An array by value is known to be as long as its type says, and one that is lent is not: this call hands the fact over and compiles to nothing.
-fn eight(a: [i32; MAX_STAGES])
+pub(crate) fn eight(a: [i32; MAX_STAGES])
     ensures { λ _. ⌜ length a ≡ 8 ⌝ }
 {}
 

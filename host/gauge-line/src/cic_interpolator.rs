@@ -1,6 +1,7 @@
 //! The CIC interpolator.
 
 use crate::limits::MOST_STAGES;
+use crate::moved::Moved;
 use crate::raw;
 use crate::refusal::{Refusal, answered};
 
@@ -110,6 +111,40 @@ impl CicInterpolator {
         };
         answered(number, written as usize)
     }
+
+    /// Takes samples from the front of `src`, as many as `dst` has r places for, and writes r outputs of each to the front of dst. Both may be of any length.
+    ///
+    /// Refused: `State`, then `Span` where dst is shorter than r.
+    ///
+    /// ```
+    /// use gauge_line::{CicInterpolator, Moved};
+    ///
+    /// let mut cic = CicInterpolator::new(2, 2)?;
+    /// let mut out = [0; 5];
+    /// assert_eq!(cic.process_block(&[3, 3, 3], &mut out)?, Moved { taken: 2, written: 4 });
+    /// assert_eq!(out, [3, 6, 6, 6, 0]);
+    /// # Ok::<(), gauge_line::Refusal>(())
+    /// ```
+    #[inline]
+    pub fn process_block(&mut self, src: &[i32], dst: &mut [i32]) -> Result<Moved, Refusal> {
+        let (mut taken, mut written) = (0, 0);
+        // SAFETY: each pointer is lent with the length of its own slice, and the fields are borrowed for this call alone.
+        let number = unsafe {
+            raw::gauge_raw_cic_interpolator_process_block(
+                &mut self.stages,
+                &mut self.r,
+                &mut self.combs,
+                &mut self.integrators,
+                src.as_ptr(),
+                src.len() as u64,
+                dst.as_mut_ptr(),
+                dst.len() as u64,
+                &mut taken,
+                &mut written,
+            )
+        };
+        answered(number, Moved::from_counts(taken, written))
+    }
 }
 
 #[cfg(test)]
@@ -131,7 +166,23 @@ mod tests {
         let before = state.clone();
         let mut out = [7; 2];
         assert_eq!(state.process_sample(9, &mut out), Err(Refusal::Span));
+        assert_eq!(state.process_block(&[9], &mut out), Err(Refusal::Span));
         assert_eq!((state, out), (before, [7; 2]));
+    }
+
+    #[test]
+    fn a_block_is_its_samples_one_by_one() {
+        let mut state = CicInterpolator::new(3, 4).unwrap();
+        let mut by_sample = state.clone();
+        let (samples, mut out) = ([9, -2, i32::MAX, i32::MIN, 5], [7; 18]);
+        let moved = state.process_block(&samples, &mut out).unwrap();
+        assert_eq!((moved.taken, moved.written), (4, 16));
+        for (&sample, made) in samples.iter().zip(out.chunks_exact(4)) {
+            let mut wanted = [0; 4];
+            by_sample.process_sample(sample, &mut wanted).unwrap();
+            assert_eq!(made, wanted);
+        }
+        assert_eq!((&state, &out[16..]), (&by_sample, &[7; 2][..]));
     }
 
     #[test]
@@ -141,5 +192,6 @@ mod tests {
         assert_eq!(state.gain(), Err(Refusal::State));
         assert_eq!(state.gain_bits(), Err(Refusal::State));
         assert_eq!(state.process_sample(9, &mut [0; 3]), Err(Refusal::State));
+        assert_eq!(state.process_block(&[9], &mut [0; 3]), Err(Refusal::State));
     }
 }

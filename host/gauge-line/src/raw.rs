@@ -108,6 +108,18 @@ unsafe extern "C" {
         out_buf_len: u64,
         written: &mut u64,
     ) -> u64;
+    pub fn gauge_raw_cic_interpolator_process_block(
+        stages: &mut u64,
+        r: &mut u64,
+        combs: &mut [i32; MOST_STAGES],
+        integrators: &mut [i32; MOST_STAGES],
+        src: *const i32,
+        src_len: u64,
+        dst: *mut i32,
+        dst_len: u64,
+        taken: &mut u64,
+        written: &mut u64,
+    ) -> u64;
     pub fn gauge_raw_plan_3(
         stages: u64,
         r: u64,

@@ -1,7 +1,7 @@
 //! Cases of `CicInterpolator`.
 
 use crate::archive::integer;
-use crate::calls::{Free, Push, Single, Value, Written};
+use crate::calls::{Buffers, Counts, Free, Push, Single, Value, Written};
 use crate::case::{Case, Cases, Operation};
 use crate::cic_settings::{self, Settings};
 use crate::field::{Fields, fields};
@@ -16,6 +16,7 @@ use embedded_dsp::resampling::CicInterpolator;
 pub type New = Free<Settings, State>;
 pub type Step = Single<State, Push<i32>, Written>;
 pub type Reading<T> = Free<State, Value<T>>;
+pub type Block = Single<State, Buffers<i32, i32>, Counts>;
 
 const NEW: Operation<New> = Operation {
     code: 0x21,
@@ -47,6 +48,14 @@ const GAIN_BITS: Operation<Reading<u32>> = Operation {
     refusal: Some(|call| call.lent.refusal()),
     rust: |call| call.answer.value = with_stages!(call.lent.stages, gain_bits(&call.lent)),
     archive: integer::cic_interpolator_gain_bits,
+};
+
+const PROCESS_BLOCK: Operation<Block> = Operation {
+    code: 0,
+    name: "CicInterpolator::process_block",
+    refusal: Some(|call| refusals::cic_up(call.state.stages, call.state.r, call.lent.span.len())),
+    rust: |call| with_stages!(call.state.stages, block(call)),
+    archive: integer::cic_interpolator_process_block,
 };
 
 fields! {
@@ -97,6 +106,23 @@ fn sample<const N: usize>(call: &mut Step) {
     rust.process_sample(call.lent.sample, &mut call.lent.span.elements);
     call.state.keep(&rust);
     call.answer.written = call.state.r;
+}
+
+/// What the port adds: samples from the front while the span has r places, each through `process_sample`.
+fn block<const N: usize>(call: &mut Block) {
+    let mut rust = call.state.rust::<N>();
+    let r = call.state.r as usize;
+    let (input, span) = (&call.lent.samples.elements, &mut call.lent.span.elements);
+    let mut taken = 0;
+    for (&sample, outputs) in input.iter().zip(span.chunks_exact_mut(r)) {
+        rust.process_sample(sample, outputs);
+        taken += 1;
+    }
+    call.state.keep(&rust);
+    call.answer = Counts {
+        taken,
+        written: taken * call.state.r,
+    };
 }
 
 fn gain<const N: usize>(state: &State) -> u64 {
@@ -223,4 +249,52 @@ pub fn cases(rng: &mut Rng) -> Cases {
         },
         _ => stream(rng),
     }
+}
+
+/// A block of so many samples, with a span around their outputs.
+fn some_block(rng: &mut Rng, state: &mut State, length: u64) -> Box<dyn Case> {
+    let r = state.r.clamp(1, 4096);
+    let length = length.min(LONGEST / r);
+    let places = settings::places_around(rng, length * r) + rng.pick(&[0, 0, r / 2, r]);
+    let listed = rng.pick(&[0, 8, 40]);
+    let input = samples::list(rng, length, listed);
+    let span = samples::span(rng, places.min(LONGEST));
+    PROCESS_BLOCK.on(state, Buffers::of(input, span))
+}
+
+/// A sample, or a block of some.
+fn sample_or_block(rng: &mut Rng, state: &mut State) -> Box<dyn Case> {
+    match rng.below(4) {
+        0 => some_sample(rng, state),
+        _ => {
+            let length = rng.pick(&[0, 1, 2, 3, 5, 8, 40]);
+            some_block(rng, state, length)
+        }
+    }
+}
+
+/// Blocks, which no list has: by themselves, on states that 15 turns back, and in streams with samples between them.
+pub fn more(rng: &mut Rng) -> Cases {
+    let mut state = match rng.below(16) {
+        0 => damaged(rng),
+        1 => midway(rng, 4096),
+        2..=8 => midway(rng, 24),
+        _ => State::opened(
+            cic_settings::stages(rng),
+            cic_settings::factor_up_to(rng, 24),
+        ),
+    };
+    (0..rng.within(1, 6))
+        .map(|_| sample_or_block(rng, &mut state))
+        .collect()
+}
+
+/// A block that is longer than `replay` has room for.
+pub fn long(rng: &mut Rng) -> Cases {
+    let mut state = midway(rng, 64);
+    let length = rng.within(LONGEST, 2 * LONGEST);
+    let places = settings::places_around(rng, length * state.r);
+    let input = samples::noise(rng, length);
+    let span = samples::span(rng, places);
+    vec![PROCESS_BLOCK.on(&mut state, Buffers::of(input, span))]
 }

@@ -115,7 +115,10 @@ const CONVERTERS: [Converter; 23] = [
     compared("nonrecursive_decimator", nonrecursive_decimator::cases)
         .fixed(nonrecursive_decimator::every_setting)
         .long(nonrecursive_decimator::long),
-    listed("cic_interpolator", cic_interpolator::cases).fixed(cic_interpolator::every_gain),
+    listed("cic_interpolator", cic_interpolator::cases)
+        .fixed(cic_interpolator::every_gain)
+        .more(cic_interpolator::more)
+        .long(cic_interpolator::long),
     listed("polyphase_q15", polyphase_q15::cases).long(polyphase_q15::long),
     listed("linear_q15", linear_q15::cases)
         .fixed(linear_q15::at_limits)

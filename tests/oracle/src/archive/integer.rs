@@ -221,6 +221,15 @@ pub fn cic_interpolator_process_sample(call: &mut cic_interpolator::Step) -> u64
     )
 }
 
+pub fn cic_interpolator_process_block(call: &mut cic_interpolator::Block) -> u64 {
+    with_buffers!(
+        with_interpolator,
+        gauge_raw_cic_interpolator_process_block,
+        call,
+        [taken, written]
+    )
+}
+
 type InterpolatorReading<T> = unsafe extern "C" fn(u64, u64, &[i32; 8], &[i32; 8], &mut T) -> u64;
 
 fn interpolator_reading<T: Element>(

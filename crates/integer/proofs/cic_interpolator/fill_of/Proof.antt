@@ -1,71 +1,26 @@
--- `fill_of` meets its contract: what is written, and then what is left of the run, is the whole run; the stages behind are as they were, so those in front are all there is to write back.
-use mathlib.Core.Path.{_≡_, refl, sym, ap, _∙_}
-use Prim.Native.Nat.{_-_}
+-- `fill_of` meets its contract: `fill_on` fills from the integrators held; those behind the stages are as they were, so the stages in front are all there is to write back.
+use mathlib.Core.Path.{_≡_, _∙_}
 use borrow.Author.Needs.{needs}
-use lib.IntN.{pos}
-use mir.Syntax.{w32}
-use mir.Val.{toZ, ofZ, SFits}
 use mir.Facts.{toZ-ofZ}
-use Rattle.integer.proofs.Filling.{Left, starts, goes-on, done, front-filled}
+use Rattle.integer.proofs.Filling.{front-filled}
 use Rattle.integer.proofs.cic_interpolator.fill_of.Statement.{statement}
 use Rattle.integer.proofs.cic_interpolator.fill_of.Tie as tie
 
-abbrev Inv-loop : tie.InvT-loop
-Inv-loop stages integrators input r out-buf₀ held₀ val₀ i₀ out-buf held val i = Left stages held₀ (toZ w32 val₀) r out-buf₀ held (toZ w32 val) out-buf i
+fill-on-requires : tie.Need-fill-on-requires
+fill-on-requires c κs = search needs
 
-abbrev μ-loop : tie.MeasureT-loop
-μ-loop stages integrators input r out-buf₀ held₀ val₀ i₀ out-buf held val i = r - i
-
-loop-holds : tie.Need-loop-holds Inv-loop μ-loop
-loop-holds c = starts _ _ _ _ _
-
-integrate-requires : tie.Need-integrate-requires Inv-loop μ-loop
-integrate-requires c κs = search needs
-
-mul-y : tie.Need-mul-y Inv-loop μ-loop
-mul-y c = search needs
-
-slice-set-from-y : tie.Need-slice-set-from-y Inv-loop μ-loop
-slice-set-from-y c = search needs
-
-add-i : tie.Need-add-i Inv-loop μ-loop
-add-i c = search needs
-
-loop-less : tie.Need-loop-less Inv-loop μ-loop
-loop-less c = search needs
-
-loop-again : tie.Need-loop-again Inv-loop μ-loop
-loop-again c =
-    let g : SFits w32 (c .integrate .result) = record { sfits = c .integrate .ok } in
-    rw (toZ-ofZ g, c .integrate .ensures .1, c .integrate .ensures .0)
-    (goes-on _ _ _ _ _ _ _ _ _ (c .before .before .before .before .before .pre) (c .before .before .loop-test .taken) (c .before .before .before .loop .inv))
-
-write-back-requires : tie.Need-write-back-requires Inv-loop μ-loop
+write-back-requires : tie.Need-write-back-requires
 write-back-requires c κs = search needs
 
-same-length : tie.Need-same-length Inv-loop μ-loop
+same-length : tie.Need-same-length
 same-length c = search needs
 
-returns : tie.Need-returns Inv-loop μ-loop
+returns : tie.Need-returns
 returns c =
-    let v = c .before .before .before .loop in
-    let a = c .before .before .before .before .before in
-    let d = rw (toZ-ofZ (a .fits .input)) at (done _ _ _ _ _ _ _ _ _ (c .before .before .loop-test .left) (v .inv)) in
+    let f = c .before .before .before in
+    let a = f .before .before .before .before in
+    let d = rw (toZ-ofZ (a .fits .input)) at (f .fill-on .ensures) in
     (c .write-back .ensures ∙ rw (d .0) (front-filled (a .args .stages) (a .args .integrators .now) (a .args .input) (a .args .r)), d .1)
 
 pub fill-of-spec : {M : Type 1} → statement M
-fill-of-spec =
-    tie.close
-    (tie.spec
-    Inv-loop
-    μ-loop
-    loop-holds
-    integrate-requires
-    mul-y
-    slice-set-from-y
-    add-i
-    loop-less
-    loop-again
-    write-back-requires
-    same-length
-    returns)
+fill-of-spec = tie.close (tie.spec fill-on-requires write-back-requires same-length returns)
