@@ -52,6 +52,14 @@ def span(what: str, array: Any) -> NDArray[np.float32]:
     return array
 
 
+def octets(what: str, buffer: Any) -> NDArray[np.uint8]:
+    """The bytes of a bytes object, or of another buffer of bytes."""
+    view = memoryview(buffer)
+    if view.itemsize != 1:
+        raise TypeError(f"{what}: bytes are wanted, not numbers of {view.itemsize} bytes")
+    return np.array(bytearray(view), np.uint8)
+
+
 def whole(what: str, value: Any) -> int:
     """A whole number that 64 bits without a sign hold."""
     number = operator.index(value)

@@ -2,14 +2,13 @@
 
 from __future__ import annotations
 
-from ctypes import sizeof
 from dataclasses import dataclass
 from math import prod
 
 import numpy as np
 from numpy.typing import ArrayLike, NDArray
 
-from . import arrays, raw
+from . import raw
 from .library import State, call
 from .line import Line
 from .settings import Settings
@@ -59,8 +58,6 @@ class Explanation:
     steady: Range
     #: Of these the ones of which no value is cut to 16 bits.
     uncut: Range
-    #: Bytes of a line.
-    state_bytes: int
 
     def __str__(self) -> str:
         lines = [f"{'section':18}{'samples a value':>16}{'delay, samples':>16}{'gain':>10}"]
@@ -97,7 +94,6 @@ def explain(settings: Settings, taps: ArrayLike = (), prototype: ArrayLike = ())
         exact=Range(**call("cic_decimator_exact_range", cic)),
         steady=steady,
         uncut=_uncut(steady, gain, bits, taps),
-        state_bytes=sizeof(raw.Line),
     )
 
 

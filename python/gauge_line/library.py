@@ -6,7 +6,7 @@ import ctypes
 import re
 from functools import lru_cache
 from pathlib import Path
-from typing import Any
+from typing import Any, NamedTuple
 
 import numpy as np
 
@@ -17,30 +17,40 @@ PREFIX = "gauge_raw_"
 FILE = Path(__file__).with_name("libgauge_line.so")
 
 
-def _load() -> ctypes.CDLL:
+class Function(NamedTuple):
+    """A function of the archive, and of each parameter its name, its type, and what a pointer points to."""
+
+    function: Any
+    parameters: list[tuple[str, Any, Any]]
+
+
+def _load() -> dict[str, Function]:
     if not FILE.exists():
         raise ImportError(f"no {FILE}: `make python` leaves the package with it in target/python")
     library = ctypes.CDLL(str(FILE))
+    functions = {}
     for name, (answer, parameters) in raw.FUNCTIONS.items():
-        # An opening's name ends in the number of its state's layout, so another layout has another name.
+        # An opening's name ends in the number of its state's layout: another layout has another name.
         if not hasattr(library, name):
             raise ImportError(f"{FILE} has no {name}: it is of another version than the package")
         function = getattr(library, name)
         function.restype = answer
         function.argtypes = [kind for _, kind in parameters]
-    return library
+        pointed = [kind._type_ if hasattr(kind, "contents") else None for _, kind in parameters]
+        functions[name] = Function(function, [(*both, to) for both, to in zip(parameters, pointed)])
+    return functions
 
 
-_LIBRARY = _load()
+_FUNCTIONS = _load()
 
 
 @lru_cache(None)
 def declared(name: str) -> str:
-    """The function's whole name: with the prefix, and with the number of a layout where it has one."""
+    """The whole name of a function: the prefix before it, the number of a layout behind it if it has one."""
     whole = PREFIX + name
-    if whole in raw.FUNCTIONS:
+    if whole in _FUNCTIONS:
         return whole
-    numbered = [one for one in raw.FUNCTIONS if re.fullmatch(whole + r"_\d+", one)]
+    numbered = [one for one in _FUNCTIONS if re.fullmatch(whole + r"_\d+", one)]
     if len(numbered) != 1:
         raise TypeError(f"no function {name}")
     return numbered[0]
@@ -63,36 +73,33 @@ def call(name: str, state: State | None = None, /, **given: Any) -> dict[str, An
     A parameter is what is `given` by its name, an array with its length behind it; else the field of
     the state by that name; else a place of this call's own, which is answered by that name.
     """
-    name = declared(name)
-    answer, parameters = raw.FUNCTIONS[name]
-    lengths = {f"{one}_len": each.size for one, each in given.items() if isinstance(each, np.ndarray)}
+    whole = declared(name)
+    function, parameters = _FUNCTIONS[whole]
+    fields, lent = (None, {}) if state is None else (state.fields, state.lent)
     places: dict[str, Any] = {}
     arguments = []
-    for one, kind in parameters:
+    for one, kind, pointed in parameters:
         if one in given:
-            arguments.append(_handed(one, kind, given[one]))
-        elif one in lengths:
-            arguments.append(lengths[one])
-        elif state is not None and one in state.lent:
-            arguments.append(state.lent[one] if _is_pointer(kind) else getattr(state.fields, one))
-        else:
-            if not _is_pointer(kind):
-                raise TypeError(f"{name} wants {one}")
-            places[one] = kind._type_()
+            arguments.append(_handed(one, kind, pointed, given[one]))
+        elif one in lent:
+            arguments.append(lent[one] if pointed else getattr(fields, one))
+        elif pointed:
+            places[one] = pointed()
             arguments.append(ctypes.byref(places[one]))
-    number = getattr(_LIBRARY, name)(*arguments)
-    if answer is not None and number != 0:
+        elif isinstance(given.get(one.removesuffix("_len")), np.ndarray):
+            arguments.append(given[one.removesuffix("_len")].size)
+        else:
+            raise TypeError(f"{whole} wants {one}")
+    number = function(*arguments)
+    # A function that can't be refused answers nothing.
+    if number:
         raise Refusal(number)
     return {one: getattr(place, "value", place) for one, place in places.items()}
 
 
-def _is_pointer(kind: Any) -> bool:
-    return hasattr(kind, "contents")
-
-
-def _handed(name: str, kind: Any, value: Any) -> Any:
-    if not isinstance(value, np.ndarray):
+def _handed(name: str, kind: Any, pointed: Any, value: Any) -> Any:
+    if pointed is None:
         return value
-    if np.ctypeslib.as_ctypes_type(value.dtype) is not kind._type_ or not value.flags.c_contiguous:
-        raise TypeError(f"{name}: an array of {value.dtype} can't be lent as {kind._type_.__name__}")
+    if np.ctypeslib.as_ctypes_type(value.dtype) is not pointed or not value.flags.c_contiguous:
+        raise TypeError(f"{name}: an array of {value.dtype} can't be lent as {pointed.__name__}")
     return value.ctypes.data_as(kind)

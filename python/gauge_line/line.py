@@ -93,8 +93,7 @@ class Line:
         """
         line = cls.__new__(cls)
         line._state = State(raw.Line)
-        row = np.array(bytearray(memoryview(sheet)), np.uint8)
-        call("line_take_up", line._state, bytes=row)
+        call("line_take_up", line._state, bytes=arrays.octets("sheet", sheet))
         return line
 
     @property

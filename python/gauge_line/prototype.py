@@ -18,8 +18,9 @@ def lay_prototype(natural: ArrayLike, phases: int, phase_taps: int) -> NDArray[n
     """
     phases, taps = arrays.whole("phases", phases), arrays.whole("phase_taps", phase_taps)
     design = arrays.floats("natural", natural)
-    if design.size == 0 or design.size not in (phases * taps, phases * taps + 1):
-        wanted = f"{phases} × {taps} = {phases * taps}"
-        raise ValueError(f"natural has {design.size} numbers; {wanted} are wanted, or one more")
-    ended = np.append(design[1:], np.zeros(phases * taps + 1 - design.size, np.float32))
+    wanted = phases * taps
+    if wanted == 0 or design.size not in (wanted, wanted + 1):
+        told = f"{phases} × {taps} = {wanted}"
+        raise ValueError(f"natural has {design.size} numbers; {told} are wanted, or one more")
+    ended = np.append(design[1:], np.zeros(wanted + 1 - design.size, np.float32))
     return ended.reshape(taps, phases)[:, ::-1].ravel()
