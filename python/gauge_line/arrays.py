@@ -1,4 +1,4 @@
-"""Numbers of a caller as rows that can be lent: one dimension, one type, and no bit lost on the way."""
+"""A caller's numbers as rows that can be lent: one dimension, one type, and no bit lost."""
 
 from __future__ import annotations
 
@@ -81,7 +81,8 @@ def number(what: str, value: Any) -> float:
 
 def _rounded(value: Any, how: str) -> str:
     with np.errstate(over="ignore"):
-        return f"{float(value)!r}, which no float32 is; {how} rounds it, here to {float(np.float32(value))!r}"
+        near = float(np.float32(value))
+    return f"{float(value)!r}, which no float32 is; {how} rounds it, here to {near!r}"
 
 
 def _row(what: str, values: ArrayLike) -> NDArray[Any]:

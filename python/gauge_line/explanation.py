@@ -130,7 +130,8 @@ def _fir(own: Settings, taps: NDArray[np.int16], rate: float) -> Section:
 
 
 def _half_band(own: Settings, rate: float) -> Section:
-    # A stage of M taps has its middle 2M values back and its oldest 4M - 1. The table ends with the first.
+    # A stage of M taps has its middle 2M values back and its oldest 4M - 1. The first stage's taps
+    # stand last in the table.
     rest = np.array(call("hbf_tap_table")["taps"], np.float64)
     delay, reach, gain = 0.0, 0.0, 1.0
     for taps in STAGE_TAPS[: own.depth]:
@@ -143,8 +144,8 @@ def _half_band(own: Settings, rate: float) -> Section:
 
 
 def _resampler(own: Settings, prototype: NDArray[np.float32], rate: float) -> Section:
-    # Phase p is due 1 - p / P behind the newest value, so tap t of it weighs a value t + 1 - p / P old.
-    # Straight phase reads places 1 to P of a row, of which the last is the next row's first.
+    # Phase p is due 1 - p / P behind the newest value, so its tap t weighs a value t + 1 - p / P
+    # old. Straight phase reads places 1 to P of a row, of which the last is the next row's first.
     first = 1 if own.straight else 0
     places = np.arange(prototype.size - first)
     ages = places // own.phases + 1 - (places % own.phases + first) / own.phases

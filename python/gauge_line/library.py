@@ -1,4 +1,4 @@
-"""The shared object beside this file, and calls of its functions by the names of their parameters."""
+"""The shared object beside this file, and calls of its functions by their parameters' names."""
 
 from __future__ import annotations
 
@@ -18,7 +18,7 @@ FILE = Path(__file__).with_name("libgauge_line.so")
 
 
 class Function(NamedTuple):
-    """A function of the archive, and of each parameter its name, its type, and what a pointer points to."""
+    """A function of the archive; of each parameter name, type, and what a pointer points to."""
 
     function: Any
     parameters: list[tuple[str, Any, Any]]
@@ -30,7 +30,7 @@ def _load() -> dict[str, Function]:
     library = ctypes.CDLL(str(FILE))
     functions = {}
     for name, (answer, parameters) in raw.FUNCTIONS.items():
-        # An opening's name ends in the number of its state's layout: another layout has another name.
+        # An opening's name ends in the number of its state's layout.
         if not hasattr(library, name):
             raise ImportError(f"{FILE} has no {name}: it is of another version than the package")
         function = getattr(library, name)
@@ -46,7 +46,7 @@ _FUNCTIONS = _load()
 
 @lru_cache(None)
 def declared(name: str) -> str:
-    """The whole name of a function: the prefix before it, the number of a layout behind it if it has one."""
+    """The whole name of a function: with the prefix, and a layout's number where it has one."""
     whole = PREFIX + name
     if whole in _FUNCTIONS:
         return whole
@@ -70,8 +70,8 @@ class State:
 def call(name: str, state: State | None = None, /, **given: Any) -> dict[str, Any]:
     """Calls a function of the archive, or raises the Refusal that it answers.
 
-    A parameter is what is `given` by its name, an array with its length behind it; else the field of
-    the state by that name; else a place of this call's own, which is answered by that name.
+    A parameter is what is `given` by its name, an array with its length behind it; else the field
+    of the state by that name; else a place of this call's own, which is answered by that name.
     """
     whole = declared(name)
     function, parameters = _FUNCTIONS[whole]

@@ -24,8 +24,9 @@ class Line:
     """A line, which goes on from feed to feed: how a stream is cut into feeds changes no level.
 
     `taps` are the FIR's, int16 in 32768ths, at most 128; none turn the FIR off. `prototype` is the
-    resampler's, float32, phases × phase_taps long, tap t of phase p at t × phases + p: `lay_prototype`
-    lays a filter design so. Both are copied. Raises Refusal 1, 2, 3, 5, 6, 11, 12, 13 or 14.
+    resampler's, float32, phases × phase_taps long, tap t of phase p at t × phases + p:
+    `lay_prototype` lays a filter design so. Both are copied. Raises Refusal 1, 2, 3, 5, 6, 11, 12,
+    13 or 14.
 
     Copies and pickles are made by parking: they go on as the line would have.
     """
@@ -35,11 +36,11 @@ class Line:
         call("line_open", self._state, **crossing(settings, taps, prototype, "wanted_"))
 
     def feed(self, samples: ArrayLike, span: NDArray[np.float32]) -> Moved:
-        """Takes int32 samples from the front of those lent and writes levels to the front of `span`.
+        """Takes int32 samples from the front of those lent, writes levels to that of `span`.
 
         It stops where the span is full, or where no level is due and no sample is left; go on with
-        samples[taken:]. Places of the span behind the levels stay as they were. Both are rows of any
-        length and strides. A level of 1.0 is 32768 behind the CIC decimator.
+        samples[taken:]. Places of the span behind the levels stay as they were. Both are rows of
+        any length and strides. A level of 1.0 is 32768 behind the CIC decimator.
         """
         lent = arrays.integers("samples", samples, np.int32)
         own = arrays.span("span", span)
@@ -68,10 +69,10 @@ class Line:
 
     @property
     def cuts(self) -> int:
-        """How many values were cut to 16 bits since the opening or the last reset, of all samples taken.
+        """How many values were cut to 16 bits since the opening or the last reset.
 
-        Scaled sums and, where the FIR is on, its sums; it holds at 2^32 - 1. The count runs ahead of the
-        levels: filters hold a cut value back.
+        Scaled sums and, where the FIR is on, its sums, of all samples taken; it holds at 2^32 - 1.
+        The count runs ahead of the levels: filters hold a cut value back.
         """
         return self._state.fields.cuts
 
@@ -89,7 +90,7 @@ class Line:
     def take_up(cls, sheet: bytes) -> Line:
         """The line that was parked: its levels and cuts are those of a line that was never parked.
 
-        Raises Refusal 16 or 17 where the bytes are no tap sheet, 21 or 15 where they are no parked line.
+        Raises Refusal 16 or 17 where the bytes are no tap sheet, 21 or 15 where that is no line.
         """
         line = cls.__new__(cls)
         line._state = State(raw.Line)
@@ -99,7 +100,8 @@ class Line:
     @property
     def settings(self) -> Settings:
         """The settings. Those of a part that is off are 0."""
-        found: dict[str, Any] = {f.name: getattr(self._state.fields, f.name) for f in fields(Settings)}
+        own = self._state.fields
+        found: dict[str, Any] = {one.name: getattr(own, one.name) for one in fields(Settings)}
         found["straight"] = bool(found["straight"])
         return Settings(**found)
 
@@ -136,8 +138,8 @@ def plan(
 
     Feed i is lent pieces[i] samples and a span of spans[i] places; what it leaves untaken is not
     carried over. Answers the samples taken and the levels written, both uint64, one for each feed.
-    Raises the Refusals of an opening, then 22: rows of two lengths, over 4,096 feeds, or a length over
-    65,536.
+    Raises the Refusals of an opening, then 22: rows of two lengths, over 4,096 feeds, or a length
+    over 65,536.
     """
     lengths = {
         "pieces": arrays.integers("pieces", pieces, np.uint64),

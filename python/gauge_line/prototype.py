@@ -11,10 +11,10 @@ from . import arrays
 def lay_prototype(natural: ArrayLike, phases: int, phase_taps: int) -> NDArray[np.float32]:
     """The prototype, float32, of a design in natural order, for wrapped phase.
 
-    `natural` is a filter for `phases` times the rate, with a gain of `phases`: phases × phase_taps
-    float32 numbers, or one more, as symmetric filters of odd length have.
-    natural[(t + 1) × phases - p] comes to t × phases + p: the row of each tap backwards. So natural[0]
-    is used nowhere, and 0 stands where the design has ended. Straight phase reads a design as it is.
+    `natural` is a filter for `phases` times the rate, with a gain of `phases`: float32, phases ×
+    phase_taps numbers, or one more, as symmetric filters of odd length have. Its number
+    (t + 1) × phases - p comes to t × phases + p: the row of each tap backwards. So number 0 is used
+    nowhere, and 0.0 stands where the design has ended. Straight phase reads a design as it is.
     """
     phases, taps = arrays.whole("phases", phases), arrays.whole("phase_taps", phase_taps)
     design = arrays.floats("natural", natural)

@@ -6,7 +6,7 @@ from .refusals import TABLE
 class Refusal(ValueError):
     """A call that the archive refused: it wrote nothing and left the line as it was.
 
-    `number` is that of the first refusal that applies, `name` its name and `reason` when it applies.
+    `number` is that of the first refusal that applies, `name` its name, `reason` when it applies.
     """
 
     def __init__(self, number: int) -> None:

@@ -24,7 +24,8 @@ TABLE = {
     18: ("EntryNumber", "entry number not below the count"),
     19: ("PhaseTaps", "linear-phase taps not 1 to 23"),
     20: ("Lengths", "source and span not of one length"),
-    21: ("Parked", "another count of entries than a parked line has, or an entry of another length"),
+    21: ("Parked",
+        "another count of entries than a parked line has, or an entry of another length"),
     22: ("Plan", "lists of a plan not of one length, or past a limit"),
     23: ("PowerOfTwo", "factor not a power of two"),
 }

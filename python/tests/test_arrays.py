@@ -26,8 +26,9 @@ class Samples(unittest.TestCase):
 
     def test_what_does_not_fit_is_told_with_its_place(self):
         line = Line(PAIRS)
+        told = r"samples\[1\] is -?21474836\d\d, outside int32"
         for values in [[0, 2**31], np.array([0, 2**31]), np.uint64([0, 2**31]), [0, -(2**31) - 1]]:
-            self.refused(ValueError, r"samples\[1\] is -?21474836\d\d, outside int32", lambda: line.run(values))
+            self.refused(ValueError, told, lambda: line.run(values))
         self.refused(ValueError, r"taps\[0\] is 32768, outside int16", lambda: Line(PAIRS, [32768]))
         self.refused(ValueError, "one dimension", lambda: line.run(np.zeros((2, 2), np.int32)))
         self.refused(ValueError, "one dimension", lambda: line.run(np.int32(5)))
@@ -58,7 +59,8 @@ class Samples(unittest.TestCase):
 
 class Spans(unittest.TestCase):
     def test_places_behind_the_levels_stay(self):
-        for whole in [np.full(6, 9, np.float32), np.full((6, 2), 9, np.float32)[:, 0], np.full(6, 9, np.float32)[::-1]]:
+        nines = np.full((3, 6, 2), 9, np.float32)
+        for whole in [nines[0].ravel()[:6], nines[1, :, 0], nines[2, ::-1, 1]]:
             self.assertEqual(Line(PAIRS).feed([8192, 8192, 16384, 16384, 0], whole), (5, 2))
             self.assertEqual(whole.tolist(), [0.25, 0.5, 9, 9, 9, 9])
         strided = np.full(6, 9, np.float32)
@@ -88,9 +90,10 @@ class Numbers(unittest.TestCase):
     def test_a_prototype_is_never_rounded_unasked(self):
         settings = Settings(phases=2, phase_taps=1)
         for exact in [[1, 0], [0.5, 0.25], np.float16([0.1, 0]), np.float32([0.1, 0.2])]:
-            self.assertEqual(Line(settings, (), exact).prototype.tolist(), np.float32(exact).tolist())
+            kept = Line(settings, (), exact).prototype
+            self.assertEqual(kept.tolist(), np.float32(exact).tolist())
         for lost in [[0.1, 0.0], np.float64([0.1, 0.0]), [2**24 + 1, 0], [1e300, 0.0]]:
-            with self.assertRaisesRegex(ValueError, r"prototype\[0\] is .* no float32 is; x.astype"):
+            with self.assertRaisesRegex(ValueError, r"prototype\[0\] is .* no float32 is; x.ast"):
                 Line(settings, (), lost)
         for wrong in [["a", "b"], [1j, 0], [None, 0]]:
             with self.assertRaises(TypeError):
@@ -109,8 +112,8 @@ class Numbers(unittest.TestCase):
             with self.assertRaises(kind):
                 Line(Settings(**wrong))
         step = np.float32(0.1)
-        line = Line(Settings(np.int8(1), np.uint64(1), phases=2, phase_taps=1, step=step), (), [1, 0])
-        self.assertEqual(line.settings.step, float(step))
+        settings = Settings(np.int8(1), np.uint64(1), phases=2, phase_taps=1, step=step)
+        self.assertEqual(Line(settings, (), [1, 0]).settings.step, float(step))
 
     def test_lengths_of_a_plan_are_whole(self):
         for pieces, kind in [([1.5], TypeError), ([-1], ValueError), ([[1]], ValueError)]:

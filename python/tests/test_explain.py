@@ -34,8 +34,9 @@ def as_file(settings, taps, prototype):
     if len(taps) > 0:
         lines += [f"factor = {settings.factor}", "taps = " + " ".join(map(str, taps))]
     if settings.phases > 0:
+        phase = "straight" if settings.straight else "wrapped"
         lines += [f"phases = {settings.phases}", f"phase_taps = {settings.phase_taps}"]
-        lines += [f"phase = {'straight' if settings.straight else 'wrapped'}", f"step = {settings.step}"]
+        lines += [f"phase = {phase}", f"step = {settings.step}"]
         lines += ["prototype = " + " ".join(map(str, prototype))]
     return "\n".join(lines) + "\n"
 
@@ -67,7 +68,8 @@ class BesideTheTool(unittest.TestCase):
 
     def sections(self, text, figures):
         found = [*figures.sections, figures.whole]
-        rows = [row for row in text.splitlines() if re.match(r"\S.{17} +[\d.]+ +[\d.]+ +\S+ +\S+$", row)]
+        is_row = re.compile(r"\S.{17} +[\d.]+ +[\d.]+ +\S+ +\S+$").match
+        rows = [row for row in text.splitlines() if is_row(row)]
         self.assertEqual([row[:18].strip() for row in rows], [one.name for one in found])
         for row, one in zip(rows, found):
             every, rate, delay, gain = row[18:].split()

@@ -26,8 +26,8 @@ class Package(unittest.TestCase):
             shutil.copytree(PACKAGE, copied)
             change(copied)
             program = [sys.executable, "-B", "-c", "import gauge_line"]
-            done = subprocess.run(program, cwd=folder, capture_output=True, text=True, env={"PYTHONPATH": folder})
-            return done.stderr
+            path = {"PYTHONPATH": folder}
+            return subprocess.run(program, env=path, stderr=subprocess.PIPE, text=True).stderr
 
     def test_a_copy_elsewhere_is_imported(self):
         self.assertEqual(self.imported(lambda copied: None), "")

@@ -24,7 +24,8 @@ class BesideScipy(unittest.TestCase):
             settings = Settings(stages=stages, r=r)
             samples = self.noise(4000)
             zeros = np.tile(np.exp(2j * np.pi * np.arange(1, r) / r), stages)
-            moving_sums = signal.dlti(zeros, np.zeros(zeros.size), 2.0 ** -explain(settings).gain_bits)
+            scale = 2.0 ** -explain(settings).gain_bits
+            moving_sums = signal.dlti(zeros, np.zeros(zeros.size), scale)
             # A level comes with the last of its r samples, an output of decimate with the first.
             later = np.append(0.0, samples)
             wanted = signal.decimate(later, r, ftype=moving_sums, zero_phase=False)[1:] * STEP
@@ -71,7 +72,7 @@ class BesideScipy(unittest.TestCase):
         wave = np.rint(20000 * np.sin(np.arange(2000) / 8)).astype(np.int32)
         settings = Settings(phases=16, phase_taps=phase_taps, step=15 / 16)
         line = Line(settings, (), lay_prototype(design, 16, phase_taps))
-        # The design's middle, 8 × phase_taps of its places, is then a whole number of outputs away.
+        # The design's middle, 8 × phase_taps of its places, is then whole outputs away.
         dropped = 8 * phase_taps % 15
         levels = line.run(wave[dropped:])
         window = design.astype(np.float64) / 16
@@ -89,7 +90,7 @@ class BesideScipy(unittest.TestCase):
     def test_a_resampled_wave_is_resample_polys_between_samples(self):
         design = (16 * signal.firwin(16 * 16 + 1, 1 / 16)).astype(np.float32)
         at, levels, wanted = self.resampled(design, 16)
-        # Every 16th level falls on a sample: phases wrap there, and it is drawn on from two of them.
+        # Every 16th level falls on a sample: phases wrap, and it is drawn on from two of them.
         between = at % 16 != 0
         self.assertLess(np.abs(levels - wanted)[between].max(), 1e-6)
         self.assertGreater(np.abs(levels - wanted)[~between].max(), 1e-6)

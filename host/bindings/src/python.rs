@@ -121,10 +121,10 @@ fn pointed(one: &Parameter, limits: &Limits) -> Result<String, String> {
 pub fn refusals(refusals: &Refusals) -> String {
     let mut out = REFUSALS.to_string();
     for one in &refusals.all {
-        out += &format!(
-            "    {}: (\"{}\", \"{}\"),\n",
-            one.number, one.name, one.reason
-        );
+        let name = format!("{}: (\"{}\"", one.number, one.name);
+        let reason = format!("\"{}\"),", one.reason);
+        out += &filled(&[name, reason], ", ", ("    ", "        "), WIDTH);
+        out.push('\n');
     }
     out + "}\n"
 }
