@@ -3,7 +3,7 @@
 from __future__ import annotations
 
 from dataclasses import dataclass
-from math import prod
+from math import isnan, prod
 
 import numpy as np
 from numpy.typing import ArrayLike, NDArray
@@ -58,6 +58,14 @@ class Explanation:
     steady: Range
     #: Of these the ones of which no value is cut to 16 bits.
     uncut: Range
+
+    def times(self, count: int) -> NDArray[np.float64]:
+        """The moments that the first `count` levels tell of, in samples; the first sample is at 0.
+
+        The delay is taken off. Levels at moments below 0 weigh zeros from before the start.
+        """
+        first = self.first_level - 1 - (0.0 if isnan(self.whole.delay) else self.whole.delay)
+        return first + self.whole.samples_per_value * np.arange(count)
 
     def __str__(self) -> str:
         lines = [f"{'section':18}{'samples a value':>16}{'delay, samples':>16}{'gain':>10}"]

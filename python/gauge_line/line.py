@@ -100,9 +100,10 @@ class Line:
     @property
     def settings(self) -> Settings:
         """The settings. Those of a part that is off are 0."""
-        own = self._state.fields
-        found: dict[str, Any] = {one.name: getattr(own, one.name) for one in fields(Settings)}
-        found["straight"] = bool(found["straight"])
+        found = {}
+        for field in fields(Settings):
+            # As the default is: a flag crosses as a number.
+            found[field.name] = type(field.default)(getattr(self._state.fields, field.name))
         return Settings(**found)
 
     @property

@@ -87,6 +87,15 @@ class BesideTheTool(unittest.TestCase):
                 levels = self.told(opening, "run", "--format", "raw", recording.name)
             self.assertEqual(levels, Line(*opening).run(samples).tobytes(), opening)
 
+    def test_moments_are_those_of_the_tool(self):
+        for opening in CASES:
+            with tempfile.NamedTemporaryFile("w") as recording:
+                recording.write("sample\n" + "0\n" * 2000)
+                recording.flush()
+                rows = self.told(opening, "run", "--column", "1", recording.name).split()[1:]
+            moments = [float(row.split(b",")[0]) for row in rows]
+            np.testing.assert_allclose(explain(*opening).times(len(rows)), moments, atol=1e-6)
+
 
 class AsALineShows(unittest.TestCase):
     def test_a_steady_sample_settles_at_the_gain(self):
