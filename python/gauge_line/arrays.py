@@ -74,7 +74,8 @@ def number(what: str, value: Any) -> float:
         raise TypeError(f"{what}: a number is wanted, not {type(value).__name__}")
     with np.errstate(over="ignore"):
         narrow = np.float32(value)
-    if narrow != value and not np.isnan(narrow):
+    # As a float of Python's: numpy may round the other side to float32 before it compares.
+    if float(narrow) != value and not np.isnan(narrow):
         raise ValueError(f"{what} is {_rounded(value, 'np.float32(x)')}")
     return float(narrow)
 

@@ -100,6 +100,6 @@ def call(name: str, state: State | None = None, /, **given: Any) -> dict[str, An
 def _handed(name: str, kind: Any, pointed: Any, value: Any) -> Any:
     if pointed is None:
         return value
-    if np.ctypeslib.as_ctypes_type(value.dtype) is not pointed or not value.flags.c_contiguous:
+    if value.dtype != pointed or not value.flags.c_contiguous:
         raise TypeError(f"{name}: an array of {value.dtype} can't be lent as {pointed.__name__}")
     return value.ctypes.data_as(kind)
