@@ -12,6 +12,9 @@ from . import arrays, raw
 from .library import State, call
 from .settings import Settings
 
+#: Levels that a run makes room for at a time.
+SPAN = 65536
+
 
 class Moved(NamedTuple):
     """What a feed did: how many samples it took and how many levels it wrote."""
@@ -60,7 +63,7 @@ class Line:
         rest = arrays.integers("samples", samples, np.int32)
         pieces = []
         while True:
-            span = np.empty(self._expected(rest.size), np.float32)
+            span = np.empty(SPAN, np.float32)
             moved = self.feed(rest, span)
             pieces.append(span[: moved.written])
             rest = rest[moved.taken :]
@@ -123,13 +126,6 @@ class Line:
 
     def __reduce__(self) -> tuple[Any, ...]:
         return type(self).take_up, (self.park(),)
-
-    def _expected(self, samples: int) -> int:
-        """Places for a few more levels than so many samples make. More may be due from before."""
-        own = self._state.fields
-        fir = own.factor if own.tap_count else 1
-        step = own.step if own.phases else 1.0
-        return int(samples / (own.r * fir * 2**own.depth * step)) + 66
 
 
 def plan(

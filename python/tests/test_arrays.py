@@ -79,7 +79,7 @@ class Spans(unittest.TestCase):
             (ValueError, np.zeros((1, 2), np.float32)),
         ]:
             with self.assertRaises(kind):
-                line.feed([8192, 8192], span)
+                line.feed([8192], span)
         shared = np.zeros(4, np.int32)
         with self.assertRaisesRegex(ValueError, "overlap"):
             line.feed(shared, shared[1:].view(np.float32))
@@ -100,16 +100,16 @@ class Numbers(unittest.TestCase):
                 Line(settings, (), wrong)
 
     def test_settings_are_whole_and_of_64_bits(self):
-        for kind, wrong in [
-            (ValueError, {"stages": -1}),
-            (ValueError, {"r": 2**64}),
-            (TypeError, {"depth": 1.0}),
-            (TypeError, {"straight": "yes"}),
-            (TypeError, {"step": "1"}),
-            (ValueError, {"step": 0.1}),
-            (ValueError, {"step": 1e300}),
+        for kind, words, wrong in [
+            (ValueError, r"stages is -1, outside 0 to 2\^64 - 1", {"stages": -1}),
+            (ValueError, "r is 18446744073709551616, outside", {"r": 2**64}),
+            (TypeError, "float", {"depth": 1.0}),
+            (TypeError, "str", {"straight": "yes"}),
+            (TypeError, "step: a number is wanted, not str", {"step": "1"}),
+            (ValueError, r"step is 0.1, which no float32 is; np.float32\(x\)", {"step": 0.1}),
+            (ValueError, r"step is 1e\+300, .* here to inf", {"step": 1e300}),
         ]:
-            with self.assertRaises(kind):
+            with self.assertRaisesRegex(kind, words):
                 Line(Settings(**wrong))
         step = np.float32(0.1)
         settings = Settings(np.int8(1), np.uint64(1), phases=2, phase_taps=1, step=step)

@@ -60,6 +60,12 @@ class Feeding(unittest.TestCase):
         runs = [line.run(piece) for piece in np.split(samples, [0, 1, 700, 701])]
         self.assertEqual(np.concatenate(runs).tobytes(), wanted.tobytes())
 
+    def test_a_run_may_be_of_any_length(self):
+        samples = (np.arange(200_000) % 60_000 - 30_000).astype(np.int32)
+        for count in [0, 1, 65_535, 65_536, 65_537, 131_072, 200_000]:
+            levels = Line(Settings()).run(samples[:count])
+            np.testing.assert_array_equal(levels * 32768, samples[:count])
+
     def test_a_run_writes_what_a_full_span_left_due(self):
         line = Line(Settings(phases=2, phase_taps=1, step=1 / 64), (), [1, 0])
         self.assertEqual(line.feed([16384] * 3, np.zeros(5, np.float32)), Moved(1, 5))
