@@ -79,7 +79,7 @@ class Spans(unittest.TestCase):
             (ValueError, np.zeros((1, 2), np.float32)),
         ]:
             with self.assertRaises(kind):
-                line.feed([8192], span)
+                line.feed([1000], span)
         shared = np.zeros(4, np.int32)
         with self.assertRaisesRegex(ValueError, "overlap"):
             line.feed(shared, shared[1:].view(np.float32))

@@ -71,6 +71,9 @@ class Feeding(unittest.TestCase):
         self.assertEqual(line.feed([16384] * 3, np.zeros(5, np.float32)), Moved(1, 5))
         self.assertEqual(line.run([]).size, 59)
         self.assertEqual(line.run([0] * 100).size, 6400)
+        # One span more than 65,536 levels, and no sample left for it.
+        self.assertEqual(line.feed([0], np.zeros(5, np.float32)), Moved(1, 5))
+        self.assertEqual(line.run([0] * 1024).size, 59 + 65_536)
 
     def test_the_range_of_samples_comes_round(self):
         settings = Settings(stages=3, r=64)

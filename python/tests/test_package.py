@@ -10,9 +10,11 @@ import unittest
 from dataclasses import fields
 from pathlib import Path
 
+import numpy as np
+
 import gauge_line
-from gauge_line import Settings, fp_environment_ok, raw
-from gauge_line.library import declared
+from gauge_line import Refusal, Settings, fp_environment_ok, raw
+from gauge_line.library import State, call, declared
 
 PACKAGE = Path(gauge_line.__file__).parent
 TOP = Path(__file__).resolve().parents[2]
@@ -58,6 +60,22 @@ class Declarations(unittest.TestCase):
         wanted = {name for name, kind in parameters if not hasattr(kind, "contents")}
         settings = {f"wanted_{field.name}" for field in fields(Settings)}
         self.assertEqual(settings | {"wanted_taps_len", "wanted_prototype_len"}, wanted)
+
+
+    def test_what_is_lent_is_what_is_declared(self):
+        state = State(raw.Line)
+        rows = {"samples": np.zeros(2, np.int32), "out": np.zeros(2, np.float32)}
+        for wrong in [
+            rows | {"samples": np.zeros(2, np.int64)},
+            rows | {"out": np.zeros(4, np.float32)[::2]},
+            {"out": rows["out"]},
+        ]:
+            with self.assertRaises(TypeError):
+                call("line_feed", state, **wrong)
+        with self.assertRaisesRegex(Refusal, "refusal 15, State"):
+            call("line_feed", state, **rows)
+        with self.assertRaises(TypeError):
+            call("line_fed", state, **rows)
 
 
 class Environment(unittest.TestCase):
