@@ -1,5 +1,5 @@
 # `make help` prints the commands. Each stands below as NAME: ## HOW LONG | WHAT IT DOES, with the archive made; times are of a machine with two cores.
-.PHONY: all help run test readings host compare bench bench-instructions targets firmware install review
+.PHONY: all help run test readings host compare bench bench-instructions targets firmware python install review
 .DELETE_ON_ERROR:
 
 # TARGET: the folder for all that is built; relative names, here and in GAUGE_ARCHIVE, begin at the top of the repository.
@@ -34,7 +34,7 @@ readings: ## 1 min, then 1 s | 01's readings through the proved converters, prin
 review: ## 2 min | for a reviewer: what the archive is made of, the readings, and three edits that the prover refuses
 	@host/review.sh
 
-host: ## 2 min | the interfaces for C and Rust, the tool, the demo and the pages, checked and run
+host: ## 2 min | the interfaces for C, Rust and Python, the tool, the demo and the pages, checked and run
 	@tests/host/run.sh
 
 compare: ## 2 min | the archive and the Rust compared over 10^9 samples; SEED=7 gives another seed
@@ -52,6 +52,9 @@ targets: ## 30 s | the proved module on other machines, its outputs compared wit
 
 firmware: ## 3 s | the archive for Cortex-M4F, with a table of its code and stack, in target/firmware
 	@targets/firmware.sh
+
+python: ## 1 s | the package for Python with its shared object, in target/python
+	@python/build.sh
 
 install: ## 5 s | archive, headers, tool, pkg-config and CMake files below PREFIX, /usr/local unless it is given; DESTDIR is put before it
 	@packaging/install.sh "$(PREFIX)" "$(DESTDIR)"

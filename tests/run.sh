@@ -1,5 +1,5 @@
 #!/usr/bin/env bash
-# The whole gate: what needs no proof, then proofs, must-fail edits and programs, then the archive: compared with the Rust (seeds as arguments), called from C and Rust, installed, and
+# The whole gate: what needs no proof, then proofs, must-fail edits and programs, then the archive: compared with the Rust (seeds as arguments), called from C, Rust and Python, installed, and
 # run on another machine. What was left out is said before the last line, which is rt ci's.
 set -euo pipefail
 . "$(dirname "$0")/../host/common.sh"

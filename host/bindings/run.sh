@@ -1,5 +1,5 @@
 #!/usr/bin/env bash
-# Prints what C and Rust see of the archive from what the crates declare, into the tracked files; with --check says where they differ from that and fails.
+# Prints what C, Rust and Python see of the archive from what the crates declare, into the tracked files; with --check says where they differ from that and fails.
 set -euo pipefail
 export LC_ALL=C
 cd "$(dirname "$0")/../.."

@@ -1,5 +1,5 @@
 #!/usr/bin/env bash
-# The interfaces for C and Rust, the fitter's tool, the demo and the pages, checked; arguments name some of the checks, as cargo test takes them. GAUGE_ARCHIVE names another archive to link,
+# The interfaces for C, Rust and Python, the fitter's tool, the demo and the pages, checked; arguments name some of the checks, as cargo test takes them. GAUGE_ARCHIVE names another archive to link,
 # GAUGE_TARGET another folder than target/ for what is built.
 set -euo pipefail
 export LC_ALL=C

@@ -1,6 +1,6 @@
-//! What C and Rust see of the archive, printed from what the proved crates declare: the functions of crates/gauge_line, the refusals of crates/refusal, and the limits of all.
+//! What C, Rust and Python see of the archive, printed from what the proved crates declare: the functions of crates/gauge_line, the refusals of crates/refusal, and the limits of all.
 //!
-//! Four files are printed whole. In the other headers and in refusal.rs the printed parts stand between marks ([`marks`]), beside text that is written by hand.
+//! Seven files are printed whole. In the other headers and in refusal.rs the printed parts stand between marks ([`marks`]), beside text that is written by hand.
 
 mod c;
 mod constants;
@@ -8,6 +8,7 @@ mod declared;
 mod exported;
 mod limits;
 mod marks;
+mod python;
 mod refusals;
 mod rust;
 mod text;
@@ -93,6 +94,18 @@ pub fn printed(root: &Path) -> Result<Vec<Printed>, String> {
         (
             "host/gauge-line/src/raw.rs",
             rust::functions(&sources.exported, &sources.limits)?,
+        ),
+        (
+            "python/gauge_line/limits.py",
+            python::limits(&sources.limits),
+        ),
+        (
+            "python/gauge_line/raw.py",
+            python::functions(&sources.exported, &sources.limits)?,
+        ),
+        (
+            "python/gauge_line/refusals.py",
+            python::refusals(&sources.refusals),
         ),
     ];
     files.extend(whole.map(|(path, text)| Printed {

@@ -1,4 +1,4 @@
-//! The limits and lengths that C and Rust have names for, as limits.txt lists them.
+//! The limits and lengths that C, Rust and Python have names for, as limits.txt lists them.
 
 use crate::constants::Constants;
 use crate::declared::{Form, Number, Parameter};

@@ -18,6 +18,7 @@ fn copy(name: &str) -> PathBuf {
         "crates",
         "include",
         "host/gauge-line/src",
+        "python/gauge_line",
         "host/bindings/refusals.txt",
         "host/bindings/limits.txt",
     ];
@@ -47,10 +48,11 @@ fn said(tree: &Path, (file, old, new): (&str, &str, &str)) -> String {
 
 const RAW_H: &str = "include/gauge_raw.h";
 const RAW_RS: &str = "host/gauge-line/src/raw.rs";
+const RAW_PY: &str = "python/gauge_line/raw.py";
 const REFUSAL_H: &str = "include/gauge_refusal.h";
 
 // File, text, what takes its place.
-const TRACKED: [(&str, &str, &str); 17] = [
+const TRACKED: [(&str, &str, &str); 21] = [
     (
         RAW_H,
         "uint64_t *taken, uint64_t *written",
@@ -100,6 +102,26 @@ const TRACKED: [(&str, &str, &str); 17] = [
     (RAW_RS, "wanted_depth: u64", "wanted_depth: usize"),
     (RAW_RS, "sum: &mut i32", "sum: &mut i64"),
     (RAW_RS, "ratio: f32,", ""),
+    (
+        RAW_PY,
+        "(\"factor\", u64),\n        (\"fir_delay\", i16 * limits.MOST_TAPS),",
+        "(\"fir_delay\", i16 * limits.MOST_TAPS),\n        (\"factor\", u64),",
+    ),
+    (
+        RAW_PY,
+        "(\"out\", POINTER(f32)), (\"out_len\", u64)",
+        "(\"out_len\", u64), (\"out\", POINTER(f32))",
+    ),
+    (
+        "python/gauge_line/limits.py",
+        "MOST_TAPS = 128",
+        "MOST_TAPS = 64",
+    ),
+    (
+        "python/gauge_line/refusals.py",
+        "14: (\"Step\"",
+        "14: (\"Steps\"",
+    ),
 ];
 
 #[test]
@@ -112,7 +134,7 @@ fn an_edit_of_a_tracked_file_is_found_in_it() {
 }
 
 #[test]
-fn an_edit_of_a_declaration_is_found_in_both_languages() {
+fn an_edit_of_a_declaration_is_found_in_every_language() {
     let tree = copy("declared");
     let line = "crates/gauge_line/src/gauge_line.rt";
     let edits = [
@@ -139,11 +161,13 @@ fn an_edit_of_a_declaration_is_found_in_both_languages() {
     for (file, old, new, header) in edits {
         let said = said(&tree, (file, old, new));
         assert!(said.contains(header) && said.contains(RAW_RS), "{said}");
+        // Pointers of ctypes are all for writing.
+        assert!(said.contains(RAW_PY) || new.contains("&mut ["), "{said}");
     }
 }
 
 #[test]
-fn an_edit_of_a_limit_is_found_in_both_languages() {
+fn an_edit_of_a_limit_is_found_in_every_language() {
     let tree = copy("limits");
     let rows = (
         "crates/refusal/src/rows.rt",
@@ -151,10 +175,9 @@ fn an_edit_of_a_limit_is_found_in_both_languages() {
         "MOST_BLOCK: usize = 2 * ",
     );
     let said = said(&tree, rows);
-    assert!(
-        said.contains("include/gauge_limits.h:") && said.contains("limits.rs:"),
-        "{said}"
-    );
+    for printed in ["include/gauge_limits.h:", "limits.rs:", "limits.py:"] {
+        assert!(said.contains(printed), "{said}");
+    }
 }
 
 // The declarations with every array of i16 of this length.
@@ -292,5 +315,7 @@ fn a_new_refusal_is_printed() {
     let in_c = format!("// Row of GAUGE_MOST_DEPTH.\n    GAUGE_REFUSED_NEW_ROW = {number}\n");
     let in_rust = format!("/// Row of 5.\n    NewRow = {number},\n");
     assert!(header.contains(&in_c) && rust.contains(&in_rust));
+    let table = fs::read_to_string(tree.join("python/gauge_line/refusals.py")).unwrap();
+    assert!(table.contains(&format!("{number}: (\"NewRow\", \"row of 5\"),\n")));
     bindings::check(&tree).unwrap();
 }

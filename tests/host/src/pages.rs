@@ -5,8 +5,8 @@ use crate::support::page::{Example, blocks, examples};
 use crate::support::{command, files, filtered, printed, read, root, same, skipped, target};
 use std::path::PathBuf;
 
-const FOLDERS: [&str; 7] = [
-    "crates", "host", "include", "examples", "tests", "bench", "docs",
+const FOLDERS: [&str; 8] = [
+    "crates", "host", "include", "python", "examples", "tests", "bench", "docs",
 ];
 
 /// The pages at the top and those of docs/.
