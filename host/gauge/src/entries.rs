@@ -9,7 +9,7 @@ use std::os::unix::ffi::OsStrExt;
 use std::path::{Path, PathBuf};
 
 /// Every name that a settings file may set.
-pub const NAMES: [&str; 11] = [
+pub const NAMES: [&str; 12] = [
     "stages",
     "r",
     "factor",
@@ -21,6 +21,7 @@ pub const NAMES: [&str; 11] = [
     "step",
     "prototype",
     "prototype_rows",
+    "rate",
 ];
 
 /// A name that was set, its value and the line where it stands. The value is bytes: it may name a file, and names need not be UTF-8.
