@@ -1,6 +1,7 @@
 //! The commands by name.
 
 use crate::compare::compare;
+use crate::design_command::design;
 use crate::explain::explain;
 use crate::fault::{Fault, front};
 use crate::inspect::inspect;
@@ -8,6 +9,7 @@ use crate::nearest::did_you_mean;
 use crate::phases_command::phases;
 use crate::plan::plan;
 use crate::plot::plot;
+use crate::response_command::response;
 use crate::run::run;
 use crate::sheet_command::sheet;
 use crate::target::Target;
@@ -15,8 +17,9 @@ use std::ffi::OsString;
 
 const HELP: &str = include_str!("help.txt");
 const VERSION: &str = concat!("gauge ", env!("CARGO_PKG_VERSION"), "\n");
-const COMMANDS: [&str; 10] = [
-    "run", "explain", "plan", "plot", "sheet", "phases", "inspect", "compare", "help", "version",
+const COMMANDS: [&str; 12] = [
+    "run", "explain", "design", "response", "plan", "plot", "sheet", "phases", "inspect",
+    "compare", "help", "version",
 ];
 
 /// Does what the arguments ask for.
@@ -35,6 +38,8 @@ pub fn perform(arguments: &[OsString]) -> Result<(), Fault> {
     match &*command {
         "run" => run(rest),
         "explain" => explain(rest),
+        "design" => design(rest),
+        "response" => response(rest),
         "plan" => plan(rest),
         "plot" => plot(rest),
         "sheet" => sheet(rest),

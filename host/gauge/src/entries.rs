@@ -22,6 +22,7 @@ pub const NAMES: [&str; 12] = [
     "step",
     "prototype",
     "prototype_rows",
+    "rate",
 ];
 
 /// A name that was set, its value and the line where it stands. The value is bytes: it may name a file, and names need not be UTF-8.

@@ -26,8 +26,9 @@ const EVEN: f64 = 0.05;
 /// Prints what the settings file of the arguments makes.
 pub fn explain(arguments: &[OsString]) -> Result<(), Fault> {
     let options = Options::parse(arguments, &["--settings", "--rate"], "--settings")?;
-    let unit = Unit::of(options.rate()?);
+    let rate = options.rate()?;
     let (file, _) = opened(&options)?;
+    let unit = Unit::of(rate.or(file.rate));
     let name = options.needed("--settings")?.to_string_lossy();
     let mut out = Target::create("-")?;
     out.write(explanation(&name, &file, unit)?.as_bytes())?;

@@ -63,7 +63,7 @@ impl Job {
         check_format(samples.format, reading)?;
         Ok(Job {
             target: Target::create(out)?,
-            rate: rate.or(samples.rate),
+            rate: rate.or(samples.rate).or(file.rate),
             file,
             line,
             begun,

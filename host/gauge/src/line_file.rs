@@ -5,6 +5,7 @@ use crate::fault::Fault;
 use crate::lay::laid;
 use crate::nearest::did_you_mean;
 use crate::numbers::{List, Number, listed};
+use crate::options::RATES;
 use crate::reason::{name_of, range, reason};
 use crate::text::{read_small, strange, without_mark};
 use gauge_line::{Line, Phase, Refusal, Settings, Thinning, prototype_by_tap};
@@ -42,6 +43,8 @@ pub struct LineFile {
     pub prototype: Vec<f32>,
     /// The order in which the file has the prototype.
     pub order: Prototype,
+    /// Samples a second, where the file says it: times and frequencies are told by them.
+    pub rate: Option<f64>,
     /// The settings file and those that it names.
     pub files: Vec<PathBuf>,
     entries: Entries,
@@ -81,12 +84,13 @@ impl LineFile {
             settings,
             taps: taps.numbers,
             order,
+            rate: rate(&entries)?,
             files: files.into_iter().flatten().collect(),
             entries,
         })
     }
 
-    /// What a parked line was opened with.
+    /// What a line was opened with that no settings file describes: a parked one, or one that is designed.
     pub fn parked(
         file: &Path,
         settings: Settings,
@@ -98,6 +102,7 @@ impl LineFile {
             taps,
             prototype,
             order: Prototype::Laid,
+            rate: None,
             files: vec![file.to_path_buf()],
             entries: Entries::none(file),
         }
@@ -150,6 +155,17 @@ fn either<T: Copy>(entries: &Entries, name: &str, words: [(&str, T); 2]) -> Resu
         let what = format!("not {one} or {other}{}{hint}", strange(&text));
         entries.fault(name, what)
     })
+}
+
+// Samples a second, where they are set.
+fn rate(entries: &Entries) -> Result<Option<f64>, Fault> {
+    let Some(entry) = entries.get("rate") else {
+        return Ok(None);
+    };
+    let rate = entry.text().parse().ok();
+    let rate = rate.filter(|rate| RATES.contains(rate));
+    let wrong = || entries.fault("rate", "not a number of hertz above 0");
+    rate.map(Some).ok_or_else(wrong)
 }
 
 // The order of a prototype, and its numbers or the name of their file. There is one prototype.
@@ -245,6 +261,17 @@ mod tests {
         assert_eq!(file.order, Prototype::Laid);
         assert!(file.open().is_ok());
         assert!(file.warnings().is_empty());
+    }
+
+    #[test]
+    fn a_rate_is_samples_a_second() {
+        let rate = |text: &str| LineFile::parse("f", text).map(|file| file.rate);
+        assert_eq!(rate("rate = 0.5"), Ok(Some(0.5)));
+        assert_eq!(rate("r = 1"), Ok(None));
+        for wrong in ["", "0", "-1", "x", "inf", "nan"] {
+            let said = rate(&format!("rate = {wrong}")).unwrap_err().to_string();
+            assert!(said.ends_with(": not a number of hertz above 0"), "{said}");
+        }
     }
 
     #[test]

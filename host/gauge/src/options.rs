@@ -3,7 +3,11 @@
 use crate::fault::{Fault, front};
 use crate::nearest::did_you_mean;
 use std::ffi::{OsStr, OsString};
+use std::ops::RangeInclusive;
 use std::os::unix::ffi::OsStrExt;
+
+/// Samples a second that are told apart from a slip.
+pub const RATES: RangeInclusive<f64> = 1e-6..=1e12;
 
 /// The options that were given. Values are bytes as the caller wrote them: a path need not be UTF-8.
 pub struct Options(Vec<(&'static str, OsString)>);
@@ -82,14 +86,23 @@ impl Options {
 
     /// `--rate`: samples a second, if it was given.
     pub fn rate(&self) -> Result<Option<f64>, Fault> {
-        const NAME: &str = "--rate";
-        let Some(value) = self.get(NAME) else {
+        self.number("--rate", RATES, "a number of hertz above 0")
+    }
+
+    /// A number within a range, if it was given.
+    pub fn number(
+        &self,
+        name: &str,
+        range: RangeInclusive<f64>,
+        wanted: &str,
+    ) -> Result<Option<f64>, Fault> {
+        let Some(value) = self.get(name) else {
             return Ok(None);
         };
-        let rate = value.to_str().and_then(|text| text.parse().ok());
-        match rate.filter(|rate| (1e-6..=1e12).contains(rate)) {
-            Some(rate) => Ok(Some(rate)),
-            None => Err(wrong(NAME, value, "a number of hertz above 0")),
+        let number = value.to_str().and_then(|text| text.parse().ok());
+        match number.filter(|number| range.contains(number)) {
+            Some(number) => Ok(Some(number)),
+            None => Err(wrong(name, value, wanted)),
         }
     }
 }

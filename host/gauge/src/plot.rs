@@ -103,8 +103,8 @@ fn ends(levels: &[(f64, f64)], (least, greatest): (f32, f32)) -> Vec<Stretch> {
     runs.filter_map(stretch).collect()
 }
 
-// FROM..TO, either of which may be left out.
-fn range(value: &str) -> Result<Span, Fault> {
+/// FROM..TO, either of which may be left out.
+pub fn range(value: &str) -> Result<Span, Fault> {
     let end = |text: &str, missing: f64| match text {
         "" => Some(missing),
         _ => text.parse().ok().filter(|end: &f64| end.is_finite()),

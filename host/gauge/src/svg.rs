@@ -55,6 +55,8 @@ pub struct Drawing<'a> {
     pub x_name: &'a str,
     /// Whether the axis across counts, so that only whole numbers stand on it.
     pub whole: bool,
+    /// Places on the axis across and the numbers that stand there, where they are not evenly apart.
+    pub ticks: Vec<(f64, String)>,
     /// The part of the axis across that is drawn, where it is not all.
     pub range: Option<Span>,
     /// What the axis upward shows, with its unit.
@@ -131,34 +133,62 @@ fn seen(points: &[(f64, f64)], (low, high): Span) -> &[(f64, f64)] {
     &points[from.saturating_sub(1)..points.len().min(to + 1)]
 }
 
+// The front of a drawing so high.
+fn ground(height: f64) -> String {
+    format!(
+        "<svg xmlns=\"http://www.w3.org/2000/svg\" width=\"{WIDTH}\" height=\"{height}\" viewBox=\"0 0 {WIDTH} {height}\" font-family=\"sans-serif\" font-size=\"14\">\n<rect width=\"{WIDTH}\" height=\"{height}\" fill=\"white\"/>\n"
+    )
+}
+
+/// Drawings one below the other, as one text.
+pub fn stacked(drawings: &[Drawing]) -> String {
+    let frames: Vec<Frame> = drawings.iter().map(Drawing::frame).collect();
+    let height = |frame: &Frame| frame.bottom() + BELOW;
+    let mut svg = ground(frames.iter().map(height).sum());
+    let mut down = 0.0;
+    for (k, (drawing, frame)) in drawings.iter().zip(&frames).enumerate() {
+        svg.push_str(&format!("<g transform=\"translate(0 {down})\">\n"));
+        drawing.add_to(&mut svg, frame, &format!("frame{k}"));
+        svg.push_str("</g>\n");
+        down += height(frame);
+    }
+    svg.push_str("</svg>\n");
+    svg
+}
+
 impl Drawing<'_> {
     /// The drawing as a text. It has a white ground of its own, so that it can be read on a dark page too.
     pub fn svg(&self) -> String {
-        let legend = self.legend();
-        let rows = legend.last().map_or(1, |(_, row, ..)| row + 1);
-        let frame = Frame::of(self, rows);
-        let height = frame.bottom() + BELOW;
-        let mut svg = format!(
-            "<svg xmlns=\"http://www.w3.org/2000/svg\" width=\"{WIDTH}\" height=\"{height}\" viewBox=\"0 0 {WIDTH} {height}\" font-family=\"sans-serif\" font-size=\"14\">\n<rect width=\"{WIDTH}\" height=\"{height}\" fill=\"white\"/>\n"
-        );
-        self.add_names(&mut svg, &frame);
-        add_numbers_across(&mut svg, &frame, self.whole);
-        add_numbers_upward(&mut svg, &frame);
-        self.add_lines(&mut svg, &frame);
-        self.add_frame(&mut svg, &frame);
-        add_ends(&mut svg, &frame, &self.ends);
-        add_cuts(&mut svg, &frame, &self.cuts);
+        let frame = self.frame();
+        let mut svg = ground(frame.bottom() + BELOW);
+        self.add_to(&mut svg, &frame, "frame");
+        svg.push_str("</svg>\n");
+        svg
+    }
+
+    fn frame(&self) -> Frame {
+        let rows = self.legend().last().map_or(1, |(_, row, ..)| row + 1);
+        Frame::of(self, rows)
+    }
+
+    // All of the drawing; the place that it is cut off at has this name.
+    fn add_to(&self, svg: &mut String, frame: &Frame, name: &str) {
+        self.add_names(svg, frame);
+        add_numbers_across(svg, frame, self);
+        add_numbers_upward(svg, frame);
+        self.add_lines(svg, frame, name);
+        self.add_frame(svg, frame);
+        add_ends(svg, frame, &self.ends);
+        add_cuts(svg, frame, &self.cuts);
         if let Some((x, name)) = self.mark {
-            add_mark(&mut svg, &frame, x, name);
+            add_mark(svg, frame, x, name);
         }
         if let Some(note) = &self.note {
             let middle = ((frame.left + RIGHT) / 2.0, frame.top + PLOT_HEIGHT / 2.0);
             let how = format!(" text-anchor=\"middle\" {CLEAR}");
-            add_text(&mut svg, middle, &how, note);
+            add_text(svg, middle, &how, note);
         }
-        add_legend(&mut svg, &legend, frame.left);
-        svg.push_str("</svg>\n");
-        svg
+        add_legend(svg, &self.legend(), frame.left);
     }
 
     fn add_names(&self, svg: &mut String, frame: &Frame) {
@@ -174,9 +204,9 @@ impl Drawing<'_> {
     }
 
     // The series, cut off at the frame.
-    fn add_lines(&self, svg: &mut String, frame: &Frame) {
+    fn add_lines(&self, svg: &mut String, frame: &Frame, name: &str) {
         svg.push_str(&format!(
-            "<clipPath id=\"frame\"><rect {}/></clipPath>\n<g clip-path=\"url(#frame)\">\n",
+            "<clipPath id=\"{name}\"><rect {}/></clipPath>\n<g clip-path=\"url(#{name})\">\n",
             frame.inside()
         ));
         for series in &self.series {
@@ -216,14 +246,18 @@ impl Drawing<'_> {
     }
 }
 
-fn add_numbers_across(svg: &mut String, frame: &Frame, whole: bool) {
+fn add_numbers_across(svg: &mut String, frame: &Frame, drawing: &Drawing) {
     let apart = |ticks: &Ticks| (RIGHT - frame.left) / ticks.at.len().max(1) as f64;
     let fits = |ticks: &Ticks| DIGIT * (ticks.longest() + 2) as f64 <= apart(ticks);
-    let ticks = Ticks::within(frame.x, whole, fits);
-    for x in &ticks.at {
-        let (right, _) = frame.place((*x, frame.y.0));
+    let ticks = Ticks::within(frame.x, drawing.whole, fits);
+    let even = ticks.at.iter().map(|x| (*x, ticks.name(*x)));
+    let named = match drawing.ticks.is_empty() {
+        true => even.collect(),
+        false => drawing.ticks.clone(),
+    };
+    for (x, name) in named {
+        let (right, _) = frame.place((x, frame.y.0));
         add_line(svg, (right, frame.top), (right, frame.bottom()), "#ddd", "");
-        let name = ticks.name(*x);
         // A long number at the edge is moved inward.
         let half = DIGIT * name.len() as f64 / 2.0;
         let place = (right.min(WIDTH - half), frame.bottom() + 20.0);
@@ -460,6 +494,25 @@ mod tests {
         let svg = drawing.svg();
         assert_eq!(svg.matches("height=\"6\"").count(), 2);
         assert!(svg.contains("at the end of the scale") && !svg.contains("a value was cut"));
+    }
+
+    #[test]
+    fn drawings_stand_below_each_other_with_frames_of_their_own() {
+        let drawing = |title| Drawing {
+            title,
+            ticks: vec![(0.0, "here".to_string())],
+            series: vec![series("a", vec![(0.0, 0.0), (1.0, 1.0)])],
+            ..Drawing::default()
+        };
+        let svg = stacked(&[drawing("one"), drawing("two")]);
+        assert_eq!(svg.matches("<svg").count(), 1);
+        assert_eq!(svg.matches(">here<").count(), 2);
+        let height = drawing("one").frame().bottom() + BELOW;
+        assert!(svg.contains(&format!("translate(0 {height})")));
+        for name in ["frame0", "frame1"] {
+            assert!(svg.contains(&format!("<clipPath id=\"{name}\">")));
+            assert!(svg.contains(&format!("url(#{name})")));
+        }
     }
 
     #[test]

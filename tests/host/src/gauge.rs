@@ -2,7 +2,7 @@
 
 use crate::cargo::{cargo, laid_out};
 use crate::support::page::{blocks, examples};
-use crate::support::{command, printed, same, scratch, shown, target};
+use crate::support::{command, printed, read, same, scratch, shown, target};
 use std::env;
 use std::fs;
 use std::path::Path;
@@ -23,11 +23,15 @@ fn examples_of_the_page() {
     printed(&mut cargo("build", "host/gauge"));
     for (page, folder) in [
         ("docs/gauge.md", "gauge"),
+        ("docs/design.md", "design"),
         ("docs/parking.md", "parking"),
         ("docs/sheets.md", "sheets"),
     ] {
         runs(page, &scratch(folder));
     }
+    // The page shows the drawing that its example makes.
+    let drawn = read(target().join("host/design/response.svg"));
+    same("response.svg", &read("docs/response.svg"), &drawn);
 }
 
 fn runs(page: &str, folder: &Path) {

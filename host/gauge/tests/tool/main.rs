@@ -1,6 +1,7 @@
 //! The tool as a fitter runs it.
 
 mod compare;
+mod design;
 mod drawing;
 mod faults;
 mod formats;
@@ -12,7 +13,9 @@ mod pieces;
 mod plan;
 mod random;
 mod range;
+mod response;
 mod scratch;
 mod sheets;
 mod summary;
 mod targets;
+mod tones;

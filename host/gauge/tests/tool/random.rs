@@ -64,7 +64,7 @@ const VALUES: [&str; 32] = [
     "3e38 3e38 3e38 3e38",
 ];
 
-const NAMES: [&str; 12] = [
+const NAMES: [&str; 13] = [
     "stages",
     "r",
     "factor",
@@ -75,6 +75,7 @@ const NAMES: [&str; 12] = [
     "phase",
     "step",
     "prototype",
+    "rate",
     "x",
     "",
 ];
@@ -207,14 +208,18 @@ const OPTIONS: [&str; 40] = [
 
 fn arguments(random: &mut Random) -> Vec<OsString> {
     let command = *random.of(&[
-        "run", "run", "run", "explain", "plot", "help", "version", "rum",
+        "run", "run", "run", "explain", "response", "plot", "help", "version", "rum",
     ]);
     let mut all = vec![OsString::from(command)];
     if random.below(16) > 0 {
         all.push("--settings=a.settings".into());
     }
-    if command != "explain" && random.below(8) > 0 {
+    let reads = !["explain", "response"].contains(&command);
+    if reads && random.below(8) > 0 {
         all.push("a.in".into());
+    }
+    if command == "response" {
+        all.extend(["--points=2", "--stop=0.01"].map(OsString::from));
     }
     for _ in 0..random.below(4) {
         let option = random.of(&OPTIONS).as_bytes().to_vec();
