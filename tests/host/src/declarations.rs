@@ -18,6 +18,7 @@ fn copy(name: &str) -> PathBuf {
         "crates",
         "include",
         "host/gauge-line/src",
+        "host/page/src/declarations.js",
         "host/bindings/refusals.txt",
         "host/bindings/limits.txt",
     ];
@@ -47,10 +48,11 @@ fn said(tree: &Path, (file, old, new): (&str, &str, &str)) -> String {
 
 const RAW_H: &str = "include/gauge_raw.h";
 const RAW_RS: &str = "host/gauge-line/src/raw.rs";
+const JS: &str = "host/page/src/declarations.js";
 const REFUSAL_H: &str = "include/gauge_refusal.h";
 
 // File, text, what takes its place.
-const TRACKED: [(&str, &str, &str); 17] = [
+const TRACKED: [(&str, &str, &str); 19] = [
     (
         RAW_H,
         "uint64_t *taken, uint64_t *written",
@@ -100,6 +102,8 @@ const TRACKED: [(&str, &str, &str); 17] = [
     (RAW_RS, "wanted_depth: u64", "wanted_depth: usize"),
     (RAW_RS, "sum: &mut i32", "sum: &mut i64"),
     (RAW_RS, "ratio: f32,", ""),
+    (JS, "'written: &mut u64'", "'written: u64'"),
+    (JS, "14: ['Step'", "15: ['Step'"),
 ];
 
 #[test]

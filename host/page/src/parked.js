@@ -1,0 +1,145 @@
+// A parked line shown entry by entry, each field with its place, and what is wrong with one that is refused.
+// docs/parking.md has the layout.
+import { Fault } from './fault.js';
+import { STAGE_TAPS, checkParked } from './line.js';
+import { floatText } from './number.js';
+import { entriesOf, pairs, sheetCount } from './sheet.js';
+
+const NAMES = ['settings', 'CIC', 'FIR taps', 'FIR delay', 'half-band delays', 'prototype', 'resampler'];
+// So many numbers of a list stand in a row.
+const ROW = 8;
+
+// An entry, with its numbers by their places in it.
+class Part {
+    constructor(bytes, { offset, size }) {
+        this.at = offset;
+        this.size = size;
+        this.view = new DataView(bytes.buffer, bytes.byteOffset + offset, size);
+    }
+
+    short = (at) => this.view.getUint16(at, true);
+    signed = (at) => this.view.getInt16(at, true);
+    word = (at) => this.view.getUint32(at, true);
+    integer = (at) => this.view.getInt32(at, true);
+    float = (at) => floatText(this.view.getFloat32(at, true));
+}
+
+const SETTINGS = [
+    'CIC stages', 'CIC factor r', 'FIR taps', 'FIR factor', 'half-band depth', 'phases', 'taps of a phase',
+];
+
+const stagesOf = (depth) => {
+    let at = 0;
+    return STAGE_TAPS.slice(0, depth).map((taps) => {
+        const stage = { at, taps };
+        at += 6 + 16 * taps;
+        return stage;
+    });
+};
+
+// How long the numbers of the settings entry make each entry.
+const lengthsOf = (settings) => {
+    const [stages, , taps, , depth, phases, each] = [0, 2, 4, 6, 8, 10, 12].map(settings.short);
+    const halfBand = stagesOf(depth).reduce((sum, stage) => sum + 6 + 16 * stage.taps, 0);
+    return [24, 2 + 8 * stages, 2 * taps, 2 + 2 * taps, halfBand, 4 * phases * each, 4 + 4 * each];
+};
+
+// Why the entries are none of a parked line: their number, or the first that is not as long as the settings make it.
+const wrongLength = (parts) => {
+    if (parts.length !== NAMES.length) {
+        return `${entriesOf(parts.length)}, a parked line has ${NAMES.length}`;
+    }
+    if (parts[0].size !== 24) {
+        return `entry 0, settings, has ${parts[0].size} bytes, not 24`;
+    }
+    const lengths = lengthsOf(parts[0]);
+    const k = parts.findIndex((part, at) => part.size !== lengths[at]);
+    return k < 0 ? null : `entry ${k}, ${NAMES[k]}, has ${parts[k].size} bytes, not ${lengths[k]} as its settings make it`;
+};
+
+// The first number that is out of its range in a line.
+const wrongNumber = (parts) => {
+    const [r, taps, factor] = [2, 4, 6].map(parts[0].short);
+    const [counter, wait] = [parts[1].short(0), parts[3].short(0)];
+    if (counter >= r) {
+        return `sample counter ${counter} is not below r = ${r}`;
+    }
+    if (taps > 0 && (wait < 1 || wait > Math.max(taps, factor))) {
+        return `FIR wait ${wait} is not 1 to ${Math.max(taps, factor)}`;
+    }
+    return 'settings that the opening refuses, or a field that no parking writes';
+};
+
+// Throws what the tool tells where a sheet is none of a parked line.
+const checked = (module, file, bytes, parts) => {
+    try {
+        checkParked(module, bytes);
+    } catch (refused) {
+        const why = refused.number === 21 ? wrongLength(parts) : wrongNumber(parts);
+        throw refused.number ? new Fault(`${file}: refusal ${refused.number}, ${refused.refusal}: ${why}`) : refused;
+    }
+};
+
+// Rows of a list: place, name, numbers.
+const listRows = (part, from, width, count, name, number) => {
+    const rows = [];
+    for (let first = 0; first < count; first += ROW) {
+        const last = Math.min(first + ROW, count) - 1;
+        const numbers = [];
+        for (let at = first; at <= last; at++) {
+            numbers.push(number(from + width * at));
+        }
+        const named = first === last ? `${name} ${first}` : `${name} ${first} to ${last}`;
+        rows.push([part.at + from + width * first, named, numbers.join(' ')]);
+    }
+    return rows;
+};
+
+const settingsRows = (part) => {
+    const rows = SETTINGS.map((name, at) => [part.at + 2 * at, name, String(part.short(2 * at))]);
+    rows.push([part.at + 14, 'phase', part.short(14) === 0 ? '0, wrapped' : '1, straight']);
+    rows.push([part.at + 16, 'step', part.float(16)], [part.at + 20, 'cut values', String(part.word(20))]);
+    return rows;
+};
+
+const halfBandRows = (part, depth) =>
+    stagesOf(depth).flatMap(({ at, taps }, stage) => [
+        [part.at + at, `stage ${stage} values held`, String(part.short(at))],
+        [part.at + at + 2, `stage ${stage} value held`, part.float(at + 2)],
+        ...listRows(part, at + 6, 4, 4 * taps, `stage ${stage} delay`, part.float),
+    ]);
+
+// The rows of every entry, by the numbers of the settings entry.
+const rowsOf = (parts) => {
+    const [stages, , taps, , depth, phases, each] = [0, 2, 4, 6, 8, 10, 12].map(parts[0].short);
+    const [settings, cic, firTaps, firDelay, halfBand, prototype, resampler] = parts;
+    return [
+        settingsRows(settings),
+        [
+            [cic.at, 'sample counter', String(cic.short(0))],
+            ...listRows(cic, 2, 4, stages, 'integrator', cic.integer),
+            ...listRows(cic, 2 + 4 * stages, 4, stages, 'comb', cic.integer),
+        ],
+        listRows(firTaps, 0, 2, taps, 'tap', firTaps.signed),
+        [
+            [firDelay.at, 'wait', String(firDelay.short(0))],
+            ...listRows(firDelay, 2, 2, taps, 'delay', firDelay.signed),
+        ],
+        halfBandRows(halfBand, depth),
+        listRows(prototype, 0, 4, phases * each, 'tap', prototype.float),
+        [[resampler.at, 'mu', resampler.float(0)], ...listRows(resampler, 4, 4, each, 'delay', resampler.float)],
+    ];
+};
+
+// Every entry of a parked line: its name, its bytes and its fields. Nothing where a sheet has too few or too many entries to be one.
+export const parkedShown = (module, file, bytes) => {
+    sheetCount(module, file, bytes);
+    const parts = pairs(bytes).map((pair) => new Part(bytes, pair));
+    if (parts.length !== NAMES.length) {
+        return null;
+    }
+    checked(module, file, bytes, parts);
+    const rows = rowsOf(parts);
+    const entries = parts.map((part, k) => ({ head: `entry ${k}, ${NAMES[k]}: ${part.size} bytes`, rows: rows[k] }));
+    return { head: `a parked line: ${entriesOf(NAMES.length)} in ${bytes.length} bytes`, entries };
+};

@@ -1,0 +1,143 @@
+// The magnitude of a line over frequency: CIC droop, FIR, half-band cascade and resampler, and what its thinning folds
+// down. Worked out from the settings; a tone through the line shows whether it is so.
+import { decimator, halfBandStages } from './line.js';
+
+const TURN = 2 * Math.PI;
+// The images of a value's tone that a resampler can leave.
+const IMAGES = [0, -1, 1, -2, 2, -3, 3];
+// Alias bands that are looked at, from the lowest on.
+const MOST_BANDS = 512;
+const PLACES = 192;
+
+// |sum of weights × e^(-j turns × age)|.
+const magnitude = (weights, turns) => {
+    let [re, im] = [0, 0];
+    for (const [age, weight] of weights) {
+        re += weight * Math.cos(TURN * turns * age);
+        im -= weight * Math.sin(TURN * turns * age);
+    }
+    return Math.hypot(re, im);
+};
+
+// N moving means of r samples, at so many turns a sample.
+const cic = (stages, r, gain) => (turns) => {
+    const below = r * Math.sin(Math.PI * turns);
+    const mean = Math.abs(below) < 1e-12 ? 1 : Math.abs(Math.sin(Math.PI * turns * r) / below);
+    return gain * mean ** stages;
+};
+
+// A half-band stage: half of its middle value, and its taps on both sides, at so many turns of its input.
+const stage = (taps) => (turns) => {
+    const sides = taps.reduce((sum, tap, t) => sum + tap * Math.cos(TURN * turns * (2 * (taps.length - t) - 1)), 0);
+    return Math.abs(0.5 + sides);
+};
+
+// The parts of the way after a value at which outputs fall: those of a step of whole phases, else a fine grid.
+const visited = (phases, step) => {
+    const places = step * phases;
+    const divisor = (a, b) => (b === 0 ? a : divisor(b, a % b));
+    if (Number.isInteger(places)) {
+        const by = divisor(phases, places);
+        return Array.from({ length: phases / by }, (_, k) => (k * by) / phases);
+    }
+    return Array.from({ length: 4 * phases }, (_, k) => (k + 0.5) / (4 * phases));
+};
+
+// The weight of the value t back at a place mu behind the newest one, as the resampler reads its prototype.
+const weight = ({ settings, prototype }, mu, t) => {
+    const phases = Number(settings.phases);
+    const q = (1 - mu) * phases;
+    const straight = settings.phase === 'straight';
+    const p0 = straight ? Math.floor(q) : Math.floor(q) % phases;
+    const at = (p) => prototype[t * phases + (straight ? p : p % phases)] ?? 0;
+    return at(p0) * (1 - (q - p0)) + at(p0 + 1) * (q - p0);
+};
+
+// What a tone of so many turns a value comes to at an image, on average over the places that outputs fall on.
+const resampler = (file) => {
+    const taps = Number(file.settings.phase_taps);
+    const places = visited(Number(file.settings.phases), file.settings.step);
+    const weights = places.flatMap((mu) =>
+        Array.from({ length: taps }, (_, t) => [t + mu, weight(file, mu, t) / places.length, mu]),
+    );
+    return (turns, image) => {
+        let [re, im] = [0, 0];
+        for (const [age, share, mu] of weights) {
+            const angle = TURN * (turns * age + image * mu);
+            re += share * Math.cos(angle);
+            im -= share * Math.sin(angle);
+        }
+        return Math.hypot(re, im);
+    };
+};
+
+const constant = () => 1;
+
+// The sections of a line, each as what a tone of so many turns a sample is multiplied by.
+export const response = (module, file) => {
+    const { settings, taps } = file;
+    const [stages, r, depth] = [settings.stages, settings.r, settings.depth].map(Number);
+    const { gain, bits } = decimator(module, file);
+    const first = cic(stages, r, gain / 2 ** bits);
+    const oldest = taps.length - 1;
+    const weights = taps.map((tap, t) => [oldest - t, tap / 32768]);
+    const fir = taps.length === 0 ? constant : (turns) => magnitude(weights, turns * r);
+    let rate = r * (taps.length === 0 ? 1 : Number(settings.factor));
+    const halving = halfBandStages(module, depth).map((one) => {
+        const [own, at] = [stage(one), rate];
+        rate *= 2;
+        return (turns) => own(turns * at);
+    });
+    const halfBand = (turns) => halving.reduce((all, one) => all * one(turns), 1);
+    const on = settings.phases > 0n;
+    const images = on ? resampler(file) : (turns, image) => (image === 0 ? 1 : 0);
+    return {
+        rate,
+        perLevel: rate * (on ? settings.step : 1),
+        cic: first,
+        fir,
+        halfBand,
+        resampler: (turns) => images(turns * rate, 0),
+        images,
+        front: (turns) => first(turns) * fir(turns) * halfBand(turns),
+    };
+};
+
+// What a tone comes to at its own place in the levels.
+export const whole = (one) => (turns) => one.front(turns) * one.resampler(turns);
+
+// Where a number of turns a level shows, 0 to 1/2.
+export const folded = (turns) => Math.abs(turns - Math.round(turns));
+
+// The strongest of what a tone comes to in the levels, over the images of its value, and where it shows there.
+export const strongest = (one, turns) => {
+    const front = one.front(turns);
+    const near = Math.round(turns * one.rate);
+    const all = IMAGES.map((image) => ({
+        gain: front * one.images(turns * one.rate, image - near),
+        turns: folded((turns * one.rate + image - near) * (one.perLevel / one.rate)),
+    }));
+    return all.reduce((best, each) => (each.gain > best.gain ? each : best));
+};
+
+// For places from 0 to half the rate of levels: the wanted tone there, and the strongest of all that fold to it.
+export const aliases = (one) => {
+    const most = Math.floor(one.perLevel);
+    const bands = Math.min(MOST_BANDS, most);
+    const worst = new Array(PLACES + 1).fill(0);
+    for (let at = 0; at <= (bands + 1) * PLACES; at++) {
+        const turns = (0.5 + at / (2 * PLACES)) / one.perLevel;
+        if (turns <= 0.5) {
+            const found = strongest(one, turns);
+            const place = Math.round(found.turns * 2 * PLACES);
+            worst[place] = Math.max(worst[place], found.gain);
+        }
+    }
+    const places = worst.map((gain, place) => {
+        const turns = place / (2 * PLACES);
+        return { turns, wanted: whole(one)(turns / one.perLevel), alias: gain };
+    });
+    return { places, bands, all: bands === most };
+};
+
+export const decibels = (gain) => 20 * Math.log10(Math.max(gain, 1e-12));
