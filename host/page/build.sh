@@ -27,13 +27,24 @@ with() {
     }"
 }
 
+# The module's exports and what it is compiled of; where they are the same it stays.
+made_of() {
+    cat "$target/targets/made_of" "$from/src/declarations.js" targets/recompile.sh targets/wasm32/multi3.c "$from/build.sh" | sha256sum
+}
+
+compiled() {
+    local words bin=$target/targets/bin
+    targets/recompile.sh wasm32-unknown-unknown "$to/module.o"
+    mapfile -t words < <(exports)
+    PATH=$bin:$PATH "$bin/clang" --target=wasm32-unknown-unknown --no-default-config -std=c99 -O2 -Itargets/wasm32 -nostdlib \
+        -Wl,--no-entry,--strip-all,--export=__heap_base,-z,stack-size=262144 "${words[@]}" targets/wasm32/multi3.c "$to/module.o" -o "$to/gauge.wasm"
+    rm "$to"/module.{o,ll}
+    made_of >"$to/made_of"
+}
+
 mkdir -p "$to"
 targets/module.sh
-bin=$target/targets/bin
-targets/recompile.sh wasm32-unknown-unknown "$to/module.o"
-mapfile -t words < <(exports)
-PATH=$bin:$PATH "$bin/clang" --target=wasm32-unknown-unknown --no-default-config -std=c99 -O2 -Itargets/wasm32 -nostdlib \
-    -Wl,--no-entry,--strip-all,--export=__heap_base,-z,stack-size=262144 "${words[@]}" targets/wasm32/multi3.c "$to/module.o" -o "$to/gauge.wasm"
+[[ -f $to/gauge.wasm && $(made_of) == "$(cat "$to/made_of" 2>/dev/null)" ]] || compiled
 
 mapfile -t modules < <(ordered)
 {
@@ -46,5 +57,5 @@ mapfile -t modules < <(ordered)
 } >"$to/script.js"
 with style "$from/style.css" <"$from/index.html" | with script "$to/script.js" >"$to/gauge.html.new"
 mv "$to/gauge.html.new" "$to/gauge.html"
-rm "$to/script.js" "$to"/module.{o,ll}
+rm "$to/script.js"
 echo "$(shown "$to/gauge.html")  the page: open it in a browser; docs/page.md says what it shows"

@@ -5,9 +5,12 @@ import { decimator, halfBandStages } from './line.js';
 const TURN = 2 * Math.PI;
 // The images of a value's tone that a resampler can leave.
 const IMAGES = [0, -1, 1, -2, 2, -3, 3];
-// Alias bands that are looked at, from the lowest on.
-const MOST_BANDS = 512;
-const PLACES = 192;
+// Bands that thinning folds down, from the lowest on, that are looked at.
+const MOST_BANDS = 256;
+const PLACES = 200;
+// Images that are looked at, in values' rates, and the places of a table for one.
+const REACH = 3;
+const FINE = 512;
 
 // |sum of weights × e^(-j turns × age)|.
 const magnitude = (weights, turns) => {
@@ -93,6 +96,7 @@ export const response = (module, file) => {
     const images = on ? resampler(file) : (turns, image) => (image === 0 ? 1 : 0);
     return {
         rate,
+        resamples: on,
         perLevel: rate * (on ? settings.step : 1),
         cic: first,
         fir,
@@ -120,24 +124,50 @@ export const strongest = (one, turns) => {
     return all.reduce((best, each) => (each.gain > best.gain ? each : best));
 };
 
-// For places from 0 to half the rate of levels: the wanted tone there, and the strongest of all that fold to it.
-export const aliases = (one) => {
-    const most = Math.floor(one.perLevel);
-    const bands = Math.min(MOST_BANDS, most);
-    const worst = new Array(PLACES + 1).fill(0);
-    for (let at = 0; at <= (bands + 1) * PLACES; at++) {
-        const turns = (0.5 + at / (2 * PLACES)) / one.perLevel;
-        if (turns <= 0.5) {
-            const found = strongest(one, turns);
-            const place = Math.round(found.turns * 2 * PLACES);
-            worst[place] = Math.max(worst[place], found.gain);
+// The strongest wave of those that thinning folds to a place of the values' rate, from so many bands away on.
+const foldedFront = (one, place, from) => {
+    let worst = from === 0 ? one.front(place / one.rate) : 0;
+    for (let band = 1; band <= Math.min(MOST_BANDS, one.rate / 2 + 1); band++) {
+        for (const turns of [(band - place) / one.rate, (band + place) / one.rate]) {
+            worst = turns <= 0.5 ? Math.max(worst, one.front(turns)) : worst;
         }
     }
-    const places = worst.map((gain, place) => {
-        const turns = place / (2 * PLACES);
-        return { turns, wanted: whole(one)(turns / one.perLevel), alias: gain };
+    return worst;
+};
+
+// Values of a function from 0 on, at so many places a turn; looked up at the nearest.
+const tabled = (work, end, fine) => {
+    const table = Array.from({ length: end * fine + 1 }, (_, at) => work(at / fine));
+    return (turns) => table[Math.round(turns * fine)];
+};
+
+// The strongest of the images that a resampler leaves at a place of the levels' rate.
+const imaged = (one) => {
+    const step = one.perLevel / one.rate;
+    const image = tabled((turns) => one.images(turns, 0), REACH, FINE);
+    const front = tabled((place) => foldedFront(one, place, 0), 1, FINE / 4);
+    return (place) => {
+        let worst = 0;
+        for (let band = 1; (band + 0.5) / step <= REACH; band++) {
+            for (const turns of [(band - place) / step, (band + place) / step]) {
+                worst = Math.max(worst, image(turns) * front(folded(turns)));
+            }
+        }
+        return worst;
+    };
+};
+
+// For places from 0 to half the rate of levels: the wave that belongs there, and the strongest of all that fold to it.
+export const aliases = (one) => {
+    const images = one.resamples ? imaged(one) : () => 0;
+    const places = Array.from({ length: PLACES + 1 }, (_, at) => {
+        const turns = at / (2 * PLACES);
+        const value = turns * (one.rate / one.perLevel);
+        const thinned = one.images(value, 0) * foldedFront(one, value, 1);
+        const wanted = whole(one)(turns / one.perLevel);
+        return { turns, wanted, alias: Math.max(thinned, images(turns)) };
     });
-    return { places, bands, all: bands === most };
+    return { places, bands: MOST_BANDS, all: one.rate / 2 <= MOST_BANDS };
 };
 
 export const decibels = (gain) => 20 * Math.log10(Math.max(gain, 1e-12));

@@ -1,6 +1,6 @@
 // The response: the sections over the frequency of a wave, what folds down into the levels, and a tone to check it by.
 import { draw, legend } from './chart.js';
-import { floatText, short } from './number.js';
+import { short } from './number.js';
 import { aliases, decibels, response, strongest, whole } from './response.js';
 import { measured } from './tone.js';
 import { at } from './view.js';
@@ -38,7 +38,7 @@ const drawSections = (app, one, unit) => {
     draw(at('sections-chart'), { title: 'Magnitude of each section', x, y: decibelAxis, series, marks });
 };
 
-const tellAliases = (one, { places, bands, all }) => {
+const tellAliases = ({ places, bands, all }) => {
     const inBand = places.filter(({ turns }) => turns <= BAND);
     const worst = Math.max(...inBand.map(({ alias }) => alias));
     const end = inBand[inBand.length - 1].wanted;
@@ -58,7 +58,7 @@ const drawAliases = (one, unit) => {
     legend(at('aliases-legend'), series);
     const x = { from: 0, to: 0.5 * each, name: `frequency in the levels, ${unit.name}` };
     draw(at('aliases-chart'), { title: 'Waves and aliases in the levels', x, y: decibelAxis, series });
-    tellAliases(one, found);
+    tellAliases(found);
 };
 
 // A tone through the proved line beside what the response says of it.
@@ -82,7 +82,7 @@ const tellTone = (app, one, unit) => {
     const shows = `shows at ${short((place / one.perLevel) * unit.each)} ${unit.name}`;
     const said = found === null ? 'too slow to be run here' : `measured ${told(found)}`;
     at('tone-said').textContent = `It ${shows}: computed ${told(gain)}, ${said}. Steps of 16 bits end what can be measured at about −90 dB.`;
-    at('tone-said').dataset.gains = [gain, found ?? NaN].map(floatText).join(' ');
+    at('tone-said').dataset.gains = [gain, found ?? NaN].map((one) => one.toPrecision(6)).join(' ');
 };
 
 export const showResponse = (app) => {
