@@ -1,6 +1,6 @@
 #!/usr/bin/env bash
-# The whole gate: what needs no proof, then proofs, must-fail edits and programs, then the archive: compared with the Rust (seeds as arguments), called from C and Rust, installed, and
-# run on another machine. What was left out is said before the last line, which is rt ci's.
+# The whole gate: what needs no proof, then proofs, must-fail edits and programs, then the archive: compared with the Rust (seeds as arguments), called from C and Rust, installed, put
+# into a page, and run on another machine. What was left out is said before the last line, which is rt ci's.
 set -euo pipefail
 . "$(dirname "$0")/../host/common.sh"
 [[ $target == "$PWD/target" ]] || stop "the gate writes to target/, which rt ci removes first: run it without TARGET"
@@ -23,6 +23,7 @@ export GAUGE_ARCHIVE
 tests/oracle/run.sh "$@"
 tests/host/run.sh
 tests/build/run.sh
+tests/page/run.sh
 targets/run.sh cortex_m4
 awk '!said[$0]++' "$GAUGE_SKIPPED"
 tail -n 1 "$log"

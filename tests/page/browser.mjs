@@ -102,13 +102,31 @@ export class Browser {
 
     // Types into a field, in the place of what stands there.
     async type(id, text) {
+        await this.typed(id, text);
+        await this.settled();
+    }
+
+    async typed(id, text) {
         await this.value(`(document.getElementById('${id}').focus(), document.getElementById('${id}').select())`);
         await (text === '' ? this.key('Delete') : this.send('Input.insertText', { text }));
-        await this.settled();
     }
 
     // Chooses of a list.
     async choose(id, value) {
+        await this.chosen(id, value);
+        await this.settled();
+    }
+
+    // Types and chooses one after the other: a field or a list by each name.
+    async fill(fields) {
+        for (const [id, value] of Object.entries(fields)) {
+            const isList = await this.value(`document.getElementById('${id}').tagName === 'SELECT'`);
+            await (isList ? this.chosen(id, value) : this.typed(id, value));
+        }
+        await this.settled();
+    }
+
+    async chosen(id, value) {
         await this.value(`(() => {
             const list = document.getElementById('${id}');
             list.focus();
@@ -116,7 +134,6 @@ export class Browser {
             list.dispatchEvent(new Event('input', { bubbles: true }));
             list.dispatchEvent(new Event('change', { bubbles: true }));
         })()`);
-        await this.settled();
     }
 
     async key(key) {

@@ -94,10 +94,7 @@ const noise = () => {
 export const typedSettings = async (browser, tool) => {
     await browser.files('file', [tool.file('noise.txt', noise())]);
     for (const fields of TYPED) {
-        await browser.choose('preset', 'mean of four samples');
-        for (const [id, value] of Object.entries(fields)) {
-            await (['order', 'phase'].includes(id) ? browser.choose(id, value) : browser.type(id, value));
-        }
+        await browser.fill({ preset: 'mean of four samples', ...fields });
         same('no fault', '', await browser.text('settings-fault'));
         await compared(browser, tool, ['noise.txt']);
     }

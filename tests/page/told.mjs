@@ -29,10 +29,7 @@ const fileOf = (fields) => {
 
 export const refusals = async (browser, tool) => {
     for (const fields of REFUSED) {
-        await browser.choose('preset', 'mean of four samples');
-        for (const [id, value] of Object.entries(fields)) {
-            await (id === 'order' ? browser.choose(id, value) : browser.type(id, value));
-        }
+        await browser.fill({ preset: 'mean of four samples', ...fields });
         const file = tool.file('refused.settings', fileOf(fields));
         const { err, status } = tool.gauge('explain', file);
         is(`${JSON.stringify(fields)} is refused`, status === 2);
@@ -79,10 +76,7 @@ const RAMPS = [
 
 export const ramps = async (browser, tool) => {
     for (const fields of RAMPS) {
-        await browser.choose('preset', 'mean of four samples');
-        for (const [id, value] of Object.entries(fields)) {
-            await (['order', 'phase'].includes(id) ? browser.choose(id, value) : browser.type(id, value));
-        }
+        await browser.fill({ preset: 'mean of four samples', ...fields });
         const lines = (await explained(browser, tool)).split('\n');
         const at = lines.findIndex((line) => line.startsWith('Ramp: '));
         same(JSON.stringify(fields), lines[at], await browser.text('ramp-said'));
@@ -95,8 +89,7 @@ export const plans = async (browser, tool) => {
     await browser.choose('preset', 'every section, a level every 48 samples');
     const settings = await tool.saved(browser, 'settings', 'gauge.settings');
     for (const [piece, span] of [['64x6', '2'], ['100', '1x5'], ['1x3,500,0', '9x4,0'], ['65536x4096', '7']]) {
-        await browser.type('piece', piece);
-        await browser.type('span', span);
+        await browser.fill({ piece, span });
         const { out } = tool.gauge('plan', settings, '--piece', piece, '--span', span);
         const rows = (await cells(browser, 'plan-table')).slice(1).map((row) => row.join(' '));
         const wanted = out.trim().split('\n');
@@ -105,8 +98,7 @@ export const plans = async (browser, tool) => {
         same(`${piece} ${span}`, verdict, await browser.text('plan-said'));
     }
     for (const [piece, span] of [['1x2', '1x3'], ['65537', '1'], ['1x4097', '1']]) {
-        await browser.type('piece', piece);
-        await browser.type('span', span);
+        await browser.fill({ piece, span });
         const { err } = tool.gauge('plan', settings, '--piece', piece, '--span', span);
         same(`${piece} ${span}`, err.trim().replace(/^gauge: /, '').replace(/; gauge --help.*/, ''), await browser.text('plan-fault'));
     }

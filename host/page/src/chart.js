@@ -38,7 +38,7 @@ const axes = (svg, { x, y }, { inner, across, up, height }) => {
     for (const { at, text } of ticks(x.from, x.to, (inner.right - inner.left) / 90)) {
         const place = across(at);
         svg.append(element('line', { class: 'grid-line', x1: place, x2: place, y1: inner.top, y2: inner.bottom }));
-        svg.append(element('text', { x: place, y: inner.bottom + 16, 'text-anchor': 'middle' }, text));
+        svg.append(element('text', { x: place, y: inner.bottom + 19, 'text-anchor': 'middle' }, text));
     }
     for (const { at, text } of ticks(y.from, y.to, (inner.bottom - inner.top) / 40)) {
         const place = up(at);

@@ -12,8 +12,9 @@ import { showSheet, wireSheets } from './sheetView.js';
 import { showTrace, wireTrace } from './traceView.js';
 import { at } from './view.js';
 
-// Changes that come one behind another are shown once.
-const WAIT = 30;
+// Changes that come one behind another within so many milliseconds are shown once.
+const WAIT = 20;
+const REST = 100;
 
 const decoded = (base64) => Uint8Array.from(atob(base64), (letter) => letter.charCodeAt(0));
 
@@ -34,7 +35,15 @@ const runAgain = (app) => {
     }
 };
 
-const VIEWS = [showTrace, showResponse, showRamp, showPlan, showExport];
+// Levels follow a slider as it moves; the rest is worked out when it rests.
+const AT_ONCE = [showTrace];
+const AT_REST = [showResponse, showRamp, showPlan, showExport];
+
+const shown = (app, views) => {
+    if (app.file) {
+        views.forEach((show) => show(app));
+    }
+};
 
 // Shows what follows from a change, after those that may come right behind it.
 const scheduled = (app, isRun) => {
@@ -46,10 +55,11 @@ const scheduled = (app, isRun) => {
             runAgain(app);
         }
         app.isRun = false;
-        if (app.file) {
-            VIEWS.forEach((show) => show(app));
-        }
-        delete document.body.dataset.busy;
+        shown(app, AT_ONCE);
+        app.timer = setTimeout(() => {
+            shown(app, AT_REST);
+            delete document.body.dataset.busy;
+        }, REST);
     }, WAIT);
 };
 

@@ -12,12 +12,12 @@ const PLACES = 200;
 const REACH = 3;
 const FINE = 512;
 
-// |sum of weights × e^(-j turns × age)|.
-const magnitude = (weights, turns) => {
+// |sum of taps[t] × e^(j turns t)|, by Horner's rule.
+const magnitude = (taps, turns) => {
+    const [cos, sin] = [Math.cos(TURN * turns), Math.sin(TURN * turns)];
     let [re, im] = [0, 0];
-    for (const [age, weight] of weights) {
-        re += weight * Math.cos(TURN * turns * age);
-        im -= weight * Math.sin(TURN * turns * age);
+    for (let t = taps.length - 1; t >= 0; t--) {
+        [re, im] = [re * cos - im * sin + taps[t], re * sin + im * cos];
     }
     return Math.hypot(re, im);
 };
@@ -29,9 +29,16 @@ const cic = (stages, r, gain) => (turns) => {
     return gain * mean ** stages;
 };
 
-// A half-band stage: half of its middle value, and its taps on both sides, at so many turns of its input.
+// A half-band stage: half of its middle value, and its taps on both sides at odd distances, the last tap nearest. The
+// cosine of each distance follows from the two before.
 const stage = (taps) => (turns) => {
-    const sides = taps.reduce((sum, tap, t) => sum + tap * Math.cos(TURN * turns * (2 * (taps.length - t) - 1)), 0);
+    const double = 2 * Math.cos(2 * TURN * turns);
+    let [before, cosine] = [Math.cos(TURN * turns), Math.cos(TURN * turns)];
+    let sides = 0;
+    for (let t = taps.length - 1; t >= 0; t--) {
+        sides += taps[t] * cosine;
+        [before, cosine] = [cosine, double * cosine - before];
+    }
     return Math.abs(0.5 + sides);
 };
 
@@ -82,9 +89,7 @@ export const response = (module, file) => {
     const [stages, r, depth] = [settings.stages, settings.r, settings.depth].map(Number);
     const { gain, bits } = decimator(module, file);
     const first = cic(stages, r, gain / 2 ** bits);
-    const oldest = taps.length - 1;
-    const weights = taps.map((tap, t) => [oldest - t, tap / 32768]);
-    const fir = taps.length === 0 ? constant : (turns) => magnitude(weights, turns * r);
+    const fir = taps.length === 0 ? constant : (turns) => magnitude(taps, turns * r) / 32768;
     let rate = r * (taps.length === 0 ? 1 : Number(settings.factor));
     const halving = halfBandStages(module, depth).map((one) => {
         const [own, at] = [stage(one), rate];

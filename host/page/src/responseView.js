@@ -1,12 +1,15 @@
 // The response: the sections over the frequency of a wave, what folds down into the levels, and a tone to check it by.
 import { draw, legend } from './chart.js';
+import { LIMITS } from './declarations.js';
 import { short } from './number.js';
 import { aliases, decibels, response, strongest, whole } from './response.js';
 import { measured } from './tone.js';
 import { at } from './view.js';
 
 const PLACES = 600;
-const LOWEST = -150;
+// Only the whole of the cascade holds more than this off.
+const LOWEST = -100;
+const LOWEST_OF_ALL = -160;
 // Below half of this part of the levels' rate a passband is told.
 const BAND = 0.4;
 
@@ -16,7 +19,11 @@ const told = (gain) => `${minus(decibels(gain).toFixed(1))} dB`;
 // Frequencies in hertz where the rate is known, else in waves a sample.
 const unitOf = (app) => ({ each: app.rate ?? 1, name: app.rate ? 'Hz' : 'waves a sample' });
 
-const decibelAxis = { from: LOWEST, to: 10, name: 'magnitude, dB' };
+const decibelAxis = ({ settings }) => ({
+    from: settings.depth === BigInt(LIMITS.MOST_DEPTH) ? LOWEST_OF_ALL : LOWEST,
+    to: 10,
+    name: 'magnitude, dB',
+});
 
 const drawSections = (app, one, unit) => {
     const end = at('response-span').value === 'all' ? 0.5 : Math.min(0.5, 8 / one.perLevel);
@@ -35,7 +42,7 @@ const drawSections = (app, one, unit) => {
     const x = { from: 0, to: end * unit.each, name: `frequency, ${unit.name}` };
     const half = 0.5 / one.perLevel;
     const marks = half < end ? [{ at: half * unit.each, text: 'half the rate of levels' }] : [];
-    draw(at('sections-chart'), { title: 'Magnitude of each section', x, y: decibelAxis, series, marks });
+    draw(at('sections-chart'), { title: 'Magnitude of each section', x, y: decibelAxis(app.file), series, marks });
 };
 
 const tellAliases = ({ places, bands, all }) => {
@@ -47,7 +54,7 @@ const tellAliases = ({ places, bands, all }) => {
     at('aliases-said').textContent = `Worst alias into 0 to ${of}: ${told(worst)}. Level at ${of}: ${told(end)}.${looked}`;
 };
 
-const drawAliases = (one, unit) => {
+const drawAliases = (app, one, unit) => {
     const found = aliases(one);
     const each = unit.each / one.perLevel;
     const curve = (gain) => found.places.map((place) => [place.turns * each, decibels(gain(place))]);
@@ -57,7 +64,7 @@ const drawAliases = (one, unit) => {
     ];
     legend(at('aliases-legend'), series);
     const x = { from: 0, to: 0.5 * each, name: `frequency in the levels, ${unit.name}` };
-    draw(at('aliases-chart'), { title: 'Waves and aliases in the levels', x, y: decibelAxis, series });
+    draw(at('aliases-chart'), { title: 'Waves and aliases in the levels', x, y: decibelAxis(app.file), series });
     tellAliases(found);
 };
 
@@ -89,7 +96,7 @@ export const showResponse = (app) => {
     const one = response(app.module, app.file);
     const unit = unitOf(app);
     drawSections(app, one, unit);
-    drawAliases(one, unit);
+    drawAliases(app, one, unit);
     tellTone(app, one, unit);
 };
 

@@ -30,6 +30,9 @@ const PRESETS = {
     'three stages, r = 64: sums come round': { stages: '3', r: '64' },
 };
 
+// The prototypes that the page makes, by the name of their order.
+const MADE = { straight: straightLines, sinc: windowedSinc };
+
 const slider = (name) => document.querySelector(`[data-setting="${name}"] input[type="range"]`);
 
 const toPlace = ({ least, most }, value) => Math.round((PLACES * Math.log(value / least)) / Math.log(most / least));
@@ -42,11 +45,17 @@ const follow = (name) => {
     slider(name).setAttribute('aria-valuetext', at(name).value);
 };
 
+// Numbers that the page makes are not typed over.
+const lock = () => {
+    at('prototype').readOnly = MADE[at('order').value] !== undefined;
+};
+
 const put = (values) => {
     Object.entries(values).forEach(([name, value]) => {
         at(name).value = value;
     });
     NUMBERS.forEach(follow);
+    lock();
 };
 
 const oneLine = (id) => at(id).value.replace(/\s+/g, ' ').trim();
@@ -55,7 +64,7 @@ const oneLine = (id) => at(id).value.replace(/\s+/g, ' ').trim();
 const generated = () => {
     const [phases, taps, step] = ['phases', 'phase_taps', 'step'].map((name) => Number(at(name).value));
     const fits = phases >= 2 && phases <= LIMITS.MOST_PHASES && taps >= 1 && taps <= LIMITS.MOST_PHASE_TAPS && step > 0;
-    const make = { straight: straightLines, sinc: windowedSinc }[at('order').value];
+    const make = MADE[at('order').value];
     return make && fits ? make(phases, taps, step) : null;
 };
 
@@ -82,7 +91,6 @@ export const described = (app) => {
     if (makes) {
         at('prototype').value = rowsOf(makes, Number(at('phases').value), floatText).join('\n');
     }
-    at('prototype').readOnly = ['straight', 'sinc'].includes(at('order').value);
     return lineFile(null, formText(), app);
 };
 
@@ -140,6 +148,7 @@ export const wireSettings = (app) => {
         at('taps').value = new Array(count).fill(Math.min(32767, Math.floor(32768 / count))).join(' ');
         app.settingsChanged();
     });
+    at('order').addEventListener('input', lock);
     for (const id of ['taps', 'prototype', 'phase', 'order']) {
         at(id).addEventListener('input', app.settingsChanged);
     }

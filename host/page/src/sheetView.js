@@ -5,14 +5,14 @@ import { rowsOf } from './settings.js';
 import { listed } from './sheet.js';
 import { at, fill, made } from './view.js';
 
-const table = (heads, rows) => {
-    const made_ = made('table');
+// A table of numbers, or of words, which stand left.
+const table = (heads, rows, kind) => {
+    const element = made('table', '', { class: kind });
     const head = made('tr');
     head.append(...heads.map((text) => made('th', text, { scope: 'col' })));
-    made_.createTHead().append(head);
-    fill(made_.createTBody(), rows);
-    made_.querySelectorAll('td:last-child').forEach((cell) => cell.classList.add('words'));
-    return made_;
+    element.createTHead().append(head);
+    fill(element.createTBody(), rows);
+    return element;
 };
 
 const entry = (head, open) => {
@@ -26,7 +26,8 @@ const entry = (head, open) => {
 const parkedEntries = ({ entries }) =>
     entries.map(({ head, rows }, k) => {
         const details = entry(head, k < 2);
-        details.append(rows.length > 0 ? table(['byte', 'field', 'value'], rows) : made('p', 'The part is off.'));
+        const fields = () => table(['byte', 'field', 'value'], rows, 'words');
+        details.append(rows.length > 0 ? fields() : made('p', 'The part is off.'));
         return details;
     });
 
@@ -37,6 +38,7 @@ const use = (app, words, id, text, also = {}) => {
         at(id).value = text;
         Object.entries(also).forEach(([field, value]) => {
             at(field).value = value;
+            at(field).dispatchEvent(new Event('input'));
         });
         app.settingsChanged();
     });
@@ -68,8 +70,8 @@ export const showSheet = (app, name, bytes) => {
         at('sheet-said').textContent = `${name}: ${parked ? parked.head : sheet.head}`;
         const heads = ['entry', 'offset', 'bytes', 'taps', 'prototype'];
         const rows = sheet.rows.map((row) => [row.k, row.offset, row.size, count(row.taps), count(row.prototype)]);
-        const shown = parked ? parkedEntries(parked) : [table(heads, rows), ...sheet.rows.map((row) => sheetEntry(app, row))];
-        at('sheet-entries').append(...shown);
+        const own = () => [table(heads, rows, 'numbers'), ...sheet.rows.map((row) => sheetEntry(app, row))];
+        at('sheet-entries').append(...(parked ? parkedEntries(parked) : own()));
     } catch (fault) {
         at('sheet-fault').textContent = fault.message;
     }
