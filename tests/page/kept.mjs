@@ -43,21 +43,47 @@ export const tapSheets = async (browser, tool) => {
     same('taps', '8192 8192 8192 8192', tool.gauge('sheet', 'unpack', sheet, '--entry', '0', '--as', 'taps').out.trim().replaceAll('\n', ' '));
 };
 
-// Bytes that are no sheet, or no line.
-const damaged = (tool) => {
-    const parked = tool.read('line.parked');
-    const counter = Buffer.from(parked);
-    counter.writeUInt16LE(9000, parked.readUInt32LE(10));
-    const stages = Buffer.from(parked);
-    stages.writeUInt16LE(2, parked.readUInt32LE(2));
-    return { counter, stages, short: parked.subarray(0, 40), none: Buffer.from([1]), pair: Buffer.from([1, 0, 9, 0, 0, 0, 1, 0, 0, 0, 0, 0]) };
+// A parked line with bytes of an entry changed, for every way in which its fields are refused; and bytes that are no sheet.
+const damaged = (parked) => {
+    const changed = (entry, at, ...bytes) => {
+        const all = Buffer.from(parked);
+        all.set(bytes, parked.readUInt32LE(2 + 8 * entry) + at);
+        return all;
+    };
+    return {
+        counter: changed(1, 0, 0, 4),
+        lengths: changed(0, 0, 9),
+        setting: changed(0, 6, 0, 0),
+        wait: changed(3, 0, 9, 9),
+        held: changed(4, 0, 2),
+        mu: changed(6, 0, 0, 0, 128, 191),
+        phase: changed(0, 14, 2),
+        nan: changed(5, 4, 1, 0, 192, 127),
+        short: parked.subarray(0, 40),
+        none: Buffer.from([1]),
+        pair: Buffer.from([1, 0, 9, 0, 0, 0, 1, 0, 0, 0, 0, 0]),
+    };
+};
+
+const refusedAs = async (browser, tool, name, bytes) => {
+    await browser.drop('drop', [tool.file(`${name}.parked`, bytes)]);
+    const { err, status } = tool.gauge('inspect', `${name}.parked`);
+    is(`${name} is refused`, status === 2);
+    same(name, err.trim(), await browser.text('sheet-fault'));
 };
 
 export const refusedSheets = async (browser, tool) => {
-    for (const [name, bytes] of Object.entries(damaged(tool))) {
-        await browser.drop('drop', [tool.file(`${name}.parked`, bytes)]);
-        same(name, tool.gauge('inspect', `${name}.parked`).err.trim(), await browser.text('sheet-fault'));
+    await browser.choose('preset', EVERY);
+    await tool.saved(browser, 'parked', 'line.parked');
+    for (const [name, bytes] of Object.entries(damaged(tool.read('line.parked')))) {
+        await refusedAs(browser, tool, name, bytes);
     }
+    // Parts that are off, with a number left in one.
+    await browser.choose('preset', 'mean of four samples');
+    await tool.saved(browser, 'parked', 'line.parked');
+    const off = tool.read('line.parked');
+    off.writeUInt16LE(3, off.readUInt32LE(2) + 6);
+    await refusedAs(browser, tool, 'off', off);
 };
 
 const C = `#include "gauge_settings.h"

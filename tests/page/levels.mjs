@@ -100,6 +100,23 @@ export const typedSettings = async (browser, tool) => {
     }
 };
 
+// Floats as text: powers of two, of which some have their shortest digits away from the nearest ones, and their neighbours.
+export const floats = async (browser, tool) => {
+    const bits = [260046848, 1795162112, 1820327936, 1, 0x80000000, 0x7f7fffff, ...Array.from({ length: 58 }, (_, k) => (k + 70) * 0x01ffffff)];
+    const view = new DataView(new ArrayBuffer(4));
+    const numbers = bits.map((one) => {
+        view.setUint32(0, one);
+        return view.getFloat32(0).toPrecision(12);
+    });
+    tool.file('floats.txt', numbers.join('\n'));
+    const { out } = tool.gauge('phases', 'floats.txt', '--by-phase', '--phases', '64', '--phase-taps', '1');
+    const fields = { phases: '64', phase_taps: '1', step: '1', order: 'laid', prototype: numbers.join(' ') };
+    await browser.fill({ preset: 'mean of four samples', ...fields });
+    await tool.saved(browser, 'settings', 'gauge.settings');
+    const saved = tool.read('gauge.settings').toString();
+    same('floats', out.trim().split('\n').join(' '), saved.match(/prototype = (.*)/)[1]);
+};
+
 // A settings file with the files that it names, an entry of a sheet among them.
 export const droppedSettings = async (browser, tool) => {
     tool.file('smooth.taps', '# four\n8192 8192\n8192 8192\n');

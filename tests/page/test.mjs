@@ -30,7 +30,7 @@ const quiet = async (browser) => {
 // In this order: later ones use recordings and files of earlier ones.
 const CHECKS = [
     digest,
-    levels.bundledExample, levels.csvByDrop, levels.wavByDialog, levels.typedSettings, levels.droppedSettings,
+    levels.bundledExample, levels.csvByDrop, levels.wavByDialog, levels.typedSettings, levels.floats, levels.droppedSettings,
     told.refusals, told.ranges, told.ramps, told.plans, told.responses,
     kept.parkedLines, kept.tapSheets, kept.refusedSheets, kept.literals,
     look.labels, look.keyboard, look.sliders, look.pictures,

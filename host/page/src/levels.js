@@ -9,6 +9,7 @@ const rounded = (moment) => (Math.sign(moment) * Math.round(Math.abs(moment) * 1
 // With the moments that levels tell of, in samples, or in seconds where the rate is known.
 export const levelsCsv = (levels, { first, every }, rate) => {
     const unit = rate ?? 1;
-    const rows = Array.from(levels, (level, k) => `${rounded(first / unit + k * (every / unit))},${floatText(level)}\n`);
+    const moment = (k) => rounded(first / unit + k * (every / unit));
+    const rows = Array.from(levels, (level, k) => `${moment(k)},${floatText(level)}\n`);
     return `${rate ? 'seconds' : 'sample'},level\n${rows.join('')}`;
 };

@@ -1,5 +1,5 @@
-// The gauge line over the module: opened, fed, parked, taken up and planned. A line lives in the module's memory for one
-// piece of work; what comes of it is copied out.
+// The gauge line over the module: opened, fed, parked, taken up and planned. A line lives in the module's memory for
+// one piece of work; what comes of it is copied out.
 import { LIMITS } from './declarations.js';
 import { limit, settingOf } from './reason.js';
 import { settingFault } from './settings.js';
@@ -10,8 +10,8 @@ const SPAN = 4096;
 const PIECES = 1024;
 const LONGEST_PIECE = 65536;
 
-// What an opening or a plan is lent: each setting by its name. One that the page has no field for is 0, as in a settings
-// file that doesn't name it.
+// What an opening or a plan is lent: each setting by its name. One that the page has no field for is 0, as in a
+// settings file that doesn't name it.
 const lentSettings = (module, called, { settings, taps, prototype }) => {
     const lists = { taps: module.lend('i16', taps), prototype: module.lend('f32', prototype) };
     const wanted = module.parameters(called).filter((one) => !one.writable);
@@ -55,8 +55,8 @@ const parked = (module, state) => {
     return span.copied(written.value);
 };
 
-// Feeds a piece until all of it is taken and every level that it makes due is written. A place that stays unwritten says
-// so.
+// Feeds a piece until all of it is taken and every level that it makes due is written. A place that stays unwritten
+// says so.
 const feedPiece = (module, lent, piece, levels) => {
     let rest = piece;
     for (;;) {
@@ -139,8 +139,8 @@ export const decimator = (module, { settings }) =>
         return Object.fromEntries(Object.entries(told).map(([name, lent]) => [name, lent.value]));
     });
 
-// Taps of the half-band stages, one side of each filter, in the order in which a decimating cascade runs them; the table
-// has them the other way round.
+// Taps of the half-band stages, one side of each filter, in the order in which a decimating cascade runs them; the
+// table has them the other way round.
 export const STAGE_TAPS = [3, 4, 5, 10, 23];
 
 // The taps of each stage of a depth.

@@ -71,5 +71,6 @@ export const inRust = ({ settings, taps, prototype }) => {
     const body = `${filled(members, '        ')}\n        ..gauge_line::Settings::default()`;
     const settled = `pub fn settings() -> gauge_line::Settings {\n    gauge_line::Settings {\n${body}\n    }\n}\n`;
     const opening = '// let line = gauge_line::Line::open(settings(), &TAPS, &PROTOTYPE)?;';
-    return `${[list('TAPS', 'i16', taps.map(String)), list('PROTOTYPE', 'f32', numbers), settled].join('\n')}\n${opening}\n`;
+    const lists = [list('TAPS', 'i16', taps.map(String)), list('PROTOTYPE', 'f32', numbers)];
+    return `${[...lists, settled, opening].join('\n')}\n`;
 };

@@ -63,13 +63,15 @@ const scheduled = (app, isRun) => {
     }, WAIT);
 };
 
+const WIRES = [wireRecording, wireSettings, wireTrace, wireResponse, wireParts, wireSheets, wireExport];
+
 const wired = (app) => {
     app.samplesChanged = () => scheduled(app, true);
     app.settingsChanged = () => scheduled(app, true);
     app.viewChanged = () => scheduled(app, false);
     app.takeSettings = (name, text) => takeSettings(app, name, text);
     app.showSheet = (name, bytes) => showSheet(app, name, bytes);
-    [wireRecording, wireSettings, wireTrace, wireResponse, wireParts, wireSheets, wireExport].forEach((wire) => wire(app));
+    WIRES.forEach((wire) => wire(app));
     window.addEventListener('resize', app.viewChanged);
 };
 

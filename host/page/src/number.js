@@ -21,11 +21,17 @@ export const floatText = (value) => {
     if (value === 0) {
         return Object.is(value, -0) ? '-0' : '0';
     }
-    let text = '';
-    for (let digits = 0; digits < 9 && Math.fround(Number(text)) !== value; digits++) {
-        text = value.toExponential(digits);
+    const isSame = (text) => Math.fround(Number(text)) === value;
+    for (let digits = 0; ; digits++) {
+        // The nearest with so many digits. At a power of two it may lie below, where the reach of an f32 is half as
+        // wide, and the next away from 0 still be within.
+        const nearest = value.toExponential(digits);
+        const unit = Math.sign(value) * 10 ** (Number(nearest.replace(/.*e/, '')) - digits);
+        const found = [nearest, (Number(nearest) + unit).toExponential(digits)].find(isSame);
+        if (found !== undefined) {
+            return plain(found);
+        }
     }
-    return plain(text);
 };
 
 // "no values", "1 value", "2 values".

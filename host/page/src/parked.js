@@ -1,82 +1,25 @@
 // A parked line shown entry by entry, each field with its place, and what is wrong with one that is refused.
 // docs/parking.md has the layout.
 import { Fault } from './fault.js';
-import { STAGE_TAPS, checkParked } from './line.js';
-import { floatText } from './number.js';
+import { checkParked } from './line.js';
+import { NAMES, Part, stagesOf } from './parkedParts.js';
+import { wrongField, wrongLength } from './parkedFault.js';
 import { entriesOf, pairs, sheetCount } from './sheet.js';
 
-const NAMES = ['settings', 'CIC', 'FIR taps', 'FIR delay', 'half-band delays', 'prototype', 'resampler'];
 // So many numbers of a list stand in a row.
 const ROW = 8;
-
-// An entry, with its numbers by their places in it.
-class Part {
-    constructor(bytes, { offset, size }) {
-        this.at = offset;
-        this.size = size;
-        this.view = new DataView(bytes.buffer, bytes.byteOffset + offset, size);
-    }
-
-    short = (at) => this.view.getUint16(at, true);
-    signed = (at) => this.view.getInt16(at, true);
-    word = (at) => this.view.getUint32(at, true);
-    integer = (at) => this.view.getInt32(at, true);
-    float = (at) => floatText(this.view.getFloat32(at, true));
-}
 
 const SETTINGS = [
     'CIC stages', 'CIC factor r', 'FIR taps', 'FIR factor', 'half-band depth', 'phases', 'taps of a phase',
 ];
-
-const stagesOf = (depth) => {
-    let at = 0;
-    return STAGE_TAPS.slice(0, depth).map((taps) => {
-        const stage = { at, taps };
-        at += 6 + 16 * taps;
-        return stage;
-    });
-};
-
-// How long the numbers of the settings entry make each entry.
-const lengthsOf = (settings) => {
-    const [stages, , taps, , depth, phases, each] = [0, 2, 4, 6, 8, 10, 12].map(settings.short);
-    const halfBand = stagesOf(depth).reduce((sum, stage) => sum + 6 + 16 * stage.taps, 0);
-    return [24, 2 + 8 * stages, 2 * taps, 2 + 2 * taps, halfBand, 4 * phases * each, 4 + 4 * each];
-};
-
-// Why the entries are none of a parked line: their number, or the first that is not as long as the settings make it.
-const wrongLength = (parts) => {
-    if (parts.length !== NAMES.length) {
-        return `${entriesOf(parts.length)}, a parked line has ${NAMES.length}`;
-    }
-    if (parts[0].size !== 24) {
-        return `entry 0, settings, has ${parts[0].size} bytes, not 24`;
-    }
-    const lengths = lengthsOf(parts[0]);
-    const k = parts.findIndex((part, at) => part.size !== lengths[at]);
-    return k < 0 ? null : `entry ${k}, ${NAMES[k]}, has ${parts[k].size} bytes, not ${lengths[k]} as its settings make it`;
-};
-
-// The first number that is out of its range in a line.
-const wrongNumber = (parts) => {
-    const [r, taps, factor] = [2, 4, 6].map(parts[0].short);
-    const [counter, wait] = [parts[1].short(0), parts[3].short(0)];
-    if (counter >= r) {
-        return `sample counter ${counter} is not below r = ${r}`;
-    }
-    if (taps > 0 && (wait < 1 || wait > Math.max(taps, factor))) {
-        return `FIR wait ${wait} is not 1 to ${Math.max(taps, factor)}`;
-    }
-    return 'settings that the opening refuses, or a field that no parking writes';
-};
 
 // Throws what the tool tells where a sheet is none of a parked line.
 const checked = (module, file, bytes, parts) => {
     try {
         checkParked(module, bytes);
     } catch (refused) {
-        const why = refused.number === 21 ? wrongLength(parts) : wrongNumber(parts);
-        throw refused.number ? new Fault(`${file}: refusal ${refused.number}, ${refused.refusal}: ${why}`) : refused;
+        const why = () => (refused.number === 15 ? wrongField(module, parts) : wrongLength(parts));
+        throw refused.number ? new Fault(`${file}: refusal ${refused.number}, ${refused.refusal}: ${why()}`) : refused;
     }
 };
 
@@ -131,7 +74,7 @@ const rowsOf = (parts) => {
     ];
 };
 
-// Every entry of a parked line: its name, its bytes and its fields. Nothing where a sheet has too few or too many entries to be one.
+// Every entry of a parked line: its name, its bytes and its fields. Nothing where a sheet has another number of entries.
 export const parkedShown = (module, file, bytes) => {
     sheetCount(module, file, bytes);
     const parts = pairs(bytes).map((pair) => new Part(bytes, pair));

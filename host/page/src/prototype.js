@@ -17,8 +17,8 @@ export const straightLines = (phases, taps) => {
     return Array.from({ length: phases * taps }, (_, at) => Math.fround(height(at)));
 };
 
-// A sinc under a Hamming window, in natural order, each phase with a gain of 1. It passes what a step over 1 leaves room
-// for.
+// A sinc under a Hamming window, in natural order, each phase with a gain of 1. It passes what a step over 1 leaves
+// room for.
 export const windowedSinc = (phases, taps, step) => {
     const middle = (phases * taps) / 2;
     const cut = Math.min(1, 1 / step);

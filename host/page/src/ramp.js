@@ -71,12 +71,16 @@ const unevenness = (module, file, prototype) => {
 const percent = (part) => (100 * part).toFixed(1);
 
 const STRAIGHT = {
-    whole: 'straight phase reads a prototype in its natural order, one place of each row at a whole step. One that is laid for wrapped phase has other taps there, or none.',
-    other: 'straight phase reads each row forwards while time goes backwards, so only whole steps are even. Wrapped phase with a laid prototype is for the others.',
+    whole: `straight phase reads a prototype in its natural order, one place of each row at a whole step. \
+One that is laid for wrapped phase has other taps there, or none.`,
+    other: `straight phase reads each row forwards while time goes backwards, so only whole steps are even. \
+Wrapped phase with a laid prototype is for the others.`,
 };
 const WRAPPED = {
-    whole: 'a level that falls on a value is drawn on from phases 0 and 1, as if the prototype were straight from value to value.',
-    other: 'past the last phase the reading wraps to phase 0, which belongs one value later. A step of whole 1 / phases reads nothing between phases.',
+    whole: `a level that falls on a value is drawn on from phases 0 and 1, \
+as if the prototype were straight from value to value.`,
+    other: `past the last phase the reading wraps to phase 0, which belongs one value later. \
+A step of whole 1 / phases reads nothing between phases.`,
 };
 
 // What makes levels uneven.
@@ -87,8 +91,8 @@ const matter = (module, file, off) => {
     }
     const natural = unevenness(module, file, laid(file.prototype, Number(phases), Number(taps)));
     if (natural && natural.mean < off.mean / 2) {
-        const off = `off by ${percent(natural.worst)} %, by ${percent(natural.mean)} % on average`;
-        return `taken as \`natural\` and laid, h[(t + 1) * phases - p] at t * phases + p, this prototype would be ${off}.`;
+        const laidAs = 'taken as `natural` and laid, h[(t + 1) * phases - p] at t * phases + p, this prototype';
+        return `${laidAs} would be off by ${percent(natural.worst)} %, by ${percent(natural.mean)} % on average.`;
     }
     return Number.isInteger(step * Number(phases)) ? WRAPPED.whole : WRAPPED.other;
 };

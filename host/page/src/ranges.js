@@ -1,9 +1,6 @@
 // Which samples a line can take, and when a value is cut to 16 bits.
 import { decimator } from './line.js';
 
-// Rounded toward 0, as the tool's division is.
-const divided = (a, b) => a / b;
-
 // The steady values of 16 bits, on both sides of 0, of which a FIR's sum is not cut; without taps all of them.
 const uncutValues = (taps) => {
     const sum = (value) => taps.reduce((all, tap) => all + Math.floor((value * tap) / 32768), 0);
@@ -18,15 +15,16 @@ const uncutValues = (taps) => {
     return inside(0) ? [last(-1, -32768), last(1, 32767)] : [0n, 0n];
 };
 
-// The ranges of samples: where every sum is exact, as the proved decimator tells; where a steady sample's sum keeps to 32
-// bits; where it is not cut to 16 either.
+// The ranges of samples: where every sum is exact, as the proved decimator tells; where a steady sample's sum keeps to
+// 32 bits; where it is not cut to 16 either.
 export const ranges = (module, file) => {
     const told = decimator(module, file);
     const [gain, bits] = [BigInt(told.gain), BigInt(told.bits)];
-    const steady = [divided(-(2n ** 31n), gain), divided(2n ** 31n - 1n, gain)];
+    // Division rounds toward 0.
+    const steady = [-(2n ** 31n) / gain, (2n ** 31n - 1n) / gain];
     const [low, high] = uncutValues(file.taps);
-    const least = divided(low << bits, gain);
-    const greatest = divided(((high + 1n) << bits) - 1n, gain);
+    const least = (low << bits) / gain;
+    const greatest = (((high + 1n) << bits) - 1n) / gain;
     const uncut = [least > steady[0] ? least : steady[0], greatest < steady[1] ? greatest : steady[1]];
     return { bits: told.bits, exact: { least: told.least, greatest: told.greatest }, steady, uncut };
 };

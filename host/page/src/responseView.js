@@ -36,8 +36,10 @@ const drawSections = (app, one, unit) => {
         ['whole line', 'whole', whole(one), true],
     ];
     const place = (k) => (end * k) / PLACES;
-    const curve = (gain) => Array.from({ length: PLACES + 1 }, (_, k) => [place(k) * unit.each, decibels(gain(place(k)))]);
-    const series = parts.filter((part) => part[3]).map(([name, colour, gain]) => ({ name, colour, points: curve(gain) }));
+    const point = (gain, k) => [place(k) * unit.each, decibels(gain(place(k)))];
+    const curve = (gain) => Array.from({ length: PLACES + 1 }, (_, k) => point(gain, k));
+    const on = parts.filter((part) => part[3]);
+    const series = on.map(([name, colour, gain]) => ({ name, colour, points: curve(gain) }));
     legend(at('sections-legend'), series);
     const x = { from: 0, to: end * unit.each, name: `frequency, ${unit.name}` };
     const half = 0.5 / one.perLevel;
@@ -51,7 +53,8 @@ const tellAliases = ({ places, bands, all }) => {
     const end = inBand[inBand.length - 1].wanted;
     const looked = all ? '' : ` Looked at are the lowest ${bands} bands that fold down.`;
     const of = `${BAND} of the rate of levels`;
-    at('aliases-said').textContent = `Worst alias into 0 to ${of}: ${told(worst)}. Level at ${of}: ${told(end)}.${looked}`;
+    const said = `Worst alias into 0 to ${of}: ${told(worst)}. Level at ${of}: ${told(end)}.`;
+    at('aliases-said').textContent = said + looked;
 };
 
 const drawAliases = (app, one, unit) => {
@@ -88,7 +91,8 @@ const tellTone = (app, one, unit) => {
     const found = measured(app.module, app.file, one, turns, height, place);
     const shows = `shows at ${short((place / one.perLevel) * unit.each)} ${unit.name}`;
     const said = found === null ? 'too slow to be run here' : `measured ${told(found)}`;
-    at('tone-said').textContent = `It ${shows}: computed ${told(gain)}, ${said}. Steps of 16 bits end what can be measured at about −90 dB.`;
+    const floor = 'Steps of 16 bits end what can be measured at about −90 dB.';
+    at('tone-said').textContent = `It ${shows}: computed ${told(gain)}, ${said}. ${floor}`;
     at('tone-said').dataset.gains = [gain, found ?? NaN].map((one) => one.toPrecision(6)).join(' ');
 };
 

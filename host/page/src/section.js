@@ -39,8 +39,8 @@ const halfBand = (module, file, from) => {
     return section;
 };
 
-// Phase p is due 1 - p / P behind the newest value, so tap t of it weighs a value t + 1 - p / P old. Straight phase reads
-// places 1 to P of a row, of which the last is the next row's first.
+// Phase p is due 1 - p / P behind the newest value, so tap t of it weighs a value t + 1 - p / P old. Straight phase
+// reads places 1 to P of a row, of which the last is the next row's first.
 const resampler = (file, rate) => {
     const phases = Number(file.settings.phases);
     const weights = Array.from(file.prototype, (tap, at) => {

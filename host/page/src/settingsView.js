@@ -6,8 +6,13 @@ import { floatText } from './number.js';
 import { at, list, made } from './view.js';
 
 const NUMBERS = ['stages', 'r', 'factor', 'depth', 'phases', 'phase_taps', 'step'];
-const MOST = { stages: LIMITS.MOST_STAGES, depth: LIMITS.MOST_DEPTH, phases: LIMITS.MOST_PHASES, phase_taps: LIMITS.MOST_PHASE_TAPS };
-const LEAST = { stages: 1, depth: 0, phases: 0, phase_taps: 1 };
+// Sliders that go by ones: from, to.
+const STEPS = {
+    stages: [1, LIMITS.MOST_STAGES],
+    depth: [0, LIMITS.MOST_DEPTH],
+    phases: [0, LIMITS.MOST_PHASES],
+    phase_taps: [1, LIMITS.MOST_PHASE_TAPS],
+};
 // Sliders by ratio, with this many places.
 const PLACES = 600;
 const RATIOS = {
@@ -16,15 +21,21 @@ const RATIOS = {
     step: { least: LIMITS.LEAST_STEP, most: LIMITS.MOST_STEP, each: LIMITS.LEAST_STEP },
 };
 
-const EQUAL = (count) => new Array(count).fill(32768 / count).join(' ');
-const OFF = { factor: '1', taps: '', depth: '0', phases: '0', phase_taps: '2', step: '1', phase: 'wrapped', order: 'straight', prototype: '' };
+// So many equal taps, together 1, or as near below it as whole numbers of 16 bits come.
+const equalTaps = (count) => new Array(count).fill(Math.min(32767, Math.floor(32768 / count))).join(' ');
+
+// Every part off; a preset sets what differs.
+const OFF = {
+    factor: '1', taps: '', depth: '0', phases: '0', phase_taps: '2', step: '1', phase: 'wrapped', order: 'straight',
+    prototype: '',
+};
 const PRESETS = {
     'tail channel: a level every 15 seconds': {
-        stages: '1', r: '16', taps: EQUAL(8), factor: '4', depth: '1', phases: '16', phase_taps: '2', step: '0.9375',
+        stages: '1', r: '16', taps: equalTaps(8), factor: '4', depth: '1', phases: '16', phase_taps: '2', step: '0.9375',
     },
     'mean of four samples': { stages: '1', r: '4' },
     'every section, a level every 48 samples': {
-        stages: '3', r: '4', taps: EQUAL(4), factor: '2', depth: '2', phases: '2', phase_taps: '2', step: '1.5',
+        stages: '3', r: '4', taps: equalTaps(4), factor: '2', depth: '2', phases: '2', phase_taps: '2', step: '1.5',
         order: 'laid', prototype: '1 0.5 0 0.5',
     },
     'three stages, r = 64: sums come round': { stages: '3', r: '64' },
@@ -36,7 +47,10 @@ const MADE = { straight: straightLines, sinc: windowedSinc };
 const slider = (name) => document.querySelector(`[data-setting="${name}"] input[type="range"]`);
 
 const toPlace = ({ least, most }, value) => Math.round((PLACES * Math.log(value / least)) / Math.log(most / least));
-const fromPlace = ({ least, most, each }, place) => Math.round((least * (most / least) ** (place / PLACES)) / each) * each;
+const fromPlace = ({ least, most, each }, place) => {
+    const value = least * (most / least) ** (place / PLACES);
+    return Math.round(value / each) * each;
+};
 
 // The slider beside a number stands where the number does.
 const follow = (name) => {
@@ -117,8 +131,8 @@ export const takeSettings = (app, name, text) => {
 
 const wireNumbers = (app) => {
     for (const name of NUMBERS) {
-        const bounds = RATIOS[name] ? { min: 0, max: PLACES } : { min: LEAST[name], max: MOST[name] };
-        Object.assign(slider(name), bounds);
+        const [min, max] = STEPS[name] ?? [0, PLACES];
+        Object.assign(slider(name), { min, max });
         slider(name).addEventListener('input', () => {
             const place = Number(slider(name).value);
             at(name).value = RATIOS[name] ? fromPlace(RATIOS[name], place) : place;
@@ -145,7 +159,7 @@ export const wireSettings = (app) => {
     at('form').addEventListener('submit', (event) => event.preventDefault());
     at('fill').addEventListener('click', () => {
         const count = Math.min(LIMITS.MOST_TAPS, Math.max(1, Math.trunc(Number(at('equal').value)) || 1));
-        at('taps').value = new Array(count).fill(Math.min(32767, Math.floor(32768 / count))).join(' ');
+        at('taps').value = equalTaps(count);
         app.settingsChanged();
     });
     at('order').addEventListener('input', lock);

@@ -52,7 +52,8 @@ const sheetEntry = (app, { k, offset, size, taps, prototype }) => {
     }
     if (prototype !== null && prototype.length > 0) {
         const text = rowsOf(prototype, 8, floatText).join('\n');
-        details.append(made('p', `as a prototype: ${text}`), use(app, 'Use as prototype', 'prototype', text, { order: 'laid' }));
+        const button = use(app, 'Use as prototype', 'prototype', text, { order: 'laid' });
+        details.append(made('p', `as a prototype: ${text}`), button);
     }
     return details;
 };

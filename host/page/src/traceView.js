@@ -4,7 +4,7 @@ import { agreement, firstRound, holdingLevels } from './holding.js';
 import { short } from './number.js';
 import { cutFrom } from './ranges.js';
 import { firstLevel, moments, sections, whole } from './section.js';
-import { summary, warnings } from './tally.js';
+import { ends, summary, warnings } from './tally.js';
 import { at, fill, list, unitOf } from './view.js';
 
 const LEVEL = 'level, parts of full scale';
@@ -34,10 +34,9 @@ const traces = (app, unit, x, columns) => {
 
 const heights = (series) => {
     const all = series.flatMap((one) => one.points.map(([, y]) => y)).filter(Number.isFinite);
-    return all.length === 0 ? { from: -1, to: 1 } : roomy(Math.min(...ends(all)), Math.max(...ends(all)));
+    const { least, greatest } = ends(all);
+    return all.length === 0 ? { from: -1, to: 1 } : roomy(least, greatest);
 };
-
-const ends = (numbers) => numbers.reduce(([low, high], one) => [Math.min(low, one), Math.max(high, one)], [Infinity, -Infinity]);
 
 const noteOf = (app) => {
     if (app.samples.length === 0) {
@@ -81,7 +80,8 @@ const tellTables = (app) => {
 const tellHolding = (app, held) => {
     const { first, later } = agreement(app.made.levels, held);
     const of = `${app.made.levels.length} levels`;
-    const agree = later === 0 && first === held.length ? `The two agree in all ${of}` : `The two agree in the first ${first} of ${of}, and in ${later} of those behind them`;
+    const some = `The two agree in the first ${first} of ${of}, and in ${later} of those behind them`;
+    const agree = first === held.length ? `The two agree in all ${of}` : some;
     const round = firstRound(app.samples);
     const minutes = app.rate ? Math.floor(round / app.rate / 60) : 0;
     const when = app.rate ? `, after ${Math.floor(minutes / 60)} h ${String(minutes % 60).padStart(2, '0')} min` : '';
@@ -100,9 +100,10 @@ const drawHolding = (app) => {
     const [right, wrong] = [levelsOf(app.made.levels), levelsOf(held)];
     const y = { ...heights([samples, right, wrong]), name: LEVEL };
     const marks = round > 0 ? [{ at: round / unit.samples, text: 'the sum passes 2^31' }] : [];
-    const background = { colour: 'samples', ...samples };
-    draw(at('right-chart'), { title: 'Levels, sums wrap', x, y, marks, series: [background, { colour: 'levels', ...right }] });
-    draw(at('wrong-chart'), { title: 'Levels, sums hold', x, y, marks, series: [background, { colour: 'wrong', ...wrong }] });
+    const behind = { colour: 'samples', ...samples };
+    const [wraps, holds] = [{ colour: 'levels', ...right }, { colour: 'wrong', ...wrong }];
+    draw(at('right-chart'), { title: 'Levels, sums wrap', x, y, marks, series: [behind, wraps] });
+    draw(at('wrong-chart'), { title: 'Levels, sums hold', x, y, marks, series: [behind, holds] });
 };
 
 // All that follows from a run.
