@@ -40,6 +40,12 @@ export const tapSheets = async (browser, tool) => {
     same('head', `line.sheet: ${list[0]}`, await browser.text('sheet-said'));
     const rows = await browser.value(`Array.from(document.querySelector('#sheet-entries table').rows, (row) => Array.from(row.cells, (cell) => cell.textContent).join(' ')).join('\\n')`);
     same('entries', list.slice(1).map((row) => row.trim().split(/\s+/).join(' ')).join('\n'), rows);
+    await browser.choose('preset', 'mean of four samples');
+    for (const [words, id, numbers] of [['Use as taps', 'taps', '8192 8192 8192 8192'], ['Use as prototype', 'prototype', '1 0.5 0 0.5']]) {
+        await browser.value(`Array.from(document.querySelectorAll('#sheet-entries button')).findLast((one) => one.textContent === '${words}' && one.parentElement.textContent.includes('${numbers}')).click()`);
+        await browser.settled();
+        same(words, numbers, await browser.value(`document.getElementById('${id}').value`));
+    }
     same('taps', '8192 8192 8192 8192', tool.gauge('sheet', 'unpack', sheet, '--entry', '0', '--as', 'taps').out.trim().replaceAll('\n', ' '));
 };
 

@@ -38,6 +38,17 @@ export const sliders = async (browser) => {
     is('the levels changed', (await browser.text('summary')) !== before);
 };
 
+// From and to are the ends of the time axis; All shows all of it.
+export const zoom = async (browser) => {
+    const ticks = () => browser.value(`Array.from(document.querySelectorAll('#trace-chart text[text-anchor="middle"]:not(.name)'), (one) => Number(one.textContent))`);
+    await browser.click('example');
+    await browser.fill({ from: '1', to: '2' });
+    const near = await ticks();
+    is(`${near} are within 1 and 2`, near.length > 1 && near.every((one) => one >= 1 && one <= 2));
+    await browser.click('all');
+    is('all 12 hours', (await ticks()).some((one) => one >= 10));
+};
+
 // The contrast of texts on their ground, as WCAG has it.
 const CONTRAST = `(() => {
     const canvas = document.createElement('canvas').getContext('2d');

@@ -33,7 +33,7 @@ const CHECKS = [
     levels.bundledExample, levels.csvByDrop, levels.wavByDialog, levels.typedSettings, levels.floats, levels.droppedSettings,
     told.refusals, told.ranges, told.ramps, told.plans, told.responses,
     kept.parkedLines, kept.tapSheets, kept.refusedSheets, kept.literals,
-    look.labels, look.keyboard, look.sliders, look.pictures,
+    look.labels, look.keyboard, look.sliders, look.zoom, look.pictures,
     quiet,
 ];
 

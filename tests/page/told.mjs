@@ -59,6 +59,8 @@ export const ranges = async (browser, tool) => {
             is(`${row} is not in\n${text}`, text.includes(row));
         }
         is('values are cut from', text.includes(await browser.text('cuts')));
+        const warning = text.split('\n').find((line) => line.startsWith('Warning: ') && line.includes('gain bits')) ?? '';
+        same('full scale', warning, await browser.text('full-scale'));
         for (const [name, perValue, , gain] of await cells(browser, 'sections')) {
             const row = text.split('\n').find((line) => line.startsWith(name)).split(/\s{2,}/);
             is(`${row} and ${name}, ${perValue}, ${gain}`, row[1] === perValue && row[4] === gain);

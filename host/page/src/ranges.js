@@ -29,6 +29,16 @@ export const ranges = (module, file) => {
     return { bits: told.bits, exact: { least: told.least, greatest: told.greatest }, steady, uncut };
 };
 
+// With more gain bits the greatest sum of 32 bits is, scaled, below 16-bit full scale.
+const FULL_SCALE_GAIN_BITS = 16;
+
+// Where no sample reaches full scale, that is told.
+export const fullScale = ({ bits }) => {
+    const over = `${bits} gain bits are over ${FULL_SCALE_GAIN_BITS}, so no sample reaches 16-bit full scale`;
+    const within = `behind the CIC decimator levels stay within ${2 ** (FULL_SCALE_GAIN_BITS - bits)} of 0`;
+    return bits > FULL_SCALE_GAIN_BITS ? `Warning: ${over}: ${within}.` : '';
+};
+
 // From which steady sample on values are cut, of those whose sum keeps to 32 bits.
 export const cutFrom = ({ steady, uncut }) => {
     const up = uncut[1] < steady[1] ? [`from ${uncut[1] + 1n} up`] : [];

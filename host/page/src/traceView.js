@@ -2,7 +2,7 @@
 import { draw, legend, points, roomy } from './chart.js';
 import { agreement, firstRound, holdingLevels } from './holding.js';
 import { short } from './number.js';
-import { cutFrom } from './ranges.js';
+import { cutFrom, fullScale } from './ranges.js';
 import { firstLevel, moments, sections, whole } from './section.js';
 import { ends, summary, warnings } from './tally.js';
 import { at, fill, list, unitOf } from './view.js';
@@ -71,6 +71,7 @@ const tellTables = (app) => {
         ['steady: and is not cut to 16 bits', ...uncut],
     ]);
     at('cuts').textContent = cutFrom(app.ranges);
+    at('full-scale').textContent = fullScale(app.ranges);
     at('delay-head').textContent = app.rate ? 'delay, seconds' : 'delay, samples';
     const delay = (one) => (Number.isFinite(one.delay) ? short(one.delay / (app.rate ?? 1)) : 'none');
     const all = [...app.sections, app.whole];
