@@ -72,7 +72,7 @@ export class Browser {
     }
 
     async until(expression) {
-        for (let tries = 0; tries < 600; tries++) {
+        for (let tries = 0; tries < 2400; tries++) {
             const is = await this.value(expression).catch(() => false);
             if (is) {
                 return;
@@ -147,8 +147,7 @@ export class Browser {
     async files(id, paths) {
         const { root } = await this.send('DOM.getDocument');
         const { nodeId } = await this.send('DOM.querySelector', { nodeId: root.nodeId, selector: `#${id}` });
-        await this.send('DOM.setFileInputFiles', { nodeId, files: paths });
-        await this.settled();
+        await this.taken(() => this.send('DOM.setFileInputFiles', { nodeId, files: paths }));
     }
 
     // Drops files on an element.
@@ -156,17 +155,26 @@ export class Browser {
         await this.value(`document.getElementById('${id}').scrollIntoView({ block: 'center', behavior: 'instant' })`);
         const box = await this.value(`(({ x, y, width, height }) => ({ x: x + width / 2, y: y + height / 2 }))(document.getElementById('${id}').getBoundingClientRect())`);
         const data = { items: [], files: paths, dragOperationsMask: 1 };
-        for (const type of ['dragEnter', 'dragOver', 'drop']) {
-            await this.send('Input.dispatchDragEvent', { type, ...box, data });
-        }
-        await new Promise((done) => setTimeout(done, 100));
+        await this.taken(async () => {
+            for (const type of ['dragEnter', 'dragOver', 'drop']) {
+                await this.send('Input.dispatchDragEvent', { type, ...box, data });
+            }
+        });
+    }
+
+    // Gives files, and waits until the page has read them.
+    async taken(give) {
+        const before = await this.value(`document.body.dataset.taken`);
+        await give();
+        await this.until(`document.body.dataset.taken !== ${JSON.stringify(before)}`);
         await this.settled();
     }
 
     async look(width, height, scheme) {
         await this.send('Emulation.setDeviceMetricsOverride', { width, height, deviceScaleFactor: 1, mobile: width < 600 });
         await this.send('Emulation.setEmulatedMedia', { features: [{ name: 'prefers-color-scheme', value: scheme }] });
-        await new Promise((done) => setTimeout(done, 150));
+        // A chart that is drawn for its width is drawn anew.
+        await this.until(`((chart) => chart.viewBox.baseVal.width === chart.clientWidth)(document.getElementById('trace-chart'))`);
         await this.settled();
     }
 

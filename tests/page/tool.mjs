@@ -39,7 +39,7 @@ export class Tool {
         rmSync(this.path(name), { force: true });
         await browser.choose('kind', kind);
         await browser.click('save');
-        for (let tries = 0; tries < 200 && !existsSync(this.path(name)); tries++) {
+        for (let tries = 0; tries < 2400 && !existsSync(this.path(name)); tries++) {
             await new Promise((done) => setTimeout(done, 25));
         }
         return this.path(name);

@@ -90,6 +90,8 @@ const take = async (app, files) => {
             }
         });
     }
+    // Reading takes its time: who waits for it sees here that it is done.
+    document.body.dataset.taken = String(Number(document.body.dataset.taken ?? 0) + 1);
 };
 
 const dropping = (app) => {
