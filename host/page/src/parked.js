@@ -74,7 +74,8 @@ const rowsOf = (parts) => {
     ];
 };
 
-// Every entry of a parked line: its name, its bytes and its fields. Nothing where a sheet has another number of entries.
+// Every entry of a parked line: its name, its bytes and its fields. Nothing where a sheet has another number of
+// entries.
 export const parkedShown = (module, file, bytes) => {
     sheetCount(module, file, bytes);
     const parts = pairs(bytes).map((pair) => new Part(bytes, pair));
