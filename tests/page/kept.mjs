@@ -26,6 +26,10 @@ export const parkedLines = async (browser, tool) => {
         await browser.click('park');
         same(`parked, ${preset}`, tool.gauge('inspect', file).out, await inspected(browser));
     }
+    await browser.choose('thinning', 'neighbours');
+    const file = await tool.saved(browser, 'parked', 'line.parked');
+    await browser.click('park');
+    same('parked, neighbours', tool.gauge('inspect', file).out, await inspected(browser));
     const settings = await tool.saved(browser, 'settings', 'gauge.settings');
     const wanted = tool.gauge('run', '--settings', settings, 'noise.txt', '--park', 'tool.parked', '--out', 'out.txt');
     is(wanted.err, wanted.status === 0);

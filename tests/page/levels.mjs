@@ -81,6 +81,7 @@ const TYPED = [
     { stages: '1', r: '2', taps: '', depth: '3', phases: '3', phase_taps: '2', step: '0.1', order: 'rows', prototype: '0 1\n.1 1.1\n.2 1.2' },
     { stages: '4', r: '8', taps: '', depth: '0', phases: '2', phase_taps: '2', step: '64', order: 'natural', prototype: '0 0.5 1 0.5' },
     { stages: '3', r: '64', taps: '', depth: '0', phases: '0' },
+    { stages: '3', r: '32', thinning: 'neighbours', taps: '16384 16384', factor: '2', depth: '1', phases: '0' },
 ];
 
 // Noise of 14 bits, and some samples past every end.

@@ -14,6 +14,7 @@ const REFUSED = [
     { phases: '2', phase_taps: '17', order: 'laid', prototype: '1' },
     { phases: '2', phase_taps: '2', order: 'laid', prototype: '1 2 3' },
     { phases: '2', phase_taps: '1', step: '0', order: 'laid', prototype: '1 0' },
+    { r: '48', thinning: 'neighbours' },
     { r: 'x' },
     { taps: '1 32768', factor: '1' },
 ];

@@ -26,7 +26,7 @@ const array = (head, words, indent, end) => `${head}\n${filled(words, indent)}\n
 // The settings, taps and prototype as C has them, and the opening that takes them.
 export const inC = ({ settings, taps, prototype }) => {
     const { stages, r, factor, depth, phases, phase_taps: each, step, straight } = settings;
-    const members = [`.stages = ${stages}`, `.r = ${r}`];
+    const members = [`.stages = ${stages}`, `.r = ${r}`, ...(settings.thinning === 1 ? ['.thinning = 1'] : [])];
     const parts = ['#include "gauge_line.h"\n'];
     if (taps.length > 0) {
         members.push(`.factor = ${factor}`);
@@ -51,7 +51,8 @@ export const inC = ({ settings, taps, prototype }) => {
 // The same as Rust has them.
 export const inRust = ({ settings, taps, prototype }) => {
     const { stages, r, factor, depth, phases, phase_taps: each, step, phase } = settings;
-    const members = [`stages: ${stages}`, `r: ${r}`];
+    const neighbours = settings.thinning === 1 ? ['thinning: gauge_line::Thinning::Neighbours'] : [];
+    const members = [`stages: ${stages}`, `r: ${r}`, ...neighbours];
     if (taps.length > 0) {
         members.push(`factor: ${factor}`);
     }

@@ -2,7 +2,7 @@
 // docs/parking.md has the layout.
 import { Fault } from './fault.js';
 import { checkParked } from './line.js';
-import { NAMES, Part, stagesOf } from './parkedParts.js';
+import { NAMES, Part, isOfNeighbours, neighboursOf, settingsOf, stagesOf } from './parkedParts.js';
 import { wrongField, wrongLength } from './parkedFault.js';
 import { entriesOf, pairs, sheetCount } from './sheet.js';
 
@@ -55,14 +55,19 @@ const halfBandRows = (part, depth) =>
 // The rows of every entry, by the numbers of the settings entry.
 const rowsOf = (parts) => {
     const [stages, , taps, , depth, phases, each] = [0, 2, 4, 6, 8, 10, 12].map(parts[0].short);
-    const [settings, cic, firTaps, firDelay, halfBand, prototype, resampler] = parts;
+    const [settings, cic, firTaps, firDelay, halfBand, prototype, resampler, neighbours] = parts;
+    const integrators = () => [
+        [cic.at, 'sample counter', String(cic.short(0))],
+        ...listRows(cic, 2, 4, stages, 'integrator', cic.integer),
+        ...listRows(cic, 2 + 4 * stages, 4, stages, 'comb', cic.integer),
+    ];
+    const sums = () => [
+        [neighbours.at, 'place', String(neighbours.short(0))],
+        ...listRows(neighbours, 2, 4, neighboursOf(settingsOf(settings)), 'neighbour', neighbours.integer),
+    ];
     return [
         settingsRows(settings),
-        [
-            [cic.at, 'sample counter', String(cic.short(0))],
-            ...listRows(cic, 2, 4, stages, 'integrator', cic.integer),
-            ...listRows(cic, 2 + 4 * stages, 4, stages, 'comb', cic.integer),
-        ],
+        isOfNeighbours(parts) ? [] : integrators(),
         listRows(firTaps, 0, 2, taps, 'tap', firTaps.signed),
         [
             [firDelay.at, 'wait', String(firDelay.short(0))],
@@ -71,6 +76,7 @@ const rowsOf = (parts) => {
         halfBandRows(halfBand, depth),
         listRows(prototype, 0, 4, phases * each, 'tap', prototype.float),
         [[resampler.at, 'mu', resampler.float(0)], ...listRows(resampler, 4, 4, each, 'delay', resampler.float)],
+        ...(isOfNeighbours(parts) ? [sums()] : []),
     ];
 };
 
@@ -79,11 +85,11 @@ const rowsOf = (parts) => {
 export const parkedShown = (module, file, bytes) => {
     sheetCount(module, file, bytes);
     const parts = pairs(bytes).map((pair) => new Part(bytes, pair));
-    if (parts.length !== NAMES.length) {
+    if (parts.length !== NAMES.length && parts.length !== NAMES.length - 1) {
         return null;
     }
     checked(module, file, bytes, parts);
     const rows = rowsOf(parts);
     const entries = parts.map((part, k) => ({ head: `entry ${k}, ${NAMES[k]}: ${part.size} bytes`, rows: rows[k] }));
-    return { head: `a parked line: ${entriesOf(NAMES.length)} in ${bytes.length} bytes`, entries };
+    return { head: `a parked line: ${entriesOf(parts.length)} in ${bytes.length} bytes`, entries };
 };

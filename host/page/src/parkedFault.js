@@ -1,28 +1,31 @@
 // Why a parked line is refused, in the fields that stand in it and those that are allowed.
 import { run } from './line.js';
 import { floatText } from './number.js';
-import { NAMES, settingsOf, stagesOf } from './parkedParts.js';
+import { NAMES, isOfNeighbours, neighboursOf, settingsOf, stagesOf } from './parkedParts.js';
 import { entriesOf } from './sheet.js';
 
 // The one NaN that parking writes.
 const NAN = 0x7fc00000;
 
 // How long the numbers of the settings entry make each entry.
-const lengthsOf = ({ stages, taps, depth, phases, phaseTaps }) => {
+const lengthsOf = (settings, ofNeighbours) => {
+    const { stages, taps, depth, phases, phaseTaps } = settings;
     const halfBand = stagesOf(depth).reduce((sum, stage) => sum + 6 + 16 * stage.taps, 0);
-    return [24, 2 + 8 * stages, 2 * taps, 2 + 2 * taps, halfBand, 4 * phases * phaseTaps, 4 + 4 * phaseTaps];
+    const behind = [2 * taps, 2 + 2 * taps, halfBand, 4 * phases * phaseTaps, 4 + 4 * phaseTaps];
+    return ofNeighbours ? [24, 0, ...behind, 2 + 4 * neighboursOf(settings)] : [24, 2 + 8 * stages, ...behind];
 };
 
 // Why the entries are none of a parked line: their number, or the first that is not as long as the settings make it.
 export const wrongLength = (parts) => {
-    if (parts.length !== NAMES.length) {
-        return `${entriesOf(parts.length)}, a parked line has ${NAMES.length}`;
+    const most = NAMES.length;
+    if (parts.length !== most && parts.length !== most - 1) {
+        return `${entriesOf(parts.length)}, a parked line has ${most - 1}, or ${most} where neighbours thin`;
     }
     const told = (k, wanted) => `entry ${k}, ${NAMES[k]}, has ${parts[k].size} bytes, not ${wanted}`;
     if (parts[0].size !== 24) {
         return told(0, 24);
     }
-    const lengths = lengthsOf(settingsOf(parts[0]));
+    const lengths = lengthsOf(settingsOf(parts[0]), isOfNeighbours(parts));
     const k = parts.findIndex((part, at) => part.size !== lengths[at]);
     return `${told(k, lengths[k])} as its settings make it`;
 };
@@ -32,6 +35,7 @@ const wrongSetting = (module, parts) => {
     const { taps, phaseTaps, ...own } = settingsOf(parts[0]);
     const whole = ['stages', 'r', 'factor', 'depth', 'phases'].map((name) => [name, BigInt(own[name])]);
     const settings = { ...own, ...Object.fromEntries(whole), phase_taps: BigInt(phaseTaps) };
+    settings.thinning = isOfNeighbours(parts) ? 1 : 0;
     const file = {
         entries: { file: null, lines: 0, named: {} },
         order: 'laid',
@@ -50,7 +54,8 @@ const wrongSetting = (module, parts) => {
 // A number that is out of its range in a line.
 const wrongNumber = (parts) => {
     const { r, taps, factor, depth, phases, straight, step } = settingsOf(parts[0]);
-    const [counter, wait, mu] = [parts[1].short(0), parts[3].short(0), parts[6].number(0)];
+    const place = parts[isOfNeighbours(parts) ? 7 : 1];
+    const [counter, wait, mu] = [place.short(0), parts[3].short(0), parts[6].number(0)];
     const most = Math.max(taps, factor);
     const last = Math.fround(1 + step);
     const held = stagesOf(depth).map(({ at }) => parts[4].short(at));

@@ -2,7 +2,16 @@
 import { STAGE_TAPS } from './line.js';
 import { floatText } from './number.js';
 
-export const NAMES = ['settings', 'CIC', 'FIR taps', 'FIR delay', 'half-band delays', 'prototype', 'resampler'];
+// What the entries are, in their order. The last is there where neighbours thin, and entry 1 is empty then.
+export const NAMES = [
+    'settings', 'CIC', 'FIR taps', 'FIR delay', 'half-band delays', 'prototype', 'resampler', 'neighbours',
+];
+
+// Whether neighbours thin: the number of entries alone says it.
+export const isOfNeighbours = (parts) => parts.length === NAMES.length;
+
+// N for each halving of r, rounded down, that leaves at least 1.
+export const neighboursOf = ({ stages, r }) => stages * Math.floor(Math.log2(Math.max(1, r)));
 
 export class Part {
     constructor(bytes, { offset, size }) {

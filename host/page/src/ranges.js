@@ -33,9 +33,9 @@ export const ranges = (module, file) => {
 const FULL_SCALE_GAIN_BITS = 16;
 
 // Where no sample reaches full scale, that is told.
-export const fullScale = ({ bits }) => {
+export const fullScale = ({ bits }, name) => {
     const over = `${bits} gain bits are over ${FULL_SCALE_GAIN_BITS}, so no sample reaches 16-bit full scale`;
-    const within = `behind the CIC decimator levels stay within ${2 ** (FULL_SCALE_GAIN_BITS - bits)} of 0`;
+    const within = `behind the ${name} levels stay within ${2 ** (FULL_SCALE_GAIN_BITS - bits)} of 0`;
     return bits > FULL_SCALE_GAIN_BITS ? `Warning: ${over}: ${within}.` : '';
 };
 

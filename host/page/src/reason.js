@@ -33,6 +33,11 @@ export const limit = (refusal, file) => {
         const gain = settings.r ** settings.stages;
         return `${settings.r}^${settings.stages} = ${gain} is over 2^${LIMITS.MOST_GAIN_BITS}`;
     }
+    if (refusal === 'PowerOfTwo') {
+        // An opening refuses 0 and what is over 4,096 before that.
+        const below = 2 ** Math.floor(Math.log2(Number(settings.r)));
+        return `a power of two where neighbours thin, as ${below} or ${2 * below}`;
+    }
     if (refusal === 'Taps') {
         return `${taps.length} given, at most ${LIMITS.MOST_TAPS}`;
     }

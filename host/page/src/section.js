@@ -16,7 +16,8 @@ const cic = (module, file) => {
     const [stages, r] = [Number(file.settings.stages), Number(file.settings.r)];
     const { gain, bits } = decimator(module, file);
     const reach = stages * (r - 1);
-    return { name: 'CIC decimator', perValue: r, delay: reach / 2, reach, gain: gain / 2 ** bits };
+    const name = file.settings.thinning === 1 ? 'sums of neighbours' : 'CIC decimator';
+    return { name, perValue: r, delay: reach / 2, reach, gain: gain / 2 ** bits };
 };
 
 // Tap t weighs the value that is T - 1 - t old.

@@ -6,7 +6,8 @@ import { range } from './reason.js';
 import { sheetNumbers } from './sheet.js';
 
 export const NAMES = [
-    'stages', 'r', 'factor', 'taps', 'depth', 'phases', 'phase_taps', 'phase', 'step', 'prototype', 'prototype_rows',
+    'stages', 'r', 'thinning', 'factor', 'taps', 'depth', 'phases', 'phase_taps', 'phase', 'step', 'prototype',
+    'prototype_rows',
 ];
 
 // The kinds of numbers that stand in lists.
@@ -92,11 +93,12 @@ const step = (all) => {
     return special;
 };
 
-const phase = (all) => {
-    const text = all.named.phase?.value ?? 'wrapped';
-    if (text !== 'wrapped' && text !== 'straight') {
-        const hint = didYouMean(text, ['wrapped', 'straight']);
-        throw settingFault(all, 'phase', `not wrapped or straight${strange(text)}${hint}`);
+// A setting of two words, the first where it is not set.
+const either = (all, name, one, other) => {
+    const text = all.named[name]?.value ?? one;
+    if (text !== one && text !== other) {
+        const hint = didYouMean(text, [one, other]);
+        throw settingFault(all, name, `not ${one} or ${other}${strange(text)}${hint}`);
     }
     return text;
 };
@@ -179,7 +181,8 @@ const prototype = (all, given, { phases, phase_taps: taps, phase: read }) => {
 // the module that reads sheets among them.
 export const lineFile = (file, text, given) => {
     const all = entries(file, text);
-    const settings = { phase: phase(all), step: step(all) };
+    const settings = { phase: either(all, 'phase', 'wrapped', 'straight'), step: step(all) };
+    settings.thinning = either(all, 'thinning', 'integrators', 'neighbours') === 'neighbours' ? 1 : 0;
     for (const name of ['stages', 'r', 'factor', 'depth', 'phases', 'phase_taps']) {
         settings[name] = whole(all, name);
     }
@@ -211,6 +214,9 @@ export const rowsOf = (numbers, row, text = String) => {
 // The settings file of a line that was opened: what is off is left out. A setting is one line.
 export const settingsText = ({ settings, taps, prototype: numbers }, title) => {
     const lines = [`# ${title}`, `stages = ${settings.stages}`, `r = ${settings.r}`];
+    if (settings.thinning === 1) {
+        lines.push('thinning = neighbours');
+    }
     if (taps.length > 0) {
         lines.push(`taps = ${taps.join(' ')}`, `factor = ${settings.factor}`);
     }

@@ -27,7 +27,7 @@ const equalTaps = (count) => new Array(count).fill(Math.min(32767, Math.floor(32
 // Every part off; a preset sets what differs.
 const OFF = {
     factor: '1', taps: '', depth: '0', phases: '0', phase_taps: '2', step: '1', phase: 'wrapped', order: 'straight',
-    prototype: '',
+    prototype: '', thinning: 'integrators',
 };
 const PRESETS = {
     'tail channel: a level every 15 seconds': {
@@ -92,7 +92,7 @@ const resamplerLines = () => {
 
 // The form as a settings file.
 const formText = () => {
-    const lines = ['stages', 'r', 'depth'].map((name) => `${name} = ${oneLine(name)}`);
+    const lines = ['stages', 'r', 'thinning', 'depth'].map((name) => `${name} = ${oneLine(name)}`);
     if (oneLine('taps') !== '') {
         lines.push(`taps = ${oneLine('taps')}`, `factor = ${oneLine('factor')}`);
     }
@@ -112,7 +112,7 @@ export const described = (app) => {
 export const tellSettings = (fault) => {
     at('settings-fault').textContent = fault ? fault.message : '';
     const wrong = { prototype_rows: 'prototype' }[fault?.setting] ?? fault?.setting;
-    for (const id of [...NUMBERS, 'taps', 'prototype', 'phase']) {
+    for (const id of [...NUMBERS, 'taps', 'prototype', 'phase', 'thinning']) {
         at(id).setAttribute('aria-invalid', String(id === wrong));
     }
 };
@@ -124,7 +124,8 @@ export const takeSettings = (app, name, text) => {
     const value = (setting, missing) => named[setting]?.value ?? missing;
     const own = Object.fromEntries(NUMBERS.map((setting) => [setting, value(setting, OFF[setting] ?? '0')]));
     const prototype = rowsOf(file.prototype, Math.max(1, Number(file.settings.phases)), floatText).join('\n');
-    put({ ...OFF, ...own, taps: file.taps.join(' '), phase: file.settings.phase, order: 'laid', prototype });
+    const words = { phase: file.settings.phase, thinning: value('thinning', OFF.thinning), order: 'laid' };
+    put({ ...OFF, ...own, ...words, taps: file.taps.join(' '), prototype });
     list(at('settings-warnings'), unseen(file).map((what) => `${name}: ${what}`));
     app.settingsChanged();
 };
@@ -163,7 +164,7 @@ export const wireSettings = (app) => {
         app.settingsChanged();
     });
     at('order').addEventListener('input', lock);
-    for (const id of ['taps', 'prototype', 'phase', 'order']) {
+    for (const id of ['taps', 'prototype', 'phase', 'thinning', 'order']) {
         at(id).addEventListener('input', app.settingsChanged);
     }
     wireNumbers(app);

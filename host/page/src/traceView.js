@@ -71,7 +71,7 @@ const tellTables = (app) => {
         ['steady: and is not cut to 16 bits', ...uncut],
     ]);
     at('cuts').textContent = cutFrom(app.ranges);
-    at('full-scale').textContent = fullScale(app.ranges);
+    at('full-scale').textContent = fullScale(app.ranges, app.sections[0].name);
     at('delay-head').textContent = app.rate ? 'delay, seconds' : 'delay, samples';
     const delay = (one) => (Number.isFinite(one.delay) ? short(one.delay / (app.rate ?? 1)) : 'none');
     const all = [...app.sections, app.whole];
