@@ -1,5 +1,5 @@
 # `make help` prints the commands. Each stands below as NAME: ## HOW LONG | WHAT IT DOES, with the archive made; times are of a machine with two cores.
-.PHONY: all help run test readings host compare bench bench-instructions targets firmware python install review
+.PHONY: all help run test readings host compare bench bench-instructions targets firmware python page install review
 .DELETE_ON_ERROR:
 
 # TARGET: the folder for all that is built; relative names, here and in GAUGE_ARCHIVE, begin at the top of the repository.
@@ -55,6 +55,9 @@ firmware: ## 3 s | the archive for Cortex-M4F, with a table of its code and stac
 
 python: ## 1 s | the package for Python with its shared object, in target/python
 	@python/build.sh
+
+page: ## 5 s | the page, target/page/gauge.html: the proved module in a browser, from disk and with no network
+	@host/page/build.sh
 
 install: ## 5 s | archive, headers, tool, pkg-config and CMake files below PREFIX, /usr/local unless it is given; DESTDIR is put before it
 	@packaging/install.sh "$(PREFIX)" "$(DESTDIR)"

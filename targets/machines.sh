@@ -84,6 +84,6 @@ wasm32_needs() {
 wasm32_prints() {
     targets/recompile.sh wasm32-unknown-unknown "$to/wasm32.o" &&
         PATH=$to/bin:$PATH "$to/bin/clang" --target=wasm32-unknown-unknown --no-default-config "${strict[@]}" -Itargets/wasm32 -nostdlib \
-            -Wl,--no-entry,--export=outputs,-z,stack-size=262144 "${program[@]}" targets/wasm32/runtime.c "$to/wasm32.o" -o "$to/wasm32" &&
+            -Wl,--no-entry,--export=outputs,-z,stack-size=262144 "${program[@]}" targets/wasm32/*.c "$to/wasm32.o" -o "$to/wasm32" &&
         node targets/wasm32/run.mjs "$to/wasm32"
 }

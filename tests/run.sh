@@ -1,5 +1,5 @@
 #!/usr/bin/env bash
-# The whole gate: what needs no proof, then proofs, must-fail edits and programs, then the archive: compared with the Rust (seeds as arguments), called from C, Rust and Python, installed, and
+# The whole gate: what needs no proof, then proofs, must-fail edits and programs, then the archive: compared with the Rust (seeds as arguments), called from C, Rust and Python, installed, put into a page, and
 # run on another machine. What was left out is said before the last line, which is rt ci's.
 set -euo pipefail
 . "$(dirname "$0")/../host/common.sh"
@@ -23,6 +23,7 @@ export GAUGE_ARCHIVE
 tests/oracle/run.sh "$@"
 tests/host/run.sh
 tests/build/run.sh
+tests/page/run.sh
 targets/run.sh cortex_m4
 awk '!said[$0]++' "$GAUGE_SKIPPED"
 tail -n 1 "$log"

@@ -141,5 +141,6 @@ pub struct Function {
 /// What an opening writes: all that it is lent for writing, in that order.
 pub struct State {
     pub name: String,
+    pub opening: String,
     pub fields: Vec<Parameter>,
 }

@@ -47,6 +47,7 @@ impl Exported {
             let writable = function.parameters.iter().filter(|one| one.is_writable());
             states.push(State {
                 name: name.to_string(),
+                opening: function.name.clone(),
                 fields: writable.cloned().collect(),
             });
         }

@@ -1,11 +1,12 @@
-//! What C, Rust and Python see of the archive, printed from what the proved crates declare: the functions of crates/gauge_line, the refusals of crates/refusal, and the limits of all.
+//! What C, Rust, Python and JavaScript see of the archive, printed from what the proved crates declare: the functions of crates/gauge_line, the refusals of crates/refusal, and the limits of all.
 //!
-//! Seven files are printed whole. In the other headers and in refusal.rs the printed parts stand between marks ([`marks`]), beside text that is written by hand.
+//! Eight files are printed whole. In the other headers and in refusal.rs the printed parts stand between marks ([`marks`]), beside text that is written by hand.
 
 mod c;
 mod constants;
 mod declared;
 mod exported;
+mod js;
 mod limits;
 mod marks;
 mod python;
@@ -106,6 +107,10 @@ pub fn printed(root: &Path) -> Result<Vec<Printed>, String> {
         (
             "python/gauge_line/refusals.py",
             python::refusals(&sources.refusals),
+        ),
+        (
+            "host/page/src/declarations.js",
+            js::declarations(&sources.exported, &sources.limits, &sources.refusals)?,
         ),
     ];
     files.extend(whole.map(|(path, text)| Printed {

@@ -19,6 +19,7 @@ fn copy(name: &str) -> PathBuf {
         "include",
         "host/gauge-line/src",
         "python/gauge_line",
+        "host/page/src/declarations.js",
         "host/bindings/refusals.txt",
         "host/bindings/limits.txt",
     ];
@@ -49,10 +50,11 @@ fn said(tree: &Path, (file, old, new): (&str, &str, &str)) -> String {
 const RAW_H: &str = "include/gauge_raw.h";
 const RAW_RS: &str = "host/gauge-line/src/raw.rs";
 const RAW_PY: &str = "python/gauge_line/raw.py";
+const JS: &str = "host/page/src/declarations.js";
 const REFUSAL_H: &str = "include/gauge_refusal.h";
 
 // File, text, what takes its place.
-const TRACKED: [(&str, &str, &str); 21] = [
+const TRACKED: [(&str, &str, &str); 23] = [
     (
         RAW_H,
         "uint64_t *taken, uint64_t *written",
@@ -122,6 +124,8 @@ const TRACKED: [(&str, &str, &str); 21] = [
         "14: (\"Step\"",
         "14: (\"Steps\"",
     ),
+    (JS, "'written: &mut u64'", "'written: u64'"),
+    (JS, "14: ['Step'", "15: ['Step'"),
 ];
 
 #[test]
