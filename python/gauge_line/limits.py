@@ -5,7 +5,7 @@ Printed by host/bindings/run.sh from the constants of crates/.
 
 # Stages of a CIC converter, from 1.
 MOST_STAGES = 8
-# Neighbours of a nonrecursive decimator.
+# Neighbours of a nonrecursive decimator or a line.
 MOST_NEIGHBOURS = 96
 # Factor of a CIC converter or a FIR, from 1.
 MOST_FACTOR = 4096

@@ -28,8 +28,8 @@ class Line:
 
     `taps` are the FIR's, int16 in 32768ths, at most 128; none turn the FIR off. `prototype` is the
     resampler's, float32, phases × phase_taps long, tap t of phase p at t × phases + p:
-    `lay_prototype` lays a filter design so. Both are copied. Raises Refusal 1, 2, 3, 5, 6, 11, 12,
-    13 or 14.
+    `lay_prototype` lays a filter design so. Both are copied. Raises Refusal 1, 2, 23, 3, 5, 6, 11,
+    12, 13 or 14.
 
     Copies and pickles are made by parking: they go on as the line would have.
     """
@@ -84,7 +84,7 @@ class Line:
         call("line_reset", self._state)
 
     def park(self) -> bytes:
-        """The line as a tap sheet of 98 to some 5,600 bytes, which `take_up` goes on from."""
+        """The line as a tap sheet of 98 to 5,640 bytes, which `take_up` goes on from."""
         sheet = np.empty(call("line_parked_len", self._state)["bytes"], np.uint8)
         call("line_park", self._state, span=sheet)
         return sheet.tobytes()

@@ -66,6 +66,8 @@ class Line(Structure):
         ("delay", f32 * limits.MOST_PHASE_TAPS),
         ("prototype", f32 * limits.MOST_PROTOTYPE),
         ("cuts", u32),
+        ("thinning", u64),
+        ("neighbours", i32 * limits.MOST_NEIGHBOURS),
     ]
 
 
@@ -206,13 +208,20 @@ FUNCTIONS = {
         ("integrators", POINTER(i32 * limits.MOST_STAGES)), ("input", i32),
         ("out_buf", POINTER(i32)), ("out_buf_len", u64), ("written", POINTER(u64)),
     ]),
-    "gauge_raw_plan": (u64, [
+    "gauge_raw_cic_interpolator_process_block": (u64, [
+        ("stages", POINTER(u64)), ("r", POINTER(u64)),
+        ("combs", POINTER(i32 * limits.MOST_STAGES)),
+        ("integrators", POINTER(i32 * limits.MOST_STAGES)), ("src", POINTER(i32)),
+        ("src_len", u64), ("dst", POINTER(i32)), ("dst_len", u64), ("taken", POINTER(u64)),
+        ("written", POINTER(u64)),
+    ]),
+    "gauge_raw_plan_3": (u64, [
         ("stages", u64), ("r", u64), ("factor", u64), ("depth", u64), ("phases", u64),
-        ("phase_taps", u64), ("straight", u64), ("step", f32), ("taps", POINTER(i16)),
-        ("taps_len", u64), ("prototype", POINTER(f32)), ("prototype_len", u64),
-        ("pieces", POINTER(u64)), ("pieces_len", u64), ("spans", POINTER(u64)), ("spans_len", u64),
-        ("taken", POINTER(u64)), ("taken_len", u64), ("written", POINTER(u64)),
-        ("written_len", u64),
+        ("phase_taps", u64), ("straight", u64), ("step", f32), ("thinning", u64),
+        ("taps", POINTER(i16)), ("taps_len", u64), ("prototype", POINTER(f32)),
+        ("prototype_len", u64), ("pieces", POINTER(u64)), ("pieces_len", u64),
+        ("spans", POINTER(u64)), ("spans_len", u64), ("taken", POINTER(u64)), ("taken_len", u64),
+        ("written", POINTER(u64)), ("written_len", u64),
     ]),
     "gauge_raw_fir_decimator_new_2": (u64, [
         ("wanted_taps", POINTER(i16)), ("wanted_taps_len", u64), ("wanted_factor", u64),
@@ -231,12 +240,12 @@ FUNCTIONS = {
         ("wait", POINTER(u64)), ("sample", i16), ("made", POINTER(u64)), ("value", POINTER(i16)),
         ("cut", POINTER(u64)),
     ]),
-    "gauge_raw_line_open_2": (u64, [
+    "gauge_raw_line_open_3": (u64, [
         ("wanted_stages", u64), ("wanted_r", u64), ("wanted_factor", u64), ("wanted_depth", u64),
         ("wanted_phases", u64), ("wanted_phase_taps", u64), ("wanted_straight", u64),
-        ("wanted_step", f32), ("wanted_taps", POINTER(i16)), ("wanted_taps_len", u64),
-        ("wanted_prototype", POINTER(f32)), ("wanted_prototype_len", u64),
-        ("stages", POINTER(u64)), ("r", POINTER(u64)),
+        ("wanted_step", f32), ("wanted_thinning", u64), ("wanted_taps", POINTER(i16)),
+        ("wanted_taps_len", u64), ("wanted_prototype", POINTER(f32)),
+        ("wanted_prototype_len", u64), ("stages", POINTER(u64)), ("r", POINTER(u64)),
         ("integrators", POINTER(i32 * limits.MOST_STAGES)),
         ("combs", POINTER(i32 * limits.MOST_STAGES)), ("sample_counter", POINTER(u64)),
         ("taps", POINTER(i16 * limits.MOST_TAPS)), ("tap_count", POINTER(u64)),
@@ -248,6 +257,7 @@ FUNCTIONS = {
         ("mu", POINTER(f32)), ("step", POINTER(f32)),
         ("delay", POINTER(f32 * limits.MOST_PHASE_TAPS)),
         ("prototype", POINTER(f32 * limits.MOST_PROTOTYPE)), ("cuts", POINTER(u32)),
+        ("thinning", POINTER(u64)), ("neighbours", POINTER(i32 * limits.MOST_NEIGHBOURS)),
     ]),
     "gauge_raw_line_reset": (u64, [
         ("stages", POINTER(u64)), ("r", POINTER(u64)),
@@ -262,6 +272,7 @@ FUNCTIONS = {
         ("mu", POINTER(f32)), ("step", POINTER(f32)),
         ("delay", POINTER(f32 * limits.MOST_PHASE_TAPS)),
         ("prototype", POINTER(f32 * limits.MOST_PROTOTYPE)), ("cuts", POINTER(u32)),
+        ("thinning", POINTER(u64)), ("neighbours", POINTER(i32 * limits.MOST_NEIGHBOURS)),
     ]),
     "gauge_raw_line_step": (u64, [
         ("stages", POINTER(u64)), ("r", POINTER(u64)),
@@ -276,6 +287,7 @@ FUNCTIONS = {
         ("mu", POINTER(f32)), ("step", POINTER(f32)),
         ("delay", POINTER(f32 * limits.MOST_PHASE_TAPS)),
         ("prototype", POINTER(f32 * limits.MOST_PROTOTYPE)), ("cuts", POINTER(u32)),
+        ("thinning", POINTER(u64)), ("neighbours", POINTER(i32 * limits.MOST_NEIGHBOURS)),
         ("samples", POINTER(i32)), ("samples_len", u64), ("at", u64), ("places", u64),
         ("taken", POINTER(u64)), ("written", POINTER(u64)), ("value", POINTER(f32)),
     ]),
@@ -292,6 +304,7 @@ FUNCTIONS = {
         ("mu", POINTER(f32)), ("step", POINTER(f32)),
         ("delay", POINTER(f32 * limits.MOST_PHASE_TAPS)),
         ("prototype", POINTER(f32 * limits.MOST_PROTOTYPE)), ("cuts", POINTER(u32)),
+        ("thinning", POINTER(u64)), ("neighbours", POINTER(i32 * limits.MOST_NEIGHBOURS)),
         ("samples", POINTER(i32)), ("samples_len", u64), ("out", POINTER(f32)), ("out_len", u64),
         ("taken", POINTER(u64)), ("written", POINTER(u64)),
     ]),
@@ -453,7 +466,8 @@ FUNCTIONS = {
         ("held", POINTER(f32 * limits.MOST_DEPTH)), ("counts", POINTER(u64 * limits.MOST_DEPTH)),
         ("phases", u64), ("phase_taps", u64), ("straight", u64), ("mu", f32), ("step", f32),
         ("delay", POINTER(f32 * limits.MOST_PHASE_TAPS)),
-        ("prototype", POINTER(f32 * limits.MOST_PROTOTYPE)), ("cuts", u32), ("bytes", POINTER(u64)),
+        ("prototype", POINTER(f32 * limits.MOST_PROTOTYPE)), ("cuts", u32), ("thinning", u64),
+        ("neighbours", POINTER(i32 * limits.MOST_NEIGHBOURS)), ("bytes", POINTER(u64)),
     ]),
     "gauge_raw_line_park": (u64, [
         ("stages", u64), ("r", u64), ("integrators", POINTER(i32 * limits.MOST_STAGES)),
@@ -464,10 +478,11 @@ FUNCTIONS = {
         ("held", POINTER(f32 * limits.MOST_DEPTH)), ("counts", POINTER(u64 * limits.MOST_DEPTH)),
         ("phases", u64), ("phase_taps", u64), ("straight", u64), ("mu", f32), ("step", f32),
         ("delay", POINTER(f32 * limits.MOST_PHASE_TAPS)),
-        ("prototype", POINTER(f32 * limits.MOST_PROTOTYPE)), ("cuts", u32), ("span", POINTER(u8)),
+        ("prototype", POINTER(f32 * limits.MOST_PROTOTYPE)), ("cuts", u32), ("thinning", u64),
+        ("neighbours", POINTER(i32 * limits.MOST_NEIGHBOURS)), ("span", POINTER(u8)),
         ("span_len", u64), ("written", POINTER(u64)),
     ]),
-    "gauge_raw_line_take_up_2": (u64, [
+    "gauge_raw_line_take_up_3": (u64, [
         ("bytes", POINTER(u8)), ("bytes_len", u64), ("stages", POINTER(u64)), ("r", POINTER(u64)),
         ("integrators", POINTER(i32 * limits.MOST_STAGES)),
         ("combs", POINTER(i32 * limits.MOST_STAGES)), ("sample_counter", POINTER(u64)),
@@ -480,6 +495,7 @@ FUNCTIONS = {
         ("mu", POINTER(f32)), ("step", POINTER(f32)),
         ("delay", POINTER(f32 * limits.MOST_PHASE_TAPS)),
         ("prototype", POINTER(f32 * limits.MOST_PROTOTYPE)), ("cuts", POINTER(u32)),
+        ("thinning", POINTER(u64)), ("neighbours", POINTER(i32 * limits.MOST_NEIGHBOURS)),
     ]),
     "gauge_raw_polyphase_resamp_from_taps": (u64, [
         ("wanted_phases", u64), ("wanted_taps", u64), ("wanted_prototype", POINTER(f32)),

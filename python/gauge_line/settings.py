@@ -33,6 +33,9 @@ class Settings:
     straight: bool = False
     #: Values into the resampler for each one out of it, 1/64 to 64; a float32 exactly.
     step: float = 1.0
+    #: What thins by r: integrators and combs, or, where it is true, sums of neighbours, for which r
+    #: is a power of two. Both give the same levels.
+    thinning: bool = False
 
     def crossing(self, prefix: str = "") -> dict[str, Any]:
         """The settings by the names of the archive's parameters, which begin with the prefix."""

@@ -149,6 +149,7 @@ fn line_file(wish: &Wish, plan: &Plan, taps: Vec<i16>) -> LineFile {
         } else {
             plan.step as f32 / PARTS as f32
         },
+        ..Settings::default()
     };
     LineFile::parked(Path::new("the design"), settings, taps, prototype)
 }

@@ -9,7 +9,7 @@ use std::os::unix::ffi::OsStrExt;
 use std::path::{Path, PathBuf};
 
 /// Every name that a settings file may set.
-pub const NAMES: [&str; 12] = [
+pub const NAMES: [&str; 13] = [
     "stages",
     "r",
     "thinning",

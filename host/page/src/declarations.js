@@ -6,7 +6,7 @@
 export const LIMITS = {
     // Stages of a CIC converter, from 1.
     MOST_STAGES: 8,
-    // Neighbours of a nonrecursive decimator.
+    // Neighbours of a nonrecursive decimator or a line.
     MOST_NEIGHBOURS: 96,
     // Factor of a CIC converter or a FIR, from 1.
     MOST_FACTOR: 4096,
@@ -99,10 +99,14 @@ export const FUNCTIONS = {
         'stages: &mut u64', 'r: &mut u64', 'combs: &mut [i32; MOST_STAGES]', 'integrators: &mut [i32; MOST_STAGES]',
         'input: i32', 'out_buf: &mut [i32]', 'written: &mut u64',
     ],
-    gauge_raw_plan: [
+    gauge_raw_cic_interpolator_process_block: [
+        'stages: &mut u64', 'r: &mut u64', 'combs: &mut [i32; MOST_STAGES]', 'integrators: &mut [i32; MOST_STAGES]',
+        'src: &[i32]', 'dst: &mut [i32]', 'taken: &mut u64', 'written: &mut u64',
+    ],
+    gauge_raw_plan_3: [
         'stages: u64', 'r: u64', 'factor: u64', 'depth: u64', 'phases: u64', 'phase_taps: u64', 'straight: u64',
-        'step: f32', 'taps: &[i16]', 'prototype: &[f32]', 'pieces: &[u64]', 'spans: &[u64]', 'taken: &mut [u64]',
-        'written: &mut [u64]',
+        'step: f32', 'thinning: u64', 'taps: &[i16]', 'prototype: &[f32]', 'pieces: &[u64]', 'spans: &[u64]',
+        'taken: &mut [u64]', 'written: &mut [u64]',
     ],
     gauge_raw_fir_decimator_new_2: [
         'wanted_taps: &[i16]', 'wanted_factor: u64', 'taps: &mut [i16; MOST_TAPS]', 'tap_count: &mut u64',
@@ -116,16 +120,17 @@ export const FUNCTIONS = {
         'taps: &mut [i16; MOST_TAPS]', 'tap_count: &mut u64', 'factor: &mut u64', 'delay: &mut [i16; MOST_TAPS]',
         'wait: &mut u64', 'sample: i16', 'made: &mut u64', 'value: &mut i16', 'cut: &mut u64',
     ],
-    gauge_raw_line_open_2: [
+    gauge_raw_line_open_3: [
         'wanted_stages: u64', 'wanted_r: u64', 'wanted_factor: u64', 'wanted_depth: u64', 'wanted_phases: u64',
-        'wanted_phase_taps: u64', 'wanted_straight: u64', 'wanted_step: f32', 'wanted_taps: &[i16]',
-        'wanted_prototype: &[f32]', 'stages: &mut u64', 'r: &mut u64', 'integrators: &mut [i32; MOST_STAGES]',
-        'combs: &mut [i32; MOST_STAGES]', 'sample_counter: &mut u64', 'taps: &mut [i16; MOST_TAPS]',
-        'tap_count: &mut u64', 'factor: &mut u64', 'fir_delay: &mut [i16; MOST_TAPS]', 'wait: &mut u64',
-        'depth: &mut u64', 'delays: &mut [f32; HBF_DEC_DELAYS]', 'held: &mut [f32; MOST_DEPTH]',
+        'wanted_phase_taps: u64', 'wanted_straight: u64', 'wanted_step: f32', 'wanted_thinning: u64',
+        'wanted_taps: &[i16]', 'wanted_prototype: &[f32]', 'stages: &mut u64', 'r: &mut u64',
+        'integrators: &mut [i32; MOST_STAGES]', 'combs: &mut [i32; MOST_STAGES]', 'sample_counter: &mut u64',
+        'taps: &mut [i16; MOST_TAPS]', 'tap_count: &mut u64', 'factor: &mut u64', 'fir_delay: &mut [i16; MOST_TAPS]',
+        'wait: &mut u64', 'depth: &mut u64', 'delays: &mut [f32; HBF_DEC_DELAYS]', 'held: &mut [f32; MOST_DEPTH]',
         'counts: &mut [u64; MOST_DEPTH]', 'phases: &mut u64', 'phase_taps: &mut u64', 'straight: &mut u64',
         'mu: &mut f32', 'step: &mut f32', 'delay: &mut [f32; MOST_PHASE_TAPS]',
-        'prototype: &mut [f32; MOST_PROTOTYPE]', 'cuts: &mut u32',
+        'prototype: &mut [f32; MOST_PROTOTYPE]', 'cuts: &mut u32', 'thinning: &mut u64',
+        'neighbours: &mut [i32; MOST_NEIGHBOURS]',
     ],
     gauge_raw_line_reset: [
         'stages: &mut u64', 'r: &mut u64', 'integrators: &mut [i32; MOST_STAGES]', 'combs: &mut [i32; MOST_STAGES]',
@@ -133,7 +138,8 @@ export const FUNCTIONS = {
         'fir_delay: &mut [i16; MOST_TAPS]', 'wait: &mut u64', 'depth: &mut u64', 'delays: &mut [f32; HBF_DEC_DELAYS]',
         'held: &mut [f32; MOST_DEPTH]', 'counts: &mut [u64; MOST_DEPTH]', 'phases: &mut u64', 'phase_taps: &mut u64',
         'straight: &mut u64', 'mu: &mut f32', 'step: &mut f32', 'delay: &mut [f32; MOST_PHASE_TAPS]',
-        'prototype: &mut [f32; MOST_PROTOTYPE]', 'cuts: &mut u32',
+        'prototype: &mut [f32; MOST_PROTOTYPE]', 'cuts: &mut u32', 'thinning: &mut u64',
+        'neighbours: &mut [i32; MOST_NEIGHBOURS]',
     ],
     gauge_raw_line_step: [
         'stages: &mut u64', 'r: &mut u64', 'integrators: &mut [i32; MOST_STAGES]', 'combs: &mut [i32; MOST_STAGES]',
@@ -141,8 +147,9 @@ export const FUNCTIONS = {
         'fir_delay: &mut [i16; MOST_TAPS]', 'wait: &mut u64', 'depth: &mut u64', 'delays: &mut [f32; HBF_DEC_DELAYS]',
         'held: &mut [f32; MOST_DEPTH]', 'counts: &mut [u64; MOST_DEPTH]', 'phases: &mut u64', 'phase_taps: &mut u64',
         'straight: &mut u64', 'mu: &mut f32', 'step: &mut f32', 'delay: &mut [f32; MOST_PHASE_TAPS]',
-        'prototype: &mut [f32; MOST_PROTOTYPE]', 'cuts: &mut u32', 'samples: &[i32]', 'at: u64', 'places: u64',
-        'taken: &mut u64', 'written: &mut u64', 'value: &mut f32',
+        'prototype: &mut [f32; MOST_PROTOTYPE]', 'cuts: &mut u32', 'thinning: &mut u64',
+        'neighbours: &mut [i32; MOST_NEIGHBOURS]', 'samples: &[i32]', 'at: u64', 'places: u64', 'taken: &mut u64',
+        'written: &mut u64', 'value: &mut f32',
     ],
     gauge_raw_line_feed: [
         'stages: &mut u64', 'r: &mut u64', 'integrators: &mut [i32; MOST_STAGES]', 'combs: &mut [i32; MOST_STAGES]',
@@ -150,8 +157,9 @@ export const FUNCTIONS = {
         'fir_delay: &mut [i16; MOST_TAPS]', 'wait: &mut u64', 'depth: &mut u64', 'delays: &mut [f32; HBF_DEC_DELAYS]',
         'held: &mut [f32; MOST_DEPTH]', 'counts: &mut [u64; MOST_DEPTH]', 'phases: &mut u64', 'phase_taps: &mut u64',
         'straight: &mut u64', 'mu: &mut f32', 'step: &mut f32', 'delay: &mut [f32; MOST_PHASE_TAPS]',
-        'prototype: &mut [f32; MOST_PROTOTYPE]', 'cuts: &mut u32', 'samples: &[i32]', 'out: &mut [f32]',
-        'taken: &mut u64', 'written: &mut u64',
+        'prototype: &mut [f32; MOST_PROTOTYPE]', 'cuts: &mut u32', 'thinning: &mut u64',
+        'neighbours: &mut [i32; MOST_NEIGHBOURS]', 'samples: &[i32]', 'out: &mut [f32]', 'taken: &mut u64',
+        'written: &mut u64',
     ],
     gauge_raw_hbf_dec_new: [
         'taps: &[f32]', 'm: &mut u64', 'coeffs: &mut [f32; MOST_HALF_BAND_TAPS]', 'delay: &mut [f32; HBF_DEC_DELAY]',
@@ -260,7 +268,7 @@ export const FUNCTIONS = {
         'fir_delay: &[i16; MOST_TAPS]', 'wait: u64', 'depth: u64', 'delays: &[f32; HBF_DEC_DELAYS]',
         'held: &[f32; MOST_DEPTH]', 'counts: &[u64; MOST_DEPTH]', 'phases: u64', 'phase_taps: u64', 'straight: u64',
         'mu: f32', 'step: f32', 'delay: &[f32; MOST_PHASE_TAPS]', 'prototype: &[f32; MOST_PROTOTYPE]', 'cuts: u32',
-        'bytes: &mut u64',
+        'thinning: u64', 'neighbours: &[i32; MOST_NEIGHBOURS]', 'bytes: &mut u64',
     ],
     gauge_raw_line_park: [
         'stages: u64', 'r: u64', 'integrators: &[i32; MOST_STAGES]', 'combs: &[i32; MOST_STAGES]',
@@ -268,16 +276,17 @@ export const FUNCTIONS = {
         'fir_delay: &[i16; MOST_TAPS]', 'wait: u64', 'depth: u64', 'delays: &[f32; HBF_DEC_DELAYS]',
         'held: &[f32; MOST_DEPTH]', 'counts: &[u64; MOST_DEPTH]', 'phases: u64', 'phase_taps: u64', 'straight: u64',
         'mu: f32', 'step: f32', 'delay: &[f32; MOST_PHASE_TAPS]', 'prototype: &[f32; MOST_PROTOTYPE]', 'cuts: u32',
-        'span: &mut [u8]', 'written: &mut u64',
+        'thinning: u64', 'neighbours: &[i32; MOST_NEIGHBOURS]', 'span: &mut [u8]', 'written: &mut u64',
     ],
-    gauge_raw_line_take_up_2: [
+    gauge_raw_line_take_up_3: [
         'bytes: &[u8]', 'stages: &mut u64', 'r: &mut u64', 'integrators: &mut [i32; MOST_STAGES]',
         'combs: &mut [i32; MOST_STAGES]', 'sample_counter: &mut u64', 'taps: &mut [i16; MOST_TAPS]',
         'tap_count: &mut u64', 'factor: &mut u64', 'fir_delay: &mut [i16; MOST_TAPS]', 'wait: &mut u64',
         'depth: &mut u64', 'delays: &mut [f32; HBF_DEC_DELAYS]', 'held: &mut [f32; MOST_DEPTH]',
         'counts: &mut [u64; MOST_DEPTH]', 'phases: &mut u64', 'phase_taps: &mut u64', 'straight: &mut u64',
         'mu: &mut f32', 'step: &mut f32', 'delay: &mut [f32; MOST_PHASE_TAPS]',
-        'prototype: &mut [f32; MOST_PROTOTYPE]', 'cuts: &mut u32',
+        'prototype: &mut [f32; MOST_PROTOTYPE]', 'cuts: &mut u32', 'thinning: &mut u64',
+        'neighbours: &mut [i32; MOST_NEIGHBOURS]',
     ],
     gauge_raw_polyphase_resamp_from_taps: [
         'wanted_phases: u64', 'wanted_taps: u64', 'wanted_prototype: &[f32]', 'wanted_step: f32', 'phases: &mut u64',
@@ -337,7 +346,7 @@ export const STATES = {
     cic_decimator: 'gauge_raw_cic_decimator_new',
     cic_interpolator: 'gauge_raw_cic_interpolator_new',
     fir_decimator: 'gauge_raw_fir_decimator_new_2',
-    line: 'gauge_raw_line_open_2',
+    line: 'gauge_raw_line_open_3',
     hbf_dec: 'gauge_raw_hbf_dec_new',
     hbf_dec_cascade: 'gauge_raw_hbf_dec_cascade_new',
     hbf_dec_cascade_98: 'gauge_raw_hbf_dec_cascade_98_new',
