@@ -132,10 +132,27 @@ const tones = async (browser) => {
     }
 };
 
+// The tool's response of the same line, at the places at which the page looks: from 0 to half the rate of levels.
+const PLACES = 200;
+const bands = async (browser, tool) => {
+    for (const preset of ['tail channel: a level every 15 seconds', 'every section, a level every 48 samples']) {
+        await browser.choose('preset', preset);
+        const settings = await tool.saved(browser, 'settings', 'gauge.settings');
+        const { out } = tool.gauge('response', settings, '--points', `${PLACES + 1}`);
+        const [names, ...rows] = out.trim().split('\n').map((row) => row.split('\t'));
+        const column = (name) => rows.slice(0, 0.8 * PLACES + 1).map((row) => Number(row[names.indexOf(name)]));
+        const wanted = [Math.max(...column('alias')), column('line').at(-1)];
+        const found = (await browser.text('aliases-said')).replaceAll('−', '-').match(/-?[\d.]+(?= dB)/g).map(Number);
+        // The page looks images up in a table.
+        is(`${preset}: ${found} and ${wanted}`, found.every((level, k) => Math.abs(level - wanted[k]) < 0.2));
+    }
+};
+
 export const responses = async (browser, tool) => {
     await browser.choose('preset', 'mean of four samples');
     await browser.type('r', '1');
     await depths(browser, tool);
+    await bands(browser, tool);
     await browser.type('rate', '');
     await tones(browser);
     await browser.type('tone', '');

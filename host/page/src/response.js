@@ -146,15 +146,17 @@ const tabled = (work, end, fine) => {
     return (turns) => table[Math.round(turns * fine)];
 };
 
-// The strongest of the images that a resampler leaves at a place of the levels' rate.
+// The strongest of the images that a resampler leaves at a place of the levels' rate. At a step with few places between values an image of the wave that belongs there
+// may fall on it again: that is the wave itself.
 const imaged = (one) => {
     const step = one.perLevel / one.rate;
     const image = tabled((turns) => one.images(turns, 0), REACH, FINE);
     const front = tabled((place) => foldedFront(one, place, 0), 1, FINE / 4);
     return (place) => {
+        const other = (turns) => Math.abs(folded(turns) - place / step) > 1e-9;
         let worst = 0;
         for (let band = 1; (band + 0.5) / step <= REACH; band++) {
-            for (const turns of [(band - place) / step, (band + place) / step]) {
+            for (const turns of [(band - place) / step, (band + place) / step].filter(other)) {
                 worst = Math.max(worst, image(turns) * front(folded(turns)));
             }
         }

@@ -2,6 +2,7 @@
 
 use crate::scratch::{Scratch, printed, told};
 use crate::tones::{STEP, heard};
+use gauge::images::Images;
 use gauge::line_file::LineFile;
 use gauge::response::Response;
 
@@ -188,4 +189,32 @@ fn what_is_wrong_is_told() {
         assert!(output.stdout.is_empty(), "{arguments}");
     }
     assert_eq!(scratch.read("one.settings"), b"stages = 1\nr = 1\n");
+}
+
+// The image of order m of a wave is one of m cycles a value more, wherever that shows in the levels.
+#[test]
+fn the_strongest_image_is_as_strong_as_is_told() {
+    let folded = |cycles: f64| (cycles - cycles.round()).abs();
+    for text in LINES {
+        let file = LineFile::parse("f", text).unwrap();
+        let response = Response::of(&file).unwrap();
+        let Some(images) = Images::of(&file) else {
+            continue;
+        };
+        for part in PARTS {
+            let wave = part
+                / response
+                    .samples_per_level()
+                    .max(response.samples_per_value());
+            let cycles = wave * response.samples_per_value();
+            let heard = |order: i64| {
+                let shows_at = folded((cycles + order as f64) * images.step);
+                heard(&file, wave, shows_at / response.samples_per_level()).level
+            };
+            let others = images.orders().filter(|order| *order != 0);
+            let found = others.map(heard).fold(0.0, f64::max);
+            let wanted = response.strongest_image(wave).unwrap();
+            close(&format!("{text}{part}"), found, wanted);
+        }
+    }
 }
