@@ -4,17 +4,18 @@ use mathlib.Core.Path.{_≡_, refl, ap}
 use mathlib.Core.Bool.{Bool, true, false, not, _&&_, _||_, cond, false≢true}
 use mathlib.Core.List.{List}
 use Prim.Native.Nat.{ℕ, zero, suc, _*_, _<_}
-use native.Mathlib.Nat.{zero-mul}
+use native.Mathlib.Nat.{zero-mul, mul-pos}
 use native.Mathlib.Omega.{arith}
 use lib.Dec.{T, ltb, eqb, ltb→lt, lt→ltb}
 use lib.Ieee.{Float, nan, inf, fin, binary32, ofBits, up, down, add, lt, le, fits}
+use lib.Ieee.Fits.{up-pos}
 use lib.Ieee.Positive.{positive, first-pos}
 use lib.Ieee.Scale.{finite}
 use Rattle.theory.proofs.Machines.{Lawful, enough-by-rank}
 use Rattle.theory.proofs.FloatOrder.{zeroF, le-trans-nonneg, positive-nonneg}
 use Rattle.theory.proofs.MuInLine.{mostStep, StepOk, InRange, AtLeast, step-positive, in-nonneg, at-start, reached, grows}
 use Rattle.theory.proofs.MuInLine as line
-use Rattle.theory.proofs.MuBeside.{maxF, most-finite, StepPos, InWide, limit-in, wide-input, wide-output}
+use Rattle.theory.proofs.MuBeside.{maxF, most-finite, StepPos, InWide, low-nonneg, limit-in, wide-input, wide-output}
 use Rattle.float.specs.F32.{zero32, one32, largest32, aboveZero}
 use Rattle.float.specs.PolyphaseResamp.{inLimits, muFrom, lowestMu, validAt, leastLineStep, mostLineStep, stepInLine, validInLineAt, valid, validInLine, consumed, passed, isOn, inLine, fresh}
 use Rattle.float.specs.declared.polyphase_resamp.PolyphaseResampF32.{PolyphaseResampF32}
@@ -36,6 +37,17 @@ unfolding aboveZero ofBits
 above-says step h =
     let b = both-true (lt zero32 step) (le step largest32) h in
     (above-zero step (is (lt zero32 step) (b .0)) (is (le step largest32) (b .1)), is (le step largest32) (b .1))
+
+zero-below : (x : Float) → T (positive x) → T (lt zeroF x)
+unfolding lt
+zero-below nan p = absurd p
+zero-below (inf s) p = absurd p
+zero-below (fin true m e) p = absurd p
+zero-below (fin false m e) p = lt→ltb (0 * down e) (m * up e * 1) (let h : 0 < m * up e = mul-pos (ltb→lt 0 m p) (up-pos e) in omega (arith, zero-mul (down e)))
+
+above-so : (step : Float) → StepPos step → aboveZero step ≡ true
+unfolding aboveZero ofBits
+above-so step p = both-so (lt zero32 step) (le step largest32) (so (lt zero32 step) (zero-below step (p .0))) (so (le step largest32) (p .1))
 
 -- of an f32 the test says what 01 does: above zero and finite
 pub above-zero-is : (x : Float) → fits binary32 x ≡ true → aboveZero x ≡ (lt zero32 x && finite x)
@@ -108,11 +120,15 @@ valid-fresh straight P T h step l a =
     valid-so (fresh straight P T h step) (record { limits = l; above = a; range = (tt, limit-in step (above-says step a) .0) })
 
 -- ---- in the line
-step-says : (step : Float) → stepInLine step ≡ true → StepOk step
+pub step-says : (step : Float) → stepInLine step ≡ true → StepOk step
 unfolding stepInLine ofBits
 step-says step h =
     let b = both-true (le leastLineStep step) (le step mostLineStep) h in
     (is (le leastLineStep step) (b .0), is (le step mostLineStep) (b .1))
+
+step-pos : (step : Float) → StepOk step → StepPos step
+unfolding le
+step-pos step s = let p : T (positive step) = step-positive step s in (p, le-trans-nonneg step mostStep maxF (positive-nonneg step p) tt tt (s .1) tt)
 
 range-says : (step mu : Float) → muFrom zero32 step mu ≡ true → InRange step mu
 unfolding muFrom ofBits
@@ -124,12 +140,12 @@ range-so : (step mu : Float) → InRange step mu → muFrom zero32 step mu ≡ t
 unfolding muFrom ofBits
 range-so step mu w = both-so (le zero32 mu) (le mu (add binary32 one32 step)) (so (le zero32 mu) (w .0)) (so (le mu (add binary32 one32 step)) (w .1))
 
-record ValidOn (s : PolyphaseResampF32) : Type 0 where
-  limits : inLimits (s .phases) (s .taps) ≡ true
-  steps : stepInLine (s .step) ≡ true
-  range : InRange (s .step) (s .mu)
+pub record ValidOn (s : PolyphaseResampF32) : Type 0 where
+  pub limits : inLimits (s .phases) (s .taps) ≡ true
+  pub steps : stepInLine (s .step) ≡ true
+  pub range : InRange (s .step) (s .mu)
 
-on-says : (s : PolyphaseResampF32) → isOn s ≡ true → validInLine s ≡ true → ValidOn s
+pub on-says : (s : PolyphaseResampF32) → isOn s ≡ true → validInLine s ≡ true → ValidOn s
 unfolding isOn validInLine validInLineAt
 on-says s o h = go (eqb (s .phases) 0) o h
   where
@@ -154,13 +170,20 @@ on-in-limits s o h = on-says s o h .limits
 pub on-step : (s : PolyphaseResampF32) → isOn s ≡ true → validInLine s ≡ true → stepInLine (s .step) ≡ true
 on-step s o h = on-says s o h .steps
 
+-- what is valid in the line and on is valid beside it
+pub on-valid : (s : PolyphaseResampF32) → isOn s ≡ true → validInLine s ≡ true → valid s ≡ true
+on-valid s o h =
+    let v = on-says s o h in
+    let k = step-says (s .step) (v .steps) in
+    valid-so s (record { limits = v .limits; above = above-so (s .step) (step-pos (s .step) k); range = (low-nonneg (s .mu) (in-nonneg (s .step) (s .mu) k (v .range)), v .range .1) })
+
 -- an output that is due, and a consumed value, with the resampler on
-on-passed : (s : PolyphaseResampF32) → ValidOn s → lt (s .mu) one32 ≡ true → ValidOn (passed s)
+pub on-passed : (s : PolyphaseResampF32) → ValidOn s → lt (s .mu) one32 ≡ true → ValidOn (passed s)
 unfolding passed ofBits
 on-passed s v d =
     record { limits = v .limits; steps = v .steps; range = line.after-output (s .step) (s .mu) (step-says (s .step) (v .steps)) (v .range) (is (lt (s .mu) one32) d) }
 
-on-consumed : (s : PolyphaseResampF32) (x : Float) → ValidOn s → lt (s .mu) one32 ≡ false → ValidOn (consumed s x)
+pub on-consumed : (s : PolyphaseResampF32) (x : Float) → ValidOn s → lt (s .mu) one32 ≡ false → ValidOn (consumed s x)
 unfolding consumed ofBits
 on-consumed s x v d =
     record {
@@ -216,10 +239,6 @@ line-lawful =
       good-next = line-next;
       enough = enough-by-rank inLine (λ s. validInLine s ≡ true) Rank 64 line-after rank-rises rank-stops (λ s g o. at-start (s .mu));
     }
-
-step-pos : (step : Float) → StepOk step → StepPos step
-unfolding le
-step-pos step s = let p : T (positive step) = step-positive step s in (p, le-trans-nonneg step mostStep maxF (positive-nonneg step p) tt tt (s .1) tt)
 
 -- an opened state, and one that is off
 pub line-fresh : (straight : Bool) (P T : ℕ) (h : List Float) (step : Float) → inLimits P T ≡ true → stepInLine step ≡ true → validInLine (fresh straight P T h step) ≡ true

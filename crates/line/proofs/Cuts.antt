@@ -33,19 +33,19 @@ use Rattle.line.specs.declared.gauge_line.Line.{Line}
 use Rattle.line.proofs.Openings.{Accepted}
 
 -- sections 1 to 3, which a due output does not touch
-abbrev Front : Type 0
+abbrev pub Front : Type 0
 Front = Thinner × (Unit {0} × FirDecimator)
 
-abbrev front : Section Front ℤ ℤ
+abbrev pub front : Section Front ℤ ℤ
 front = andThen either (andThen (each (cut w16)) fir)
 
-abbrev frontOf : Line → Front
+abbrev pub frontOf : Line → Front
 frontOf l = (thinnerOf l, (tt, l .fir))
 
-abbrev weight : Front → ℤ → ℕ
+abbrev pub weight : Front → ℤ → ℕ
 weight t x = cutsFor (t .1 .1) (either .out (t .0) x)
 
-tallies : Tallies mostCuts front weight line frontOf (λ l. l .cuts)
+pub tallies : Tallies mostCuts front weight line frontOf (λ l. l .cuts)
 tallies =
     record {
       view-after = λ l. refl;
@@ -65,7 +65,7 @@ count-onto none l = let q : cutCount w16 l ≡ 0 + cutCount w16 l = omega arith 
 count-onto (some z) l = refl
 
 -- over a whole list
-weights-are :
+pub weights-are :
     (w : List ℤ) (d : Thinner) (s : FirDecimator)
     → weights front weight (d, (tt, s)) w ≡ cutCount w16 (outs either d w) + cutCount w16 (outs summing s (map (cut w16) (outs either d w)))
 weights-are [] d s = refl

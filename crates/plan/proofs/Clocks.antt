@@ -15,22 +15,9 @@ use Rattle.theory.specs.Machines.{Machine, nextFor, nowFor, before, viewed}
 use Rattle.theory.specs.Tally.{tallied}
 use Rattle.theory.specs.Feeds.{Fed, tookThen, less, steps, feed}
 use Rattle.theory.proofs.Feeds.{steps-due, steps-none, steps-take}
+use Rattle.theory.proofs.Counting.{came, CountsDown}
 use Rattle.plan.specs.Ticking.{atLeft, arrived, ticking, slowed}
 use Rattle.plan.specs.declared.counting.Clock.{Clock}
-
--- whether there is a value
-abbrev pub came : {A : Type 0} → Option A → Bool
-came none = false
-came (some a) = true
-
--- the section makes a value of every `period s`-th, and its next is `left s` values away
-pub record CountsDown {S A B : Type 0} (f : Section S A B) (left period : S → ℕ) (Good : S → Type 0) : Type 0 where
-  pub good-next : (s : S) (a : A) → Good s → Good (f .next s a)
-  pub some-left : (s : S) → Good s → 1 ≤ left s
-  pub some-period : (s : S) → Good s → 1 ≤ period s
-  pub period-kept : (s : S) (a : A) → Good s → period (f .next s a) ≡ period s
-  pub left-next : (s : S) (a : A) → Good s → left (f .next s a) ≡ cond (leb (left s) 1) (period s) (left s - 1)
-  pub out-same : (s : S) (a : A) → Good s → came (f .out s a) ≡ leb (left s) 1
 
 -- the clock counts for the machine
 pub record Counts {S A C : Type 0} (m : Machine S A C) (clock : S → Clock) (Good : S → Type 0) : Type 0 where

@@ -36,7 +36,8 @@ use Rattle.line.proofs.Demanded.{outcome-is}
 use Rattle.plan.specs.Plan.{feedCounts}
 use Rattle.plan.specs.Ticking.{atMu, ticking, slowed, countFeed, countFeeds}
 use Rattle.plan.specs.declared.counting.Clock.{Clock}
-use Rattle.plan.proofs.Clocks.{came, Counts, counts-before, counts-each, counts-tallied, counts-viewed, SameCounts, feed-counts}
+use Rattle.theory.proofs.Counting.{came}
+use Rattle.plan.proofs.Clocks.{Counts, counts-before, counts-each, counts-tallied, counts-viewed, SameCounts, feed-counts}
 use Rattle.plan.proofs.Sections.{by-cond, ThinGood, thinLeft, thinPeriod, thin-down, FirGood, firLeft, firPeriod, fir-down, HalfGood, halfLeft, halfPeriod, half-down}
 
 -- ---- the line, section by section from the last

@@ -29,7 +29,7 @@ use Rattle.half_band.proofs.StageTables.{dec-stages}
 use Rattle.half_band.proofs.Streaming.{depth-next}
 use Rattle.line.proofs.Flags.{and-left}
 use Rattle.plan.specs.Ticking.{orOne}
-use Rattle.plan.proofs.Clocks.{came, CountsDown}
+use Rattle.theory.proofs.Counting.{came, CountsDown}
 
 -- a choice, seen
 pub by-cond : {A B : Type 0} (f : A → B) (b : Bool) (x y : A) → f (cond b x y) ≡ cond b (f x) (f y)
