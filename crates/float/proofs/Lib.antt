@@ -7,6 +7,7 @@ pub mod Tape
 pub mod Laid
 pub mod Packing
 pub mod PolyphaseRange
+pub mod LinePace
 pub mod PolyphaseWhole
 pub mod DueOutputs
 pub mod PolyphaseCalls

@@ -108,7 +108,7 @@ valid-fresh straight P T h step l a =
     valid-so (fresh straight P T h step) (record { limits = l; above = a; range = (tt, limit-in step (above-says step a) .0) })
 
 -- ---- in the line
-step-says : (step : Float) → stepInLine step ≡ true → StepOk step
+pub step-says : (step : Float) → stepInLine step ≡ true → StepOk step
 unfolding stepInLine ofBits
 step-says step h =
     let b = both-true (le leastLineStep step) (le step mostLineStep) h in
@@ -124,12 +124,12 @@ range-so : (step mu : Float) → InRange step mu → muFrom zero32 step mu ≡ t
 unfolding muFrom ofBits
 range-so step mu w = both-so (le zero32 mu) (le mu (add binary32 one32 step)) (so (le zero32 mu) (w .0)) (so (le mu (add binary32 one32 step)) (w .1))
 
-record ValidOn (s : PolyphaseResampF32) : Type 0 where
-  limits : inLimits (s .phases) (s .taps) ≡ true
-  steps : stepInLine (s .step) ≡ true
-  range : InRange (s .step) (s .mu)
+pub record ValidOn (s : PolyphaseResampF32) : Type 0 where
+  pub limits : inLimits (s .phases) (s .taps) ≡ true
+  pub steps : stepInLine (s .step) ≡ true
+  pub range : InRange (s .step) (s .mu)
 
-on-says : (s : PolyphaseResampF32) → isOn s ≡ true → validInLine s ≡ true → ValidOn s
+pub on-says : (s : PolyphaseResampF32) → isOn s ≡ true → validInLine s ≡ true → ValidOn s
 unfolding isOn validInLine validInLineAt
 on-says s o h = go (eqb (s .phases) 0) o h
   where
@@ -155,12 +155,12 @@ pub on-step : (s : PolyphaseResampF32) → isOn s ≡ true → validInLine s ≡
 on-step s o h = on-says s o h .steps
 
 -- an output that is due, and a consumed value, with the resampler on
-on-passed : (s : PolyphaseResampF32) → ValidOn s → lt (s .mu) one32 ≡ true → ValidOn (passed s)
+pub on-passed : (s : PolyphaseResampF32) → ValidOn s → lt (s .mu) one32 ≡ true → ValidOn (passed s)
 unfolding passed ofBits
 on-passed s v d =
     record { limits = v .limits; steps = v .steps; range = line.after-output (s .step) (s .mu) (step-says (s .step) (v .steps)) (v .range) (is (lt (s .mu) one32) d) }
 
-on-consumed : (s : PolyphaseResampF32) (x : Float) → ValidOn s → lt (s .mu) one32 ≡ false → ValidOn (consumed s x)
+pub on-consumed : (s : PolyphaseResampF32) (x : Float) → ValidOn s → lt (s .mu) one32 ≡ false → ValidOn (consumed s x)
 unfolding consumed ofBits
 on-consumed s x v d =
     record {
