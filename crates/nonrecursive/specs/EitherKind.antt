@@ -1,5 +1,6 @@
 -- 02, §13: "the line may be opened with either". Section 1 as the line has it: which kind thins, the CIC decimator with the numbers that both kinds have, and the
--- neighbours. Of integrators and combs, or neighbours, one part is off. Its opening, what a state must be not to be refused, and its scaled sums.
+-- neighbours. Of integrators and combs, or neighbours, one part is off. Its opening, what a state must be not to be refused, its sums, a block of them, and its scaled
+-- sums.
 use mathlib.Core.Bool.{Bool, true, false, cond, _&&_}
 use mathlib.Core.List.{List}
 use mathlib.Core.Option.{Option}
@@ -8,6 +9,8 @@ use lib.Dec.{leb}
 use lib.IntN.{ℤ, pos}
 use lib.ListN.{replicate}
 use Rattle.theory.specs.Sections.{Section}
+use Rattle.theory.specs.Machines.{alone}
+use Rattle.theory.specs.Feeds.{Fed, idle, feed}
 use Rattle.integer.specs.Limits.{stagesOk, factorOk}
 use Rattle.integer.specs.Gain.{gainBits, mostBits}
 use Rattle.integer.specs.CicDecimator.{decimatorOf, decimator, scaledBy}
@@ -72,6 +75,15 @@ nextBy thinning.Neighbours t x = withBeside t (nonrecursive .next (beside t) x)
 abbrev pub outBy : Thinning → Thinner → ℤ → Option ℤ
 outBy thinning.Integrators t x = decimator .out (t .cic) x
 outBy thinning.Neighbours t x = nonrecursive .out (beside t) x
+
+-- the sums, before they are scaled
+unfoldable pub thin : Section Thinner ℤ ℤ
+thin = record { next = λ t x. nextBy (t .kind) t x; out = λ t x. outBy (t .kind) t x }
+
+-- a block: a full span stops it, else the next sample is taken; of a state that 15 refuses nothing
+unfoldable pub thinFed : Thinner → List ℤ → ℕ → Fed Thinner ℤ
+thinFed t w places =
+    cond (validAt (t .kind) (t .cic .stages) (t .cic .r) (t .cic .«sample_counter»)) (feed (alone (pos 0) thin) t w places) (idle t)
 
 -- the kind as the code hands it on
 abbrev pub kindOf : Bool → Thinning
