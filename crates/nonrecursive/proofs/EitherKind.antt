@@ -1,8 +1,8 @@
 -- Section 1 of a line opened with either kind makes the same scaled sums, no sample makes a state that is refused, and of a state that is not refused every r-th sample
--- makes a sum: what demand 3 and a feeding plan ask of it.
+-- makes a sum: what demand 3 and a feeding plan ask of it. Its scaled sums are its sums, scaled.
 use mathlib.Core.Path.{_≡_, refl, sym, ap, ap₂, _∙_}
 use mathlib.Core.Bool.{Bool, true, false, cond, _&&_}
-use mathlib.Core.List.{List, [], _∷_}
+use mathlib.Core.List.{List, [], _∷_, map}
 use mathlib.Core.Option.{Option, none, some}
 use Prim.Native.Nat.{ℕ, _+_, _^_, _≤_, _<_}
 use native.Mathlib.Decide.{decLt}
@@ -12,15 +12,16 @@ use lib.Dec.{leb}
 use lib.IntN.{ℤ}
 use mir.Syntax.{w32}
 use Rattle.theory.specs.Wrap.{wrap}
-use Rattle.theory.specs.Sections.{onto, outs}
+use Rattle.theory.specs.Floor.{floorDiv}
+use Rattle.theory.specs.Sections.{onto, state, outs}
 use Rattle.integer.specs.Limits.{stagesOk, factorOk}
 use Rattle.integer.specs.Gain.{gainBits, mostBits}
 use Rattle.integer.specs.MovingSums.{scaledSums}
-use Rattle.integer.specs.CicDecimator.{decimatorOf, decimator, scaledDecimator, waits}
+use Rattle.integer.specs.CicDecimator.{decimatorOf, decimator, scaledBy, scaledDecimator, waits}
 use Rattle.integer.specs.CicDecimator as C
 use Rattle.nonrecursive.specs.NonrecursiveDecimator.{halvings, thinned, nonrecursive, scaledNonrecursive}
 use Rattle.nonrecursive.specs.NonrecursiveDecimator as D
-use Rattle.nonrecursive.specs.EitherKind.{Thinner, besideOf, withBeside, factorFor, settingsNumber, fresh, validAt, fine, nextBy, outBy, either}
+use Rattle.nonrecursive.specs.EitherKind.{Thinner, besideOf, withBeside, factorFor, settingsNumber, fresh, validAt, fine, nextBy, outBy, thin, either}
 use Rattle.integer.specs.declared.cic_decimator.CicDecimator.{CicDecimator}
 use Rattle.nonrecursive.specs.declared.thinning.Thinning.{Thinning}
 use Rattle.nonrecursive.specs.declared.thinning.Thinning.the-variants as thinning
@@ -31,7 +32,7 @@ use Rattle.integer.proofs.Streaming.{valid-kept, settings-kept, streams}
 use Rattle.nonrecursive.proofs.NonrecursiveStreaming.{nonrecursive-streams, valid-parts}
 use Rattle.nonrecursive.proofs.NonrecursiveStreaming as K
 
-abbrev with-parts : Thinning → CicDecimator → List ℤ → Thinner
+abbrev pub with-parts : Thinning → CicDecimator → List ℤ → Thinner
 with-parts k c n = record { kind = k; cic = c; neighbours = n }
 
 -- settings that are not refused
@@ -94,17 +95,22 @@ either-opens thinning.Neighbours N r e =
     let ok = accepted thinning.Neighbours N r e in
     both-true _ _ (nonrecursive-streams N r (power-settings N r ok) .unrefused []) (ok .bits)
 
--- and no sample changes that
+-- a sample leaves the gain bits
+bits-by :
+    (k : Thinning) (c : CicDecimator) (n : List ℤ) (x : ℤ)
+    → gainBits (nextBy k (with-parts k c n) x .cic .stages) (nextBy k (with-parts k c n) x .cic .r) ≡ gainBits (c .stages) (c .r)
+bits-by thinning.Integrators c n x = let s = settings-kept (c .stages) (c .r) c x (refl, refl) in ap₂ gainBits (s .0) (s .1)
+bits-by thinning.Neighbours c n x = let s = K.settings-kept (c .stages) (c .r) (besideOf c n) x (refl, refl) in ap₂ gainBits (s .0) (s .1)
+
+-- and no sample makes a state that is refused
 kept-by : (k : Thinning) (c : CicDecimator) (n : List ℤ) (x : ℤ) → fine (with-parts k c n) ≡ true → fine (either .next (with-parts k c n) x) ≡ true
 unfolding fine validAt either
 kept-by thinning.Integrators c n x e =
     let h = and-true (C.valid c) _ e in
-    let s = settings-kept (c .stages) (c .r) c x (refl, refl) in
-    both-true _ _ (valid-kept c x (h .0)) (ap₂ {C = Bool} (λ (N r : ℕ). leb (gainBits N r) mostBits) (s .0) (s .1) ∙ h .1)
+    both-true _ _ (valid-kept c x (h .0)) (ap (λ (g : ℕ). leb g mostBits) (bits-by thinning.Integrators c n x) ∙ h .1)
 kept-by thinning.Neighbours c n x e =
     let h = and-true (D.valid (besideOf c n)) _ e in
-    let s = K.settings-kept (c .stages) (c .r) (besideOf c n) x (refl, refl) in
-    both-true _ _ (K.valid-kept (besideOf c n) x (h .0)) (ap₂ {C = Bool} (λ (N r : ℕ). leb (gainBits N r) mostBits) (s .0) (s .1) ∙ h .1)
+    both-true _ _ (K.valid-kept (besideOf c n) x (h .0)) (ap (λ (g : ℕ). leb g mostBits) (bits-by thinning.Neighbours c n x) ∙ h .1)
 
 pub either-kept : (t : Thinner) (x : ℤ) → fine t ≡ true → fine (either .next t x) ≡ true
 either-kept t x e = kept-by (t .kind) (t .cic) (t .neighbours) x e
@@ -169,3 +175,24 @@ counted-by thinning.Neighbours c n x = record { factor = refl; counter = refl }
 pub either-counted : (t : Thinner) (x : ℤ) → Counted (t .cic) (either .next t x .cic)
 unfolding either
 either-counted t x = counted-by (t .kind) (t .cic) (t .neighbours) x
+
+-- the scaled sums are the sums, each scaled, and the states are the same
+scaled-with : (g : ℕ) (t : Thinner) (xs : List ℤ) → gainBits (t .cic .stages) (t .cic .r) ≡ g → outs either t xs ≡ map (λ (y : ℤ). floorDiv y (2 ^ g)) (outs thin t xs)
+unfolding either thin
+scaled-with g t [] e = refl
+scaled-with g t (x ∷ xs) e =
+    ap (λ (h : ℕ). onto (scaledBy h (outBy (t .kind) t x)) (outs either (nextBy (t .kind) t x) xs)) e
+    ∙ ap (onto (scaledBy g (outBy (t .kind) t x))) (scaled-with g (nextBy (t .kind) t x) xs (bits-by (t .kind) (t .cic) (t .neighbours) x ∙ e))
+    ∙ go (outBy (t .kind) t x) (outs thin (nextBy (t .kind) t x) xs)
+  where
+    go : (o : Option ℤ) (l : List ℤ) → onto (scaledBy g o) (map (λ (y : ℤ). floorDiv y (2 ^ g)) l) ≡ map (λ (y : ℤ). floorDiv y (2 ^ g)) (onto o l)
+    go none l = refl
+    go (some y) l = refl
+
+pub outs-scaled : (t : Thinner) (xs : List ℤ) → outs either t xs ≡ map (λ (y : ℤ). floorDiv y (2 ^ gainBits (t .cic .stages) (t .cic .r))) (outs thin t xs)
+outs-scaled t xs = scaled-with (gainBits (t .cic .stages) (t .cic .r)) t xs refl
+
+pub state-scaled : (t : Thinner) (xs : List ℤ) → state either t xs ≡ state thin t xs
+unfolding either thin
+state-scaled t [] = refl
+state-scaled t (x ∷ xs) = state-scaled (nextBy (t .kind) t x) xs

@@ -11,3 +11,4 @@ pub mod TapeSteps
 pub mod Chunks
 pub mod BlockEnds
 pub mod EitherKind
+pub mod ThinBlock
