@@ -32,7 +32,7 @@ use Rattle.integer.proofs.Streaming.{valid-kept, settings-kept, streams}
 use Rattle.nonrecursive.proofs.NonrecursiveStreaming.{nonrecursive-streams, valid-parts}
 use Rattle.nonrecursive.proofs.NonrecursiveStreaming as K
 
-abbrev pub with-parts : Thinning → CicDecimator → List ℤ → Thinner
+abbrev with-parts : Thinning → CicDecimator → List ℤ → Thinner
 with-parts k c n = record { kind = k; cic = c; neighbours = n }
 
 -- settings that are not refused

@@ -12,17 +12,15 @@ use Rattle.theory.specs.Machines.{alone}
 use Rattle.theory.specs.Feeds.{Fed, idle, feed}
 use Rattle.theory.proofs.FeedRules.{feed-keeps}
 use Rattle.theory.proofs.FeedsSeen.{feed-seen}
-use Rattle.refusal.specs.Outcome.{Outcome, Moved}
-use Rattle.integer.specs.CicDecimator.{decimator}
+use Rattle.refusal.specs.Outcome.{Outcome, Moved, countsAnswer}
+use Rattle.refusal.specs.declared.Counts.{Counts}
+use Rattle.integer.specs.CicDecimator.{decimatorOf, decimator}
 use Rattle.integer.specs.CicDecimator as C
-use Rattle.nonrecursive.specs.NonrecursiveDecimator.{nonrecursive}
+use Rattle.nonrecursive.specs.NonrecursiveDecimator.{nonrecursiveOf, nonrecursive}
 use Rattle.nonrecursive.specs.NonrecursiveDecimator as D
-use Rattle.nonrecursive.specs.EitherKind.{Thinner, besideOf, beside, withBeside, withCic, validAt, nextBy, outBy, thin, thinFed}
-use Rattle.integer.specs.declared.cic_decimator.CicDecimator.{CicDecimator}
-use Rattle.nonrecursive.specs.declared.nonrecursive_decimator.NonrecursiveDecimator.{NonrecursiveDecimator}
+use Rattle.nonrecursive.specs.EitherKind.{Thinner, thinnerOf, beside, withBeside, withCic, validAt, nextBy, outBy, thin, thinFed}
 use Rattle.nonrecursive.specs.declared.thinning.Thinning.{Thinning}
 use Rattle.nonrecursive.specs.declared.thinning.Thinning.the-variants as thinning
-use Rattle.nonrecursive.proofs.EitherKind.{with-parts}
 
 -- a feed's counts, state and span, as `thin_block_at` hands them over
 abbrev pub Given : {S : Type 0} → Fed S ℤ → List ℤ → ℕ → ℕ → S → List ℤ → Type 0
@@ -104,16 +102,27 @@ module _ {S : Type 0} (k : Thinning) (part : Thinner → S) (with-part : Thinner
   block-is true w span left a places own o e s = rw (fed-is w places, ← o, e, s) ((refl, refl), (refl, refl))
   block-is false w span left a places own o e s = rw (e, s, kind .own t) ((refl, refl), (refl, refl))
 
-pub integrators-block :
-    (c : CicDecimator) (n w span left : List ℤ) (a : Outcome Moved CicDecimator) → a ≡ C.block c w (length span) → left ≡ C.blockSpan c w span
-    → Given (thinFed (with-parts thinning.Integrators c n) w (length span)) span (a .value .taken) (a .value .written) (with-parts thinning.Integrators (a .state) n) left
-unfolding C.block C.blockSpan C.fedBlock thinFed validAt
-integrators-block c n w span left a e s =
-    block-is thinning.Integrators (λ u. u .cic) withCic decimator integrators-kind (with-parts thinning.Integrators c n) refl (C.valid c) w span left a (length span) _ refl e s
+-- the same of counts that are told as numbers, with the arrays as the kind's own block leaves them
+module _ (N r : ℕ) (i h n : List ℤ) (counter : ℕ) (w span : List ℤ) (counts : Counts) {k : Thinning} {left : List ℤ} {taken made counter′ counter″ : ℕ}
+    (told : (taken ≡ countsAnswer counts .value .taken) × (made ≡ countsAnswer counts .value .written) × (counter″ ≡ counter′)) where
+  pub integrators-block :
+      {i′ h′ : List ℤ} → k ≡ thinning.Integrators
+      → C.toldBlock (record { counts = counts; state = decimatorOf N r i′ h′ counter′ }) ≡ C.block (decimatorOf N r i h counter) w (length span)
+      → left ≡ C.blockSpan (decimatorOf N r i h counter) w span
+      → Given (thinFed (thinnerOf k N r i h n counter) w (length span)) span taken made (thinnerOf k N r i′ h′ n counter″) left
+  unfolding C.block C.blockSpan C.fedBlock thinFed validAt
+  integrators-block {i′} {h′} is e s =
+      rw (is, told .0, told .1, told .2)
+      (block-is thinning.Integrators (λ u. u .cic) withCic decimator integrators-kind (thinnerOf thinning.Integrators N r i h n counter) refl (C.validAt N r counter) w span left
+      (C.toldBlock (record { counts = counts; state = decimatorOf N r i′ h′ counter′ })) (length span) _ refl e s)
 
-pub neighbours-block :
-    (c : CicDecimator) (n w span left : List ℤ) (a : Outcome Moved NonrecursiveDecimator) → a ≡ D.block (besideOf c n) w (length span) → left ≡ D.blockSpan (besideOf c n) w span
-    → Given (thinFed (with-parts thinning.Neighbours c n) w (length span)) span (a .value .taken) (a .value .written) (withBeside (with-parts thinning.Neighbours c n) (a .state)) left
-unfolding D.block D.blockSpan D.fedBlock thinFed validAt
-neighbours-block c n w span left a e s =
-    block-is thinning.Neighbours beside withBeside nonrecursive neighbours-kind (with-parts thinning.Neighbours c n) refl (D.valid (besideOf c n)) w span left a (length span) _ refl e s
+  pub neighbours-block :
+      {n′ : List ℤ} → k ≡ thinning.Neighbours
+      → D.toldBlock (record { counts = counts; state = nonrecursiveOf N r n′ counter′ }) ≡ D.block (nonrecursiveOf N r n counter) w (length span)
+      → left ≡ D.blockSpan (nonrecursiveOf N r n counter) w span
+      → Given (thinFed (thinnerOf k N r i h n counter) w (length span)) span taken made (thinnerOf k N r i h n′ counter″) left
+  unfolding D.block D.blockSpan D.fedBlock thinFed validAt
+  neighbours-block {n′} is e s =
+      rw (is, told .0, told .1, told .2)
+      (block-is thinning.Neighbours beside withBeside nonrecursive neighbours-kind (thinnerOf thinning.Neighbours N r i h n counter) refl (D.validAt N r counter) w span left
+      (D.toldBlock (record { counts = counts; state = nonrecursiveOf N r n′ counter′ })) (length span) _ refl e s)
