@@ -3,7 +3,6 @@
 use mathlib.Core.Path.{_≡_, refl, sym, ap, _∙_}
 use mathlib.Core.Bool.{Bool, true, false, cond}
 use mathlib.Core.List.{List, _++_}
-use mathlib.Core.Option.{Option}
 use Prim.Native.Nat.{ℕ}
 use lib.IntN.{ℤ, pos}
 use lib.ListN.{length, drop}
@@ -28,47 +27,39 @@ Given fed span taken made after left =
     ((taken ≡ fed .taken) × (made ≡ length (fed .written))) × ((after ≡ fed .line) × (left ≡ fed .written ++ drop (length (fed .written)) span))
 
 -- a kind: its own decimator f in a state, and a state with another one of it
-pub record Kind {S : Type 0} (k : Thinning) (part : Thinner → S) (with-part : Thinner → S → Thinner) (f : Section S ℤ ℤ) : Type 0 where
-  pub next-is : (t : Thinner) (x : ℤ) → t .kind ≡ k → thin .next t x ≡ with-part t (f .next (part t) x)
-  pub out-is : (t : Thinner) (x : ℤ) → t .kind ≡ k → thin .out t x ≡ f .out (part t) x
+record Kind {S : Type 0} (k : Thinning) (part : Thinner → S) (with-part : Thinner → S → Thinner) (f : Section S ℤ ℤ) : Type 0 where
+  pub next-is : (t : Thinner) (x : ℤ) → nextBy k t x ≡ with-part t (f .next (part t) x)
+  pub out-is : (t : Thinner) (x : ℤ) → outBy k t x ≡ f .out (part t) x
   pub got : (t : Thinner) (s : S) → part (with-part t s) ≡ s
   pub own : (t : Thinner) → with-part t (part t) ≡ t
   pub again : (t : Thinner) (s u : S) → with-part (with-part t s) u ≡ with-part t u
   pub still : (t : Thinner) (s : S) → with-part t s .kind ≡ t .kind
 
-pub integrators-kind : Kind thinning.Integrators (λ t. t .cic) withCic decimator
-unfolding thin
+integrators-kind : Kind thinning.Integrators (λ t. t .cic) withCic decimator
 integrators-kind =
-    record {
-      next-is = λ t x e. ap (λ (k : Thinning). nextBy k t x) e;
-      out-is = λ t x e. ap (λ (k : Thinning). outBy k t x) e;
-      got = λ t s. refl;
-      own = λ t. refl;
-      again = λ t s u. refl;
-      still = λ t s. refl;
-    }
+    record { next-is = λ t x. refl; out-is = λ t x. refl; got = λ t s. refl; own = λ t. refl; again = λ t s u. refl; still = λ t s. refl }
 
-pub neighbours-kind : Kind thinning.Neighbours beside withBeside nonrecursive
-unfolding thin
+neighbours-kind : Kind thinning.Neighbours beside withBeside nonrecursive
 neighbours-kind =
-    record {
-      next-is = λ t x e. ap (λ (k : Thinning). nextBy k t x) e;
-      out-is = λ t x e. ap (λ (k : Thinning). outBy k t x) e;
-      got = λ t s. refl;
-      own = λ t. refl;
-      again = λ t s u. refl;
-      still = λ t s. refl;
-    }
+    record { next-is = λ t x. refl; out-is = λ t x. refl; got = λ t s. refl; own = λ t. refl; again = λ t s u. refl; still = λ t s. refl }
 
 module _ {S : Type 0} (k : Thinning) (part : Thinner → S) (with-part : Thinner → S → Thinner) (f : Section S ℤ ℤ) (kind : Kind k part with-part f) (t : Thinner) (is-k : t .kind ≡ k) where
   -- what a feed of t keeps: the kind, and all but the decimator
   abbrev Good : Thinner → Type 0
   Good u = (u .kind ≡ k) × (u ≡ with-part t (part u))
 
+  thin-next : (u : Thinner) (x : ℤ) → u .kind ≡ k → thin .next u x ≡ with-part u (f .next (part u) x)
+  unfolding thin
+  thin-next u x e = ap (λ (j : Thinning). nextBy j u x) e ∙ kind .next-is u x
+
+  thin-out : (u : Thinner) (x : ℤ) → u .kind ≡ k → thin .out u x ≡ f .out (part u) x
+  unfolding thin
+  thin-out u x e = ap (λ (j : Thinning). outBy j u x) e ∙ kind .out-is u x
+
   good-next : (u : Thinner) (x : ℤ) → Good u → Good (thin .next u x)
   good-next u x g =
       let s : S = f .next (part u) x in
-      let n : thin .next u x ≡ with-part u s = kind .next-is u x (g .0) in
+      let n : thin .next u x ≡ with-part u s = thin-next u x (g .0) in
       let a : with-part u s ≡ with-part t s = ap (λ (v : Thinner). with-part v s) (g .1) ∙ kind .again t (part u) s in
       (ap (λ (v : Thinner). v .kind) n ∙ kind .still u s ∙ g .0, n ∙ a ∙ ap (with-part t) (sym (ap part n ∙ kind .got u s)))
 
@@ -87,8 +78,8 @@ module _ {S : Type 0} (k : Thinning) (part : Thinner → S) (with-part : Thinner
         due-same = λ u g. refl;
         val-same = λ u g d. refl;
         after-same = λ u g d. refl;
-        next-same = λ u x g d. ap part (kind .next-is u x (g .0)) ∙ kind .got u (f .next (part u) x);
-        now-same = λ u x g d. kind .out-is u x (g .0);
+        next-same = λ u x g d. ap part (thin-next u x (g .0)) ∙ kind .got u (f .next (part u) x);
+        now-same = λ u x g d. thin-out u x (g .0);
       })
       (λ u g d. g) (λ u x g d. good-next u x g) t w places start)
 

@@ -97,7 +97,7 @@ fn thin_moved(counts: Counts, sample_counter: usize) -> ThinMoved
 }
 
 // A block, the numbers by value and the arrays lent: the sums of src, before they are scaled, in front of dst while it has a place. The arrays of the other kind
-// stay as they are. A leaf for the line, which has looked at the numbers: it refuses nothing.
+// stay as they are. A leaf for the line, which has looked at the numbers: it tells no refusal, and with numbers that 15 refuses it does nothing.
 pub fn thin_block_at(
     thinning: Thinning,
     stages: usize,
