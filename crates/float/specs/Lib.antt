@@ -1,7 +1,6 @@
 pub mod F32
 pub mod PolyphaseOutput
 pub mod PolyphaseResamp
-pub mod LinePace
 pub mod PolyphaseWhole
 pub mod ResampleLinear
 pub mod Level
