@@ -17,7 +17,7 @@ use Rattle.q15.specs.Block.{blockAnswer, blockSpan, blockCuts}
 use Rattle.q15.proofs.Filling.{Filled, none-filled, next-filled, all-filled, listed-more, least-listed, block-filled}
 
 -- a list joined to another
-count-append : (k l : List ℤ) → cutCount w16 (k ++ l) ≡ cutCount w16 k + cutCount w16 l
+pub count-append : (k l : List ℤ) → cutCount w16 (k ++ l) ≡ cutCount w16 k + cutCount w16 l
 count-append [] l = let q : cutCount w16 l ≡ 0 + cutCount w16 l = omega arith in q
 count-append (z ∷ k) l = ap (λ (n : ℕ). cutOne w16 z + n) (count-append k l) ∙ sym (add-assoc (cutOne w16 z) (cutCount w16 k) (cutCount w16 l))
 

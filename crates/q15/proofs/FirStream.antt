@@ -2,9 +2,9 @@
 -- says where the next window begins and that the window's places hold its samples so far.
 use mathlib.Core.Path.{_≡_, refl, sym, ap, ap₂, _∙_}
 use mathlib.Core.Bool.{Bool, true, false, cond, _&&_}
-use mathlib.Core.List.{List, [], _∷_, _++_, map, map-append}
+use mathlib.Core.List.{List, [], _∷_, _++_, map}
 use mathlib.Core.Option.{Option, none, some}
-use Prim.Native.Nat.{ℕ, zero, suc, _+_, _*_, _/_, _%_, _-_, _≤_, _<_}
+use Prim.Native.Nat.{ℕ, suc, _+_, _*_, _/_, _%_, _-_, _≤_, _<_}
 use native.Mathlib.Nat.{suc-mul, zero-mul, mul-mod-left}
 use native.Mathlib.Omega.{arith}
 use native.Mathlib.Decide.{decLe}
@@ -17,7 +17,7 @@ use mir.Syntax.{w16}
 use Rattle.theory.specs.Lists.{listed}
 use Rattle.theory.specs.Sections.{Section, onto, outs}
 use Rattle.theory.proofs.Sections.{outs-off}
-use Rattle.theory.proofs.Listed.{collected, madeAt}
+use Rattle.theory.proofs.Listed.{collected, madeAt, map-listed}
 use Rattle.theory.proofs.Decimation.{firFires, fir-one, fir-no, fir-listed}
 use Rattle.q15.specs.Fixed.{flooredProduct, cut, isCut, at}
 use Rattle.q15.specs.FirSum.{firSum}
@@ -34,7 +34,7 @@ use Rattle.q15.proofs.FirSteps.{valid-on, valid-next, settings-in, line
 module _ {S A B : Type 0} (f : Section S A B) (R : List A → S → Type 0) (made : List A → Option B)
     (next-by : (v : List A) (s : S) (a : A) → R v s → R (v ++ (a ∷ [])) (f .next s a))
     (out-by : (v : List A) (s : S) (a : A) → R v s → f .out s a ≡ made (v ++ (a ∷ []))) where
-  outs-by : (v w : List A) (s : S) → R v s → outs f s w ≡ collected made v w
+  pub outs-by : (v w : List A) (s : S) → R v s → outs f s w ≡ collected made v w
   outs-by v [] s r = refl
   outs-by v (a ∷ w) s r =
       ap (λ (o : Option B). onto o (outs f (f .next s a) w)) (out-by v s a r)
@@ -49,7 +49,7 @@ window-ext c e T s u i j g h =
     sum-ext T (λ t. flooredProduct (at s (i + t)) (at c t)) (λ t. flooredProduct (at u (j + t)) (at e t))
     (λ t l. ap (λ (z : ℤ). flooredProduct z (at c t)) (h t l) ∙ ap (flooredProduct (at u (j + t))) (g t l))
 
-length-snoc : (v : List ℤ) (a : ℤ) → length (v ++ (a ∷ [])) ≡ suc (length v)
+pub length-snoc : (v : List ℤ) (a : ℤ) → length (v ++ (a ∷ [])) ≡ suc (length v)
 length-snoc v a = let e : length (v ++ (a ∷ [])) ≡ length v + 1 = length-append v (a ∷ []) in let q : length (v ++ (a ∷ [])) ≡ suc (length v) = omega (arith, e) in q
 
 module _ (c : List ℤ) (T D : ℕ) (pt : 0 < T) (small : T ≤ mostTaps) (pd : 0 < D) where
@@ -57,24 +57,24 @@ module _ (c : List ℤ) (T D : ℕ) (pt : 0 < T) (small : T ≤ mostTaps) (pd : 
   on = omega arith
 
   -- the sample at which the next window begins
-  abbrev base : ℕ → ℕ
+  abbrev pub base : ℕ → ℕ
   base n = decimatedCount T D n * D
 
   -- after the samples v the window that begins at b has the wait w, and its places hold its samples so far; what lies behind them does not matter
-  record Places (v d : List ℤ) (w b : ℕ) : Type 0 where
-    wait-is : w + length v ≡ b + T
-    waits : 0 < w
-    long : length d ≡ mostTaps
-    held : (j : ℕ) → j < T → b + j < length v → at d j ≡ at v (b + j)
+  pub record Places (v d : List ℤ) (w b : ℕ) : Type 0 where
+    pub wait-is : w + length v ≡ b + T
+    pub waits : 0 < w
+    pub long : length d ≡ mostTaps
+    pub held : (j : ℕ) → j < T → b + j < length v → at d j ≡ at v (b + j)
 
-  record Held (v : List ℤ) (s : FirDecimator) : Type 0 where
-    delay : List ℤ
-    wait : ℕ
-    is : s ≡ firState c T D delay wait
-    places : Places v delay wait (base (length v))
+  pub record Held (v : List ℤ) (s : FirDecimator) : Type 0 where
+    pub delay : List ℤ
+    pub wait : ℕ
+    pub is : s ≡ firState c T D delay wait
+    pub places : Places v delay wait (base (length v))
 
   -- a sample more, and the places hold it too
-  more : (v d : List ℤ) (w b : ℕ) (a : ℤ) → Places v d w b → (j : ℕ) → j < T → b + j < suc (length v) → at (stored T w a d) j ≡ at (v ++ (a ∷ [])) (b + j)
+  pub more : (v d : List ℤ) (w b : ℕ) (a : ℤ) → Places v d w b → (j : ℕ) → j < T → b + j < suc (length v) → at (stored T w a d) j ≡ at (v ++ (a ∷ [])) (b + j)
   unfolding stored
   more v d w b a p j l h = elim (decLe w T) [
     | yes k ↦
@@ -99,14 +99,14 @@ module _ (c : List ℤ) (T D : ℕ) (pt : 0 < T) (small : T ≤ mostTaps) (pd : 
       ap (λ (b : Bool). b && eqb ((suc n - T) % D) 0) (le-leb T (suc n) (omega (arith, p .wait-is)))
       ∙ eq-eqb ((suc n - T) % D) 0 (ap (λ (i : ℕ). i % D) m ∙ mul-mod-left (decimatedCount T D n) D)
 
-  rests : (v d : List ℤ) (w : ℕ) → Places v d w (base (length v)) → 1 < w → firFires T D pt pd (suc (length v)) ≡ false
+  pub rests : (v d : List ℤ) (w : ℕ) → Places v d w (base (length v)) → 1 < w → firFires T D pt pd (suc (length v)) ≡ false
   rests v d w p l = go (firFires T D pt pd (suc (length v))) refl
     where
       go : (b : Bool) → firFires T D pt pd (suc (length v)) ≡ b → b ≡ false
       go true e = let q : base (length v) + T ≡ suc (length v) = fir-one T D pt pd (length v) e .1 in absurd (omega (arith, q, p .wait-is, l))
       go false e = refl
 
-  held-next : (v : List ℤ) (s : FirDecimator) (a : ℤ) → Held v s → Held (v ++ (a ∷ [])) (firNext s a)
+  pub held-next : (v : List ℤ) (s : FirDecimator) (a : ℤ) → Held v s → Held (v ++ (a ∷ [])) (firNext s a)
   unfolding firNext
   held-next v s a h = go (decLe (h .wait) 1)
     where
@@ -159,10 +159,10 @@ module _ (c : List ℤ) (T D : ℕ) (pt : 0 < T) (small : T ≤ mostTaps) (pd : 
           }
 
   -- the sum that the last of the samples u makes
-  abbrev lastSum : List ℤ → ℤ
+  abbrev pub lastSum : List ℤ → ℤ
   lastSum u = windowSum c T u (length u - T)
 
-  held-out : (v : List ℤ) (s : FirDecimator) (a : ℤ) → Held v s → firSumOut s a ≡ madeAt (firFires T D pt pd) lastSum (v ++ (a ∷ []))
+  pub held-out : (v : List ℤ) (s : FirDecimator) (a : ℤ) → Held v s → firSumOut s a ≡ madeAt (firFires T D pt pd) lastSum (v ++ (a ∷ []))
   unfolding firSumOut
   held-out v s a h = ap (λ (x : FirDecimator). firSumOut x a) (h .is) ∙ go (decLe (h .wait) 1)
     where
@@ -190,7 +190,7 @@ module _ (c : List ℤ) (T D : ℕ) (pt : 0 < T) (small : T ≤ mostTaps) (pd : 
           let f : firFires T D pt pd (length u) ≡ false = ap (firFires T D pt pd) (length-snoc v a) ∙ rests v (h .delay) w (h .places) above in
           rw (ne-eqb T 0 on, le-ltb mostTaps T small, lt-leb w 1 above) (sym (ap (λ (b : Bool). cond b (some (lastSum u)) none) f))
 
-  opened : Held [] (firState c T D (replicate mostTaps (pos 0)) T)
+  pub opened : Held [] (firState c T D (replicate mostTaps (pos 0)) T)
   opened =
       let z : base 0 ≡ 0 = ap (λ (b : Bool). cond b ((0 - T) / D + 1) 0 * D) (lt-leb T 0 pt) ∙ zero-mul D in
       record {
@@ -200,7 +200,7 @@ module _ (c : List ℤ) (T D : ℕ) (pt : 0 < T) (small : T ≤ mostTaps) (pd : 
         places = record { wait-is = omega (arith, z); waits = pt; long = length-replicate mostTaps (pos 0); held = λ j l m. absurd (omega (arith, m)) };
       }
 
-  summed : (w : List ℤ) → outs summing (firState c T D (replicate mostTaps (pos 0)) T) w ≡ listed (decimatedCount T D (length w)) (λ i. windowSum c T w (i * D))
+  pub summed : (w : List ℤ) → outs summing (firState c T D (replicate mostTaps (pos 0)) T) w ≡ listed (decimatedCount T D (length w)) (λ i. windowSum c T w (i * D))
   summed w =
       outs-by summing Held (madeAt (firFires T D pt pd) lastSum) held-next held-out [] w (firState c T D (replicate mostTaps (pos 0)) T) opened
       ∙ fir-listed T D pt pd lastSum w
@@ -212,11 +212,12 @@ module _ (c : List ℤ) (T D : ℕ) (pt : 0 < T) (small : T ≤ mostTaps) (pd : 
       let e : length (take (i * D + T) w) - T + t ≡ i * D + t = omega (arith, n) in
       ap (at (take (i * D + T) w)) e ∙ getD-take (i * D + T) w (i * D + t) (pos 0) (omega arith)))
 
-off : (w : List ℤ) → outs fir firZeros w ≡ w
+-- off, it hands each value on, and makes no sum
+pub off : (w : List ℤ) (s : FirDecimator) → s .«tap_count» ≡ 0 → outs fir s w ≡ w
 unfolding firNext firOut
-off w = outs-off fir (λ s. s .«tap_count» ≡ 0) (λ s a o. rw (eq-eqb (s .«tap_count») 0 o) o) (λ s a o. rw (eq-eqb (s .«tap_count») 0 o)) firZeros w refl
+off w s e = outs-off fir (λ r. r .«tap_count» ≡ 0) (λ r a o. rw (eq-eqb (r .«tap_count») 0 o) o) (λ r a o. rw (eq-eqb (r .«tap_count») 0 o)) s w e
 
-off-sums : (w : List ℤ) (s : FirDecimator) → s .«tap_count» ≡ 0 → outs summing s w ≡ []
+pub off-sums : (w : List ℤ) (s : FirDecimator) → s .«tap_count» ≡ 0 → outs summing s w ≡ []
 unfolding firNext firSumOut
 off-sums [] s e = refl
 off-sums (a ∷ w) s e = rw (eq-eqb (s .«tap_count») 0 e) (off-sums w s e)
@@ -247,7 +248,7 @@ taps-kept s a = go (eqb (s .«tap_count») 0) (ltb mostTaps (s .«tap_count»)) 
     go false false true p q = refl
     go false false false p q = refl
 
-cut-sums : (w : List ℤ) (s : FirDecimator) → (s .«tap_count» ≡ 0 → ⊥) → outs fir s w ≡ map (cut w16) (outs summing s w)
+pub cut-sums : (w : List ℤ) (s : FirDecimator) → (s .«tap_count» ≡ 0 → ⊥) → outs fir s w ≡ map (cut w16) (outs summing s w)
 cut-sums [] s n = refl
 cut-sums (a ∷ w) s n =
     ap₂ {C = List ℤ} (λ (o : Option ℤ) (l : List ℤ). onto o l) (out-cut s a n) (cut-sums w (firNext s a) (λ e. n (sym (taps-kept s a) ∙ e))) ∙ go (firSumOut s a)
@@ -255,10 +256,6 @@ cut-sums (a ∷ w) s n =
     go : (o : Option ℤ) → onto (cutOf o) (map (cut w16) (outs summing (firNext s a) w)) ≡ map (cut w16) (onto o (outs summing (firNext s a) w))
     go none = refl
     go (some z) = refl
-
-map-listed : {A B : Type 0} (g : A → B) (n : ℕ) (f : ℕ → A) → map g (listed n f) ≡ listed n (λ i. g (f i))
-map-listed g zero f = refl
-map-listed {A} {B} g (suc n) f = map-append g (listed n f) (f n ∷ []) ∙ ap (λ (l : List B). l ++ (g (f n) ∷ [])) (map-listed g n f)
 
 pub decimated-sums : (c : List ℤ) (D : ℕ) (w : List ℤ) → map (cut w16) (firSums c D w) ≡ decimated c D w
 unfolding firSums decimated filtered
@@ -329,4 +326,4 @@ line-streamed c D e w = go (decLe 1 (length c))
     go (yes h) =
         let n : length c ≡ 0 → ⊥ = omega arith in
         rw (ne-eqb (length c) 0 n) (fresh-streamed c D (line-settings (length c) D n e) w)
-    go (no h) = let z : length c ≡ 0 = omega arith in rw (eq-eqb (length c) 0 z) (off w)
+    go (no h) = let z : length c ≡ 0 = omega arith in rw (eq-eqb (length c) 0 z) (off w firZeros refl)

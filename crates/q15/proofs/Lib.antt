@@ -9,4 +9,5 @@ mod Windows
 pub mod FirSteps
 pub mod FirStream
 pub mod FirOpening
+pub mod FirBlock
 pub mod Readings

@@ -64,12 +64,12 @@ pub struct FirOpening {
 }
 
 // A lent array's length, which no parameter carries.
-fn array_length(a: [i16; MOST_TAPS])
+pub(crate) fn array_length(a: [i16; MOST_TAPS])
     ensures { λ _. ⌜ length a ≡ mostTaps ⌝ }
 {}
 
 // Puts a sample of the next output's window at its place.
-fn store(delay: &mut [i16; MOST_TAPS], t: usize, wait: usize, x: i16)
+pub(crate) fn store(delay: &mut [i16; MOST_TAPS], t: usize, wait: usize, x: i16)
     ensures { λ _. ⌜ now (delay .exit) ≡ stored t wait x (now (delay .entry)) ⌝ }
 {
     array_length(*delay);
@@ -81,7 +81,7 @@ fn store(delay: &mut [i16; MOST_TAPS], t: usize, wait: usize, x: i16)
 }
 
 // Moves the window down by the factor.
-fn move_down(delay: &mut [i16; MOST_TAPS], t: usize, factor: usize)
+pub(crate) fn move_down(delay: &mut [i16; MOST_TAPS], t: usize, factor: usize)
     requires { ⌜ t ≤ mostTaps ⌝ }
     ensures { λ _. ⌜ now (delay .exit) ≡ moved t factor (now (delay .entry)) ⌝ }
 {

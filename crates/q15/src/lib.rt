@@ -1,5 +1,6 @@
 // 01, sections 2 and 3 and the Q15 part of section 7: 16-bit numbers of 1/32768ths and their rate converters.
 pub mod block;
+pub mod fir_block;
 pub mod fir_decimator;
 pub mod fir_sum;
 pub mod fixed;
@@ -9,6 +10,9 @@ pub mod resample_linear;
 
 pub use crate::block::FirBlock;
 pub use crate::block::MOST_FACTOR;
+pub use crate::fir_block::FirBlockAt;
+pub use crate::fir_block::MOST_FIR_BLOCK;
+pub use crate::fir_block::fir_block_at;
 pub use crate::fir_decimator::FirAt;
 pub use crate::fir_decimator::FirDecimator;
 pub use crate::fir_decimator::FirMade;

@@ -61,14 +61,20 @@ fn decimate_of(
     cuts
 }
 
-// The same for all the taps. Few taps are a constant in each arm, so that the compiler unrolls their sum; its loop for eight and more takes eight at once.
-fn decimate(src: &[i16], coeffs: &[i16], d: usize, count: usize, dst: &mut [i16]) -> u32
-    requires { ⌜ (count ≤ length (now dst)) × (length (now coeffs) ≤ mostBlock) × (length (now src) ≤ mostBlock)
-        × ((i : ℕ) → i < count → i * d + length (now coeffs) ≤ length (now src)) × (count ≤ mostBlock) ⌝ }
-    ensures span { λ _. ⌜ now (dst .exit) ≡ listed count (λ i. filtered (now (coeffs .entry)) (length (now (coeffs .entry))) (now (src .entry)) (i * d)) ++ drop count (now (dst .entry)) ⌝ }
-    ensures cuts { λ r. ⌜ r ≡ cutCount w16 (listed count (λ i. windowSum (now (coeffs .entry)) (length (now (coeffs .entry))) (now (src .entry)) (i * d))) ⌝ }
+// The same. Few taps are a constant in each arm, so that the compiler unrolls their sum; its loop for eight and more takes eight at once.
+pub(crate) fn decimate(
+    src: &[i16],
+    coeffs: &[i16],
+    t: usize,
+    d: usize,
+    count: usize,
+    dst: &mut [i16],
+) -> u32
+    requires { ⌜ (count ≤ length (now dst)) × (t ≤ length (now coeffs)) × (t ≤ mostBlock) × (length (now src) ≤ mostBlock)
+        × ((i : ℕ) → i < count → i * d + t ≤ length (now src)) × (count ≤ mostBlock) ⌝ }
+    ensures span { λ _. ⌜ now (dst .exit) ≡ listed count (λ i. filtered (now (coeffs .entry)) t (now (src .entry)) (i * d)) ++ drop count (now (dst .entry)) ⌝ }
+    ensures cuts { λ r. ⌜ r ≡ cutCount w16 (listed count (λ i. windowSum (now (coeffs .entry)) t (now (src .entry)) (i * d))) ⌝ }
 {
-    let t = coeffs.len();
     match t {
         1 => decimate_of(src, coeffs, 1, d, count, dst),
         2 => decimate_of(src, coeffs, 2, d, count, dst),
@@ -105,7 +111,7 @@ pub fn polyphase_decimate_q15(
         },
         Rows::Passed => {
             let count = decimated_count(n, t, decimation_factor, m);
-            let cuts = decimate(src, coeffs, decimation_factor, count, dst) as usize;
+            let cuts = decimate(src, coeffs, t, decimation_factor, count, dst) as usize;
             FirBlock {
                 answer: Count::Written(count),
                 cuts,

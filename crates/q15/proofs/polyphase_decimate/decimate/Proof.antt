@@ -1,4 +1,4 @@
--- `polyphase_decimate::decimate` meets its contract: each arm decimates by as many taps as it names, and they are all.
+-- `polyphase_decimate::decimate` meets its contract: each arm decimates by as many taps as it names, and so many are asked for.
 use mathlib.Core.Path.{_≡_, refl}
 use Prim.Native.Nat.{ℕ, _+_, _*_, _≤_, _<_}
 use native.Mathlib.Omega.{arith}
@@ -8,13 +8,13 @@ use Rattle.refusal.specs.Rows.{mostBlock}
 use Rattle.q15.proofs.polyphase_decimate.decimate.Statement.{statement}
 use Rattle.q15.proofs.polyphase_decimate.decimate.Tie as tie
 
--- what a call with t taps asks for, where t are all
-module _ (c : tie.Start) (t : ℕ) (e : length (c .args .coeffs .now) ≡ t) where
+-- what a call with t taps asks for, where so many are asked for
+module _ (c : tie.Start) (t : ℕ) (e : c .args .t ≡ t) where
   abbrev Asked : Type 0
   Asked = (c .args .count ≤ length (c .args .dst .now)) × (t ≤ length (c .args .coeffs .now)) × (t ≤ mostBlock) × (length (c .args .src .now) ≤ mostBlock) × ((i : ℕ) → i < c .args .count → i * c .args .d + t ≤ length (c .args .src .now)) × (c .args .count ≤ mostBlock)
 
   asked : Asked
-  asked = (c .pre .0, omega (arith, e), omega (arith, e, c .pre .1), c .pre .2, λ i l. omega (arith, e, c .pre .3 i l), c .pre .4)
+  asked = (c .pre .0, omega (arith, e, c .pre .1), omega (arith, e, c .pre .2), c .pre .3, λ i l. omega (arith, e, c .pre .4 i l), c .pre .5)
 
 decimate-of-requires : tie.Need-decimate-of-requires
 decimate-of-requires c κs = asked (c .before .before) 1 (c .before .match .keys1)

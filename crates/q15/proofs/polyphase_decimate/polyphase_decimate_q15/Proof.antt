@@ -41,6 +41,7 @@ decimate-requires c κs =
     let a = start e .args in
     let r = c .before .decimated-count .ensures in (
       omega (arith, r),
+      omega arith,
       limits e .taps .most,
       limits e .rest .most,
       (λ i l. decimated-in (length (a .coeffs .now)) (a .decimation-factor) (length (a .src .now)) i (omega (arith, l, r))),
