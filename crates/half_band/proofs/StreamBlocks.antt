@@ -4,7 +4,7 @@ use mathlib.Core.Path.{_≡_, refl, sym, ap, _∙_, subst}
 use mathlib.Core.Bool.{cond}
 use mathlib.Core.List.{List, [], _∷_, _++_}
 use mathlib.Core.Option.{Option, none, some}
-use Prim.Native.Nat.{ℕ, _+_, _-_, _*_, _/_, _%_, _≤_, _<_, min}
+use Prim.Native.Nat.{ℕ, suc, _+_, _-_, _*_, _/_, _%_, _≤_, _<_, min}
 use native.Mathlib.Omega.{arith}
 use lib.Dec.{eqb}
 use lib.ListN.{length, getD, set, take, drop, length-append}
@@ -128,11 +128,11 @@ module _ (k : ℕ) (delays held : List Float) (counts : List ℕ) (span : List F
         → ((before + n) / 2 ≡ length (stageOuts k lent (take n span))) × (t ≡ stageOuts k lent (take n span) ++ drop ((before + n) / 2) span)
     stage-made t et = (
       sym (
-      ap length (made-is ∙ ap (outs (decimator (T k)) window) taken-is)
-      ∙ made-count (T k) window (pairs values)
-      ∙ length-pairs values
-      ∙ ap (λ (m : ℕ). m / 2) values-long
-      ),
+          ap length (made-is ∙ ap (outs (decimator (T k)) window) taken-is)
+          ∙ made-count (T k) window (pairs values)
+          ∙ length-pairs values
+          ∙ ap (λ (m : ℕ). m / 2) values-long
+          ),
       et ∙ ap (λ (l : List Float). l ++ drop ((before + n) / 2) span) (sym made-is),
     )
 
