@@ -3,7 +3,7 @@
 use mathlib.Core.Path.{_≡_, refl, sym, ap, _∙_}
 use mathlib.Core.List.{List, [], _∷_}
 use mathlib.Core.Option.{some}
-use Prim.Native.Nat.{ℕ, zero, suc, _+_, _-_, _*_, _%_, _≤_, _<_, min}
+use Prim.Native.Nat.{ℕ, _+_, _-_, _*_, _%_, _≤_, _<_, min}
 use native.Mathlib.Omega.{arith}
 use lib.ListN.{length, getD, set, take, drop}
 use lib.Seq.{set-getD}
@@ -11,7 +11,7 @@ use lib.Ieee.{Float, nan}
 use Rattle.theory.specs.Sections.{Section, onto, state, outs}
 use Rattle.theory.proofs.Sections.{state-keeps}
 use Rattle.float.specs.F32.{zero32}
-use Rattle.half_band.specs.Windows.{slid, pairs, decimator, spliced}
+use Rattle.half_band.specs.Windows.{pairs, decimator, spliced}
 use Rattle.half_band.specs.HbfStream.{Half, half, Passed, stageIn, withStage, through, stream, streamOf}
 use Rattle.half_band.specs.declared.hbf_stream.HbfStream.{HbfStream}
 use Rattle.half_band.proofs.Moving.{length-slid}

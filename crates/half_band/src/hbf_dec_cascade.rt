@@ -75,7 +75,7 @@ pub(crate) fn decimate_stage(
     decimate_in_place(&mut delays[from..past], &cells[first..end], lead, span, n)
 }
 
-// So many frames of the span go through the stages, and an output of each stands in front of it.
+// So many frames of the span go through the stages, and an output of each stands in front of it. Nothing is held before them, so the lead is empty.
 fn decimate_stages(
     depth: usize,
     delays: &mut [f32],

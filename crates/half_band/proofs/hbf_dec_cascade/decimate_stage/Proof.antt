@@ -1,5 +1,5 @@
 -- `half_band::hbf_dec_cascade::decimate_stage` meets its contract: the parts lent are the window and the taps of stage k.
-use mathlib.Core.Path.{_≡_, sym, ap, _∙_}
+use mathlib.Core.Path.{_≡_, ap, _∙_}
 use mathlib.Core.List.{List, _++_}
 use Prim.Native.Nat.{ℕ, _+_, _*_, _-_, _≤_}
 use lib.ListN.{length, take, drop}

@@ -1,7 +1,7 @@
 -- `half_band::hbf_stream_block::stage_block` meets its contract: the pairs of the held sample and the values are what the stage takes in (`StageRuns`).
 use mathlib.Core.Path.{_≡_, refl, sym}
 use mathlib.Core.List.{[], _∷_}
-use Prim.Native.Nat.{_+_, _≤_}
+use Prim.Native.Nat.{_≤_}
 use lib.ListN.{length, getD, take}
 use lib.Seq.{length-take-le}
 use lib.Ieee.{nan}
