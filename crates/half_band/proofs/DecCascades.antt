@@ -26,7 +26,8 @@ use Rattle.half_band.proofs.StageTables.{FiveStages}
 use Rattle.half_band.proofs.Streaming.{stream-whole}
 use Rattle.half_band.proofs.Frames.{made-count, nothing-held}
 use Rattle.half_band.proofs.Stages.{Sized}
-use Rattle.half_band.proofs.StageByStage.{stagesOn, windowOf, Ready, Staged, staged, staged-long, stages-all, stages-none}
+use Rattle.half_band.proofs.StageLists.{stagesOn}
+use Rattle.half_band.proofs.StageByStage.{windowOf, Ready, Staged, staged, staged-long, stages-all, stages-none}
 
 abbrev pub bare : ℕ → List Float → HbfStream
 bare depth delays = streamOf depth delays (replicate 5 zero32) (replicate 5 0)

@@ -22,6 +22,9 @@ pub mod Stages
 pub mod Streaming
 pub mod HeldOnes
 pub mod Frames
+pub mod StageRuns
+pub mod StageLists
 pub mod StageByStage
 pub mod DecCascades
 pub mod IntCascades
+pub mod StreamBlocks

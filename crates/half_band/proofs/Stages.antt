@@ -48,7 +48,7 @@ module _ (taps : ℕ → List Float) (five : FiveStages taps) where
   fits : (k : ℕ) → k < 5 → 4 * length (taps k) ≤ 96
   fits k h = omega (arith, five .most k h)
 
-  window-long : (k : ℕ) (s : HbfStream) → k < 5 → Sized s → length (stageIn taps k s .window) ≡ 4 * length (taps k)
+  pub window-long : (k : ℕ) (s : HbfStream) → k < 5 → Sized s → length (stageIn taps k s .window) ≡ 4 * length (taps k)
   unfolding stageIn
   window-long k s h z = part-long 96 (λ j. 4 * length (taps j)) fits (s .delays) (z .delays) k h
 

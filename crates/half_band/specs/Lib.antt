@@ -6,6 +6,7 @@ pub mod Limits
 pub mod Answers
 pub mod HbfDec
 pub mod HbfStream
+pub mod HbfStreamBlock
 pub mod HbfDecCascade
 pub mod HbfInt
 pub mod HbfIntCascade

@@ -106,16 +106,40 @@ fn decimate_along(line: &[f32], taps: &[f32], span: &mut [f32], n: usize)
 // Places for the longest window and for a tape behind it.
 const LINE: usize = DEC_DELAYS + TAPE;
 
-// The first 2n values of the span go through the decimator, and their outputs stand in front of it. They are put behind the window on a line of their own, so
-// that nothing is moved for a pair.
-pub(crate) fn decimate_in_place(window: &mut [f32], taps: &[f32], span: &mut [f32], n: usize)
-    requires { ⌜ (1 ≤ length (now taps)) × (length (now taps) ≤ 23) × (length (now window) ≡ 4 * length (now taps)) × (2 * n ≤ length (now span)) × (2 * n ≤ 192) ⌝ }
-    ensures { λ _. ⌜ (now (window .exit) ≡ state (decimator (now (taps .entry))) (now (window .entry)) (pairs (take (2 * n) (now (span .entry))))) × (now (span .exit) ≡ outs (decimator (now (taps .entry))) (now (window .entry)) (pairs (take (2 * n) (now (span .entry)))) ++ drop n (now (span .entry))) ⌝ }
+// Window, lead and values in a row in front of a line.
+fn lay_led(line: &mut [f32], window: &[f32], lead: &[f32], values: &[f32])
+    requires { ⌜ length (now window) + length (now lead) + length (now values) ≤ length (now line) ⌝ }
+    ensures { λ _. ⌜ (
+        let w = now (window .entry) in
+        let l = now (lead .entry) in
+        let v = now (values .entry) in
+        take (length w + length l + length v) (now (line .exit)) ≡ w ++ (l ++ v)) ⌝ }
+{
+    let past = window.len() + lead.len() + values.len();
+    lay(line, window, lead);
+    put_at_end(&mut line[..past], values);
+}
+
+// The first 2n values of the lead and the span go through the decimator, and their outputs stand in front of the span. They are put behind the window on a line
+// of their own, so that nothing is moved for a pair; and a sample that was held before the values needs no place in the span.
+pub(crate) fn decimate_in_place(
+    window: &mut [f32],
+    taps: &[f32],
+    lead: &[f32],
+    span: &mut [f32],
+    n: usize,
+)
+    requires { ⌜ (1 ≤ length (now taps)) × (length (now taps) ≤ 23) × (length (now window) ≡ 4 * length (now taps)) × (length (now lead) ≤ 2 * n) × (2 * n ≤ length (now lead) + length (now span)) × (n ≤ length (now span)) × (2 * n ≤ 192) ⌝ }
+    ensures { λ _. ⌜ (
+        let stage = decimator (now (taps .entry)) in
+        let taken = pairs (take (2 * n) (now (lead .entry) ++ now (span .entry))) in
+        (now (window .exit) ≡ state stage (now (window .entry)) taken) × (now (span .exit) ≡ outs stage (now (window .entry)) taken ++ drop n (now (span .entry)))) ⌝ }
 {
     let values = 2 * n;
     let past = values + window.len();
+    let behind = values - lead.len();
     let mut line = [0.0f32; LINE];
-    lay(&mut line, window, &span[..values]);
+    lay_led(&mut line, window, lead, &span[..behind]);
     put_at_end(window, &line[values..past]);
     decimate_along(&line[..past], taps, span, n);
 }

@@ -2,7 +2,7 @@
 // of 2^depth as it has places for, and each stage turns the list there into half as many values in place: nothing is held at the end of whole frames.
 ghost use mathlib.Core.Path.{_≡_};
 ghost use mathlib.Core.List.{_++_};
-ghost use Prim.Native.Nat.{_*_, _^_, _≤_, _<_};
+ghost use Prim.Native.Nat.{_+_, _*_, _^_, _≤_, _<_};
 ghost use lib.ListN.{length, take, drop, replicate};
 ghost use Rattle.theory.specs.Sections.{state, outs};
 ghost use Rattle.refusal.specs.Outcome.{openingNumber};
@@ -49,10 +49,22 @@ pub struct HbfDecCascadeBlock {
     pub state: HbfDecCascade,
 }
 
-// The first 2n values of the span go through stage k, and their outputs stand in front of it.
-fn decimate_stage(k: usize, delays: &mut [f32], span: &mut [f32], n: usize, table: HbfTable)
-    requires { ⌜ (k < 5) × (length (now delays) ≡ 480) × (2 * n ≤ length (now span)) × (2 * n ≤ 192) ⌝ }
-    ensures { λ _. ⌜ (now (delays .exit) ≡ spliced (96 * k) (4 * length (stageTaps (tableOf table) k)) (state (decimator (stageTaps (tableOf table) k)) (take (4 * length (stageTaps (tableOf table) k)) (drop (96 * k) (now (delays .entry)))) (pairs (take (2 * n) (now (span .entry))))) (now (delays .entry))) × (now (span .exit) ≡ outs (decimator (stageTaps (tableOf table) k)) (take (4 * length (stageTaps (tableOf table) k)) (drop (96 * k) (now (delays .entry)))) (pairs (take (2 * n) (now (span .entry)))) ++ drop n (now (span .entry))) ⌝ }
+// The first 2n values of the lead and the span go through stage k, and their outputs stand in front of the span.
+pub(crate) fn decimate_stage(
+    k: usize,
+    delays: &mut [f32],
+    lead: &[f32],
+    span: &mut [f32],
+    n: usize,
+    table: HbfTable,
+)
+    requires { ⌜ (k < 5) × (length (now delays) ≡ 480) × (length (now lead) ≤ 2 * n) × (2 * n ≤ length (now lead) + length (now span)) × (n ≤ length (now span)) × (2 * n ≤ 192) ⌝ }
+    ensures { λ _. ⌜ (
+        let taps = stageTaps (tableOf table) k in
+        let window = take (4 * length taps) (drop (96 * k) (now (delays .entry))) in
+        let taken = pairs (take (2 * n) (now (lead .entry) ++ now (span .entry))) in
+        (now (delays .exit) ≡ spliced (96 * k) (4 * length taps) (state (decimator taps) window taken) (now (delays .entry)))
+        × (now (span .exit) ≡ outs (decimator taps) window taken ++ drop n (now (span .entry)))) ⌝ }
 {
     let taps = stage_of(table, k);
     let first = taps.first;
@@ -60,10 +72,10 @@ fn decimate_stage(k: usize, delays: &mut [f32], span: &mut [f32], n: usize, tabl
     let from = DEC_DELAYS * k;
     let past = from + 4 * taps.count;
     let cells = cells_of(table, &HBF_TAPS, &HBF_TAPS_98);
-    decimate_in_place(&mut delays[from..past], &cells[first..end], span, n)
+    decimate_in_place(&mut delays[from..past], &cells[first..end], lead, span, n)
 }
 
-// So many frames of the span go through the stages, and an output of each stands in front of it.
+// So many frames of the span go through the stages, and an output of each stands in front of it. Nothing is held before them, so the lead is empty.
 fn decimate_stages(
     depth: usize,
     delays: &mut [f32],
@@ -74,11 +86,12 @@ fn decimate_stages(
     requires { ⌜ (depth ≤ 5) × (length (now delays) ≡ 480) × (frames * 2 ^ depth ≤ length (now span)) × (length (now span) ≤ 192) ⌝ }
     ensures { λ _. ⌜ (streamOf depth (now (delays .exit)) (replicate 5 zero32) (replicate 5 0) ≡ state (stream (stageTaps (tableOf table))) (streamOf depth (now (delays .entry)) (replicate 5 zero32) (replicate 5 0)) (take (frames * 2 ^ depth) (now (span .entry)))) × (take frames (now (span .exit)) ≡ outs (stream (stageTaps (tableOf table))) (streamOf depth (now (delays .entry)) (replicate 5 zero32) (replicate 5 0)) (take (frames * 2 ^ depth) (now (span .entry)))) ⌝ }
 {
+    let none = [0.0f32; 1];
     let mut n = frames * rate_change(depth);
     let mut k = 0;
     while k < depth {
         n = n / 2;
-        decimate_stage(k, delays, span, n, table);
+        decimate_stage(k, delays, &none[..0], span, n, table);
         k += 1;
     }
 }

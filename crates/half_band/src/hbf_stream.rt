@@ -63,7 +63,7 @@ fn stage_pair(k: usize, delays: &mut [f32], a: f32, b: f32) -> f32
 }
 
 // An array by value is as long as its type says; a lent one is known to be so after this call, which compiles to nothing.
-fn all_delays(a: [f32; DEC_CASCADE_DELAYS])
+pub(crate) fn all_delays(a: [f32; DEC_CASCADE_DELAYS])
     ensures { λ _. ⌜ length a ≡ 480 ⌝ }
 {}
 

@@ -1,5 +1,5 @@
 -- `half_band::hbf_dec_cascade::decimate_stage` meets its contract: the parts lent are the window and the taps of stage k.
-use mathlib.Core.Path.{_≡_, sym, ap, _∙_}
+use mathlib.Core.Path.{_≡_, ap, _∙_}
 use mathlib.Core.List.{List, _++_}
 use Prim.Native.Nat.{ℕ, _+_, _*_, _-_, _≤_}
 use lib.ListN.{length, take, drop}
@@ -17,7 +17,7 @@ use Rattle.half_band.proofs.hbf_dec_cascade.decimate_stage.Statement.{s
 use Rattle.half_band.proofs.hbf_dec_cascade.decimate_stage.Tie as tie
 
 abbrev begun : tie.After-stage-of → tie.Start
-begun c = c .before .before .before
+begun c = c .before .before .before .before
 
 -- the table that is run
 abbrev run : tie.After-stage-of → Table
@@ -114,7 +114,7 @@ decimate-in-place-requires c κs =
     let g = q .most (begun m .args .k) (begun m .pre .0) in
     let t = ap length (taps-of o) in
     let w = window-long m in
-    (omega arith, omega arith, omega arith, begun m .pre .2, begun m .pre .3)
+    (omega arith, omega arith, omega arith, begun m .pre .2, begun m .pre .3, begun m .pre .4, begun m .pre .5)
 
 same-length : tie.Need-same-length
 same-length c = search needs
@@ -130,7 +130,7 @@ returns c =
     let d = now (begun m .args .delays) in
     let s = now (begun m .args .span) in
     let n = begun m .args .n in
-    let v = pairs (take (2 * n) s) in
+    let v = pairs (take (2 * n) (now (begun m .args .lead) ++ s)) in
     let o = c .before .before .before .before .decimate-in-place in
     let i = 96 * k + 4 * m .stage-of .result .count - 96 * k in (
       ap (λ (w : List Float). spliced (96 * k) i w d) (o .ensures .0)
