@@ -4,11 +4,11 @@ ghost use Rattle.theory.specs.Sections.{outs};
 ghost use Rattle.half_band.specs.HbfTaps.{stageTaps, decimation};
 ghost use Rattle.half_band.specs.HbfTaps98.{decimation98};
 ghost use Rattle.half_band.specs.HbfStream.{stream, streamFresh};
-ghost use Rattle.reach.specs.Reach.{reachAt, Reaches};
+ghost use Rattle.half_band.specs.Reach.{reachAt, Reaches};
 use crate::answers::length_number;
 use crate::answers::length_value;
-use reach::hbf_dec_reach;
-use reach::hbf_dec_reach_98;
+use half_band::hbf_dec_reach;
+use half_band::hbf_dec_reach_98;
 
 #[no_mangle]
 pub extern "C" fn gauge_raw_hbf_dec_reach(depth: usize, reach: &mut usize) -> usize

@@ -24,6 +24,7 @@ use Rattle.half_band.proofs.Choices.{third}
 use Rattle.half_band.proofs.WholeLists.{pairs-front}
 use Rattle.half_band.proofs.StageTables.{FiveStages}
 use Rattle.half_band.proofs.Streaming.{stream-whole}
+use Rattle.half_band.proofs.Reaching.{stream-reaches}
 use Rattle.half_band.proofs.Frames.{made-count, nothing-held}
 use Rattle.half_band.proofs.Stages.{Sized}
 use Rattle.half_band.proofs.StageLists.{stagesOn}
@@ -192,4 +193,5 @@ module _ (taps : ℕ → List Float) (five : FiveStages taps) where
         never-refused = λ v. not-outside d 1 5 (b .least) (b .most);
         nothing-held = λ v q h. nothing-held taps five d (replicate 480 zero32) (b .most) (length-replicate 480 zero32) v q h;
         whole = λ v. stream-whole taps five d (b .most) v;
+        reach = stream-reaches taps five d (b .most);
       }

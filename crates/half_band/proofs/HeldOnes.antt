@@ -16,11 +16,13 @@ use Rattle.theory.specs.Sections.{state, outs}
 use Rattle.float.specs.F32.{zero32}
 use Rattle.half_band.specs.HalfBand.{decimatedBy}
 use Rattle.half_band.specs.HbfTaps.{stageTaps, decimation}
+use Rattle.half_band.specs.Reach.{reachOf, Reaches}
 use Rattle.half_band.specs.Windows.{slid}
 use Rattle.half_band.specs.HbfStream.{Half, half, stageIn, withStage, through, stream, hbfStream, streamFresh, heldFine, streamRefused, streamRefusedInLine, StreamMeets}
 use Rattle.half_band.specs.declared.hbf_stream.HbfStream.{HbfStream}
 use Rattle.half_band.proofs.StageTables.{dec-stages}
 use Rattle.half_band.proofs.Streaming.{depth-next, stream-whole}
+use Rattle.half_band.proofs.Reaching.{stream-reaches}
 
 -- the first n stages
 abbrev pub AtMostOne : ℕ → List ℕ → Type 0
@@ -143,8 +145,13 @@ pub fresh-whole : (d : ℕ) → d ≤ 5 → (v : List Float) → outs hbfStream 
 unfolding hbfStream
 fresh-whole d h v = stream-whole (stageTaps decimation) dec-stages d h v
 
+fresh-reach : (d : ℕ) → d ≤ 5 → Reaches (reachOf (stageTaps decimation) d) d (outs hbfStream (streamFresh d))
+unfolding hbfStream
+fresh-reach d h = stream-reaches (stageTaps decimation) dec-stages d h
+
 pub stream-meets : (d : ℕ) → 1 ≤ d → d ≤ 5 → StreamMeets d (streamFresh d)
-stream-meets d p h = record { never-refused = λ v. state-not-refused (streamFresh d) v (fresh-not-refused d p h); whole = fresh-whole d h }
+stream-meets d p h =
+    record { never-refused = λ v. state-not-refused (streamFresh d) v (fresh-not-refused d p h); whole = fresh-whole d h; reach = fresh-reach d h }
 
 -- the two ways of being refused
 pub not-so-deep : (d : ℕ) (counts : List ℕ) → outside d 1 5 ≡ true → streamRefused d counts ≡ true

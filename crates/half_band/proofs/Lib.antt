@@ -20,6 +20,9 @@ pub mod Parts
 pub mod Passing
 pub mod Stages
 pub mod Streaming
+pub mod Equality
+pub mod Reaching
+pub mod ReachTables
 pub mod HeldOnes
 pub mod Frames
 pub mod StageRuns

@@ -13,6 +13,7 @@ use Rattle.half_band.specs.HalfBand.{decimatedBy}
 use Rattle.float.specs.F32.{zero32}
 use Rattle.half_band.specs.HbfTaps.{stageTaps, decimation}
 use Rattle.half_band.specs.HbfTaps98.{decimation98}
+use Rattle.half_band.specs.Reach.{reachOf, Reaches}
 use Rattle.half_band.specs.HbfStream.{stream, streamOf}
 use Rattle.half_band.specs.declared.hbf_stream.HbfStream.{HbfStream}
 use Rattle.half_band.specs.declared.hbf_dec_cascade.HbfDecCascade.{HbfDecCascade}
@@ -71,6 +72,8 @@ module _ (taps : ℕ → List Float) where
     pub nothing-held : (v : List Float) (q : ℕ) → length v ≡ q * 2 ^ depth → state (stream taps) (unheld s) v ≡ unheld (afterBy s v)
     -- the outputs of any list are those of each stage run on the whole list of the stage before
     pub whole : (v : List Float) → outs (stream taps) (unheld s) v ≡ decimatedBy taps 0 depth v
+    -- 02, §11, "From fresh states": output j follows from the reach samples that end at sample j × 2^d
+    pub reach : Reaches (reachOf taps depth) depth (outs (stream taps) (unheld s))
 
 -- with the table of section 4
 abbrev pub decCascadeBlock : HbfDecCascade → List Float → ℕ → Outcome ℕ HbfDecCascade

@@ -16,6 +16,7 @@ use Rattle.half_band.specs.Limits.{mostStages}
 use Rattle.half_band.specs.HalfBand.{decimatedBy}
 use Rattle.float.specs.F32.{zero32}
 use Rattle.half_band.specs.HbfTaps.{stageTaps, decimation}
+use Rattle.half_band.specs.Reach.{reachOf, Reaches}
 use Rattle.half_band.specs.Windows.{slid, decValue, spliced}
 use Rattle.half_band.specs.declared.hbf_stream.HbfStream.{HbfStream}
 use Rattle.half_band.specs.declared.hbf_stream.HbfOut.{HbfOut}
@@ -132,3 +133,5 @@ pub record StreamMeets (depth : ℕ) (s : HbfStream) : Type 0 where
   pub never-refused : (v : List Float) → streamRefused (state hbfStream s v .depth) (state hbfStream s v .counts) ≡ false
   -- the outputs of any list are those of each stage run on the whole list of the stage before
   pub whole : (v : List Float) → outs hbfStream s v ≡ decimatedBy (stageTaps decimation) 0 depth v
+  -- 02, §11, "From fresh states": output j follows from the reach samples that end at sample j × 2^d
+  pub reach : Reaches (reachOf (stageTaps decimation) depth) depth (outs hbfStream s)

@@ -5,6 +5,8 @@ pub mod Windows
 pub mod Limits
 pub mod Answers
 pub mod HbfDec
+pub mod Equal
+pub mod Reach
 pub mod HbfStream
 pub mod HbfStreamBlock
 pub mod HbfDecCascade

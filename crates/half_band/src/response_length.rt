@@ -15,7 +15,7 @@ const DECIMATION: [usize; DEPTHS] = [0, 23, 28, 29, 29, 29];
 const INTERPOLATION: [usize; DEPTHS] = [0, 46, 112, 234, 476, 958];
 
 // The length of a depth. Refusal 11: a depth over 5.
-pub fn at_depth(lengths: [usize; DEPTHS], depth: usize) -> ResponseLength
+pub(crate) fn at_depth(lengths: [usize; DEPTHS], depth: usize) -> ResponseLength
     ensures { λ r. ⌜ toldLength r ≡ lengthAt lengths depth ⌝ }
 {
     if MOST_STAGES < depth {

@@ -11,7 +11,7 @@ use lib.IntN.{ℤ, pos, negsuc}
 use lib.Ieee.{Float, nan, inf, fin, Format, binary32, up, down, unlike, level, eq, isNan, round, size, units, odd, sum, add, mul}
 use lib.Ieee.Fits.{up-pos, down-pos}
 use lib.Ieee.Scale.{round-same}
-use Rattle.reach.specs.Equal.{equal, Equal}
+use Rattle.half_band.specs.Equal.{equal, Equal}
 
 -- ---- what it says of two finite values: the same number, and the same sign unless that is zero
 pub record Level (s : Bool) (m : ℕ) (e : ℤ) (t : Bool) (n : ℕ) (d : ℤ) : Type 0 where

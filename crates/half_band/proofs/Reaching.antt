@@ -11,13 +11,17 @@ use lib.Pow.{pow-pos}
 use lib.Seq.{getD-at}
 use lib.Ieee.{Float, nan, binary32, add, mul}
 use Rattle.theory.specs.Lists.{listed}
+use Rattle.theory.specs.Sections.{outs}
 use Rattle.theory.proofs.Listed.{length-listed}
-use Rattle.reach.specs.Equal.{Equal}
+use Rattle.half_band.specs.Equal.{Equal}
 use Rattle.float.specs.F32.{zero32}
-use Rattle.reach.proofs.Equality.{equal-refl, add-equal, mul-equal}
+use Rattle.half_band.proofs.Equality.{equal-refl, add-equal, mul-equal}
 use Rattle.half_band.specs.HalfBand.{half32, earlier, decAcc, decOutput, decimated, decimatedBy}
-use Rattle.reach.specs.Reach.{spanned, reachOf, AgreeBy, ReachesBy, Reaches}
+use Rattle.half_band.specs.HbfStream.{stream, streamFresh}
+use Rattle.half_band.specs.Reach.{spanned, reachOf, AgreeBy, ReachesBy, Reaches}
 use Rattle.half_band.proofs.Earlier.{before-start, since-start}
+use Rattle.half_band.proofs.StageTables.{FiveStages}
+use Rattle.half_band.proofs.Streaming.{stream-whole}
 
 -- entry j of a list by index
 getD-listed : {B : Type 0} (n : ℕ) (g : ℕ → B) (j : ℕ) (d : B) → j < n → getD (listed n g) j d ≡ g j
@@ -136,5 +140,9 @@ module _ (taps : ℕ → List Float) where
         (ap (λ (l : List Float). getD l j nan) (made v)) (ap (λ (l : List Float). getD l j nan) (made w))
         (reaches-by E r d 0 v w j (λ i l h. some i (omega arith)) lv lw agree)
 
-    pub reaches-as : Reaches (reachOf taps d) d run
+    reaches-as : Reaches (reachOf taps d) d run
     reaches-as = record { equal = reaches-in Equal as-values; same = reaches-in (λ x y. x ≡ y) as-data }
+
+-- a fresh cascade over any five stages
+pub stream-reaches : (taps : ℕ → List Float) → FiveStages taps → (d : ℕ) → d ≤ 5 → Reaches (reachOf taps d) d (outs (stream taps) (streamFresh d))
+stream-reaches taps five d h = reaches-as taps d (λ i l. five .least i (omega arith)) (outs (stream taps) (streamFresh d)) (stream-whole taps five d h)

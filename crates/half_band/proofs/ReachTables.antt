@@ -7,19 +7,17 @@ use native.Mathlib.Omega.{arith}
 use borrow.Author.Tests.{eqb-false, lt-ltb, le-ltb}
 use lib.Dec.{ltb}
 use lib.ListN.{getD}
-use lib.Ieee.{Float}
 use Rattle.theory.specs.Lists.{listed}
 use Rattle.theory.specs.Sections.{outs}
 use Rattle.refusal.specs.Outcome.{Answer}
 use Rattle.half_band.specs.HbfTaps.{Table, hbfTaps, stageTaps, decimation}
 use Rattle.half_band.specs.HbfTaps98.{hbfTaps98, decimation98}
 use Rattle.half_band.specs.HbfStream.{stream, streamFresh}
 use Rattle.half_band.specs.ResponseLength.{lengthAt}
-use Rattle.reach.specs.Reach.{reachOf, reachAt, Reaches}
+use Rattle.half_band.specs.Reach.{reachOf, reachAt, Reaches}
 use Rattle.half_band.proofs.Choices.{chosen, other}
 use Rattle.half_band.proofs.StageTables.{FiveStages}
-use Rattle.half_band.proofs.Streaming.{stream-whole}
-use Rattle.reach.proofs.Reaching.{reaches-as}
+use Rattle.half_band.proofs.Reaching.{stream-reaches}
 
 -- "For the 140 dB cascade that is 11, 39, 111, 415, 1855 and for the 98 dB one 7, 27, 67, 243, 1171. Depth 0 reaches 1"
 pub dec-reaches : listed 6 (reachOf (stageTaps decimation)) ≡ 1 ∷ 11 ∷ 39 ∷ 111 ∷ 415 ∷ 1855 ∷ []
@@ -29,10 +27,6 @@ dec-reaches = refl
 pub dec98-reaches : listed 6 (reachOf (stageTaps decimation98)) ≡ 1 ∷ 7 ∷ 27 ∷ 67 ∷ 243 ∷ 1171 ∷ []
 unfolding stageTaps decimation98 hbfTaps98
 dec98-reaches = refl
-
--- a fresh cascade over any five stages
-pub stream-reaches : (taps : ℕ → List Float) → FiveStages taps → (d : ℕ) → d ≤ 5 → Reaches (reachOf taps d) d (outs (stream taps) (streamFresh d))
-stream-reaches taps five d h = reaches-as taps d (λ i l. five .least i (omega arith)) (outs (stream taps) (streamFresh d)) (stream-whole taps five d h)
 
 -- the code's numbers are the reaches, and refused past depth 5 as the definition is
 module _ (t : Table) (reaches : List ℕ) (same : listed 6 (reachOf (stageTaps t)) ≡ reaches) where

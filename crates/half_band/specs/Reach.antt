@@ -7,9 +7,9 @@ use lib.Dec.{ltb}
 use lib.ListN.{length, getD}
 use lib.Ieee.{Float, nan}
 use Rattle.refusal.specs.Outcome.{Answer}
-use Rattle.reach.specs.Equal.{Equal}
+use Rattle.half_band.specs.Equal.{Equal}
 use Rattle.half_band.specs.Limits.{mostStages}
 use Rattle.half_band.specs.HbfTaps.{Table, stageTaps}
 
 -- "the sum over stage i of (4M−2) × 2^i", for the n stages from stage k on
 abbrev pub spanned : (ℕ → List Float) → ℕ → ℕ → ℕ

@@ -1,14 +1,14 @@
 // 02, §11: how many input samples an output of a decimating half-band cascade follows from.
 ghost use mathlib.Core.Path.{_≡_};
 ghost use Rattle.theory.specs.Sections.{outs};
 ghost use Rattle.half_band.specs.HbfTaps.{stageTaps, decimation};
 ghost use Rattle.half_band.specs.HbfTaps98.{decimation98};
 ghost use Rattle.half_band.specs.HbfStream.{stream, streamFresh};
 ghost use Rattle.half_band.specs.ResponseLength.{toldLength};
-ghost use Rattle.reach.specs.Reach.{reachAt, Reaches};
-use half_band::DEPTHS;
-use half_band::ResponseLength;
-use half_band::at_depth;
+ghost use Rattle.half_band.specs.Reach.{reachAt, Reaches};
+use crate::limits::DEPTHS;
+use crate::response_length::ResponseLength;
+use crate::response_length::at_depth;
 
 const DECIMATION: [usize; DEPTHS] = [1, 11, 39, 111, 415, 1855];
 

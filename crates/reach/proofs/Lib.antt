@@ -1,3 +1,0 @@
-mod Equality
-mod Reaching
-mod ReachTables
