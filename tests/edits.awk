@@ -111,19 +111,29 @@ function group_for(f,    n, k, fits) {
     return ++groups
 }
 
+# How many functions a function reaches.
+function deep(f,    g, count) {
+    for (g = 1; g <= function_count; g++) count += index(reaches[f], " " short[g] " ") > 0
+    return count + 0
+}
+
+# Those that reach fewest come first: then there are no more groups than edits along some chain of calls.
 END {
     for (i = 1; i <= source_count; i++) functions_of(sources[i])
     for (i = 1; i <= function_count; i++) reaches[i] = reached(i)
+    for (i = 1; i <= function_count; i++) depth[i] = deep(i)
     for (i = 1; i <= edit_count; i++) {
-        name = edits[i]
-        gsub(/.*\/|\.edit$/, "", name)
-        f = index(" " alone " ", " " name " ") ? 0 : place(edits[i])
-        if (!f) {
-            print 0, name
-            continue
-        }
-        n = group_for(f)
-        member[n, ++size[n]] = f
-        print n, name, named[f]
+        name[i] = edits[i]
+        gsub(/.*\/|\.edit$/, "", name[i])
+        edited[i] = index(" " alone " ", " " name[i] " ") ? 0 : place(edits[i])
+        if (!edited[i]) print 0, name[i]
     }
+    for (d = 0; d <= function_count; d++)
+        for (i = 1; i <= edit_count; i++) {
+            f = edited[i]
+            if (!f || depth[f] != d) continue
+            n = group_for(f)
+            member[n, ++size[n]] = f
+            print n, name[i], named[f]
+        }
 }

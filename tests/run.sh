@@ -8,17 +8,23 @@ need_rt
 need_cargo
 
 log=$(mktemp)
+made=$(mktemp)
+told=$(mktemp)
 GAUGE_SKIPPED=$(mktemp)
 export GAUGE_SKIPPED
-trap 'rm -f "$log" "$GAUGE_SKIPPED"' EXIT
+trap 'wait; rm -f "$log" "$made" "$told" "$GAUGE_SKIPPED"' EXIT
 host/kit.sh 2> >(tee -a "$GAUGE_SKIPPED" >&2)
 tests/quick.sh
 rt ci 2>&1 | tee "$log"
-tests/edits
 
-# Always the archive of what was just proved.
+# Always the archive of what was just proved. Making it keeps one core busy, so the edits are tried beside it; what it says comes after them.
 unset GAUGE_ARCHIVE
-GAUGE_ARCHIVE=$(host/archive.sh)
+host/archive.sh >"$made" 2>"$told" &
+archive=$!
+tests/edits
+wait "$archive" || stop "$(<"$told")"
+cat "$told" >&2
+GAUGE_ARCHIVE=$(<"$made")
 export GAUGE_ARCHIVE
 tests/oracle/run.sh "$@"
 tests/host/run.sh
