@@ -139,10 +139,6 @@ unfolding firstPlace phase0
 past-places true P q w n e m a h = absurd (omega (arith, e, m, a, h))
 past-places false P q w n e m a h = let t : toUnsigned 64 q ≡ P = omega (arith, e, m, a, h) in rw t (sym (mod-self P))
 
-pub after-up-to : (straight : Bool) (P p : ℕ) → p ≤ P → cond straight (p + 1) 0 ≤ P + 1
-after-up-to true P p a = omega arith
-after-up-to false P p a = omega arith
-
 -- ---- the output at a mu that is cut
 pub output-cut : (straight : Bool) (P T : ℕ) (mu : Float) (d h : List Float) → output straight P T (cutUnit mu) d h ≡ output straight P T mu d h
 unfolding output place
@@ -165,7 +161,8 @@ module _
     abbrev between : Float
     between = sub binary32 (mul binary32 (sub binary32 one32 cut) (ofInt binary32 (pos P))) (ofInt binary32 (pos p))
 
-    whole-straight :
+    -- straight phase reads the places p and p + 1
+    pub whole-straight :
         straight ≡ true → r ≡ blend (phaseSum (straightTap h P T p) d T) (phaseSum (straightTap h P T (p + 1)) d T) between → r ≡ output straight P T mu d h
     unfolding reading secondPlace
     whole-straight s e = rw s (whole true P T mu d h cut p (p + 1) r cuts (rw s at first) refl e)
@@ -184,22 +181,13 @@ module _
         go true s = whole-straight s (e ∙ rw (sums-before h d P T p (omega arith), sums-before h d P T (p + 1) m))
         go false s = whole-wrapped (p + 1) s (sym (mod-eq-of-lt m)) e
 
-    -- from it on they differ in the place that comes after
-    pub whole-end :
-        (p1 : ℕ) → 0 < P → P ≤ p + 1 → p1 ≡ cond straight (p + 1) 0
-        → r ≡ blend (phaseSum (straightTap h P T p) d T) (phaseSum (straightTap h P T p1) d T) between → r ≡ output straight P T mu d h
-    whole-end p1 some m next e = go straight refl
-      where
-        go : (b : Bool) → straight ≡ b → r ≡ output straight P T mu d h
-        go true s =
-            let n : p1 ≡ p + 1 = next ∙ ap (λ (b : Bool). cond b (p + 1) 0) s in
-            whole-straight s (rw n at e)
-        go false s =
-            let n : p1 ≡ 0 = next ∙ ap (λ (b : Bool). cond b (p + 1) 0) s in
-            let below : p < P = rw (first, s) (first-below P _ some) in
-            let l : p + 1 ≡ P = omega (arith, below, m) in
-            whole-wrapped 0 s (sym (ap (λ (i : ℕ). i % P) l ∙ mod-self P))
-            (rw n at e ∙ rw (sums-before h d P T p below, sums-before h d P T 0 some))
+    -- from it on wrapped phase goes back to the first
+    pub whole-last :
+        0 < P → P ≤ p + 1 → straight ≡ false → r ≡ blend (phaseSum (tap h P p) d T) (phaseSum (tap h P 0) d T) between → r ≡ output straight P T mu d h
+    whole-last some m s e =
+        let below : p < P = rw (first, s) (first-below P _ some) in
+        let l : p + 1 ≡ P = omega (arith, below, m) in
+        whole-wrapped 0 s (sym (ap (λ (i : ℕ). i % P) l ∙ mod-self P)) e
 
 -- ---- outputs of prototypes and delays that are alike as far as they are read: the first P × T cells and the first T delays
 module _

@@ -274,48 +274,36 @@ fn cell_at(prototype: &[f32; MOST_CELLS], cells: usize, i: usize) -> f32
     0.0
 }
 
-// The place after p, from P − 1 on: p + 1 in straight phase, the first in wrapped.
-fn place_after(straight: bool, p: usize) -> usize
-    requires { ⌜ p ≤ R.mostPhases ⌝ }
-    ensures { λ r. ⌜ r ≡ cond straight (p + 1) 0 ⌝ }
-{
-    if straight {
-        return p + 1;
-    }
-    0
-}
-
-// The sums from places p0 and p1 on, f of the way from the one to the other. But for the last tap both places lie before the prototype's end; past it a tap
-// is 0.0.
+// In straight phase, the sums from place p, at the prototype's end, and from the next place on, f of the way from the one to the other. But for the last tap
+// both places lie before the end; past it a tap is 0.0.
 fn blended_at_the_end(
     prototype: &[f32; MOST_CELLS],
     delay: &[f32],
     phases: usize,
     taps: usize,
-    p0: usize,
-    p1: usize,
+    p: usize,
     f: f32,
 ) -> f32
-    requires { ⌜ (R.inLimits phases taps ≡ true) × (taps ≤ length (now delay)) × (p0 ≤ phases) × (p1 ≤ phases + 1) ⌝ }
+    requires { ⌜ (R.inLimits phases taps ≡ true) × (taps ≤ length (now delay)) × (p ≤ phases) ⌝ }
     ensures { λ r. ⌜ (
         let h = now (prototype .entry) in
         let d = now (delay .entry) in
-        r ≡ blend (phaseSum (straightTap h phases taps p0) d taps) (phaseSum (straightTap h phases taps p1) d taps) f) ⌝ }
+        r ≡ blend (phaseSum (straightTap h phases taps p) d taps) (phaseSum (straightTap h phases taps (p + 1)) d taps) f) ⌝ }
 {
     let last = taps - 1;
-    let sums = summed(prototype, delay, phases, last, p0, p1);
+    let sums = summed(prototype, delay, phases, last, p, p + 1);
     let cells = phases * taps;
     let from = last * phases;
     let x = delay[last];
-    let c0 = cell_at(prototype, cells, from + p0);
-    let c1 = cell_at(prototype, cells, from + p1);
+    let c0 = cell_at(prototype, cells, from + p);
+    let c1 = cell_at(prototype, cells, from + p + 1);
     let y0 = sums.y0 + c0 * x;
     let y1 = sums.y1 + c1 * x;
     blend_of(y0, y1, f)
 }
 
-// One output at a mu that is cut, by the setting. Below the last phase both settings read the same cells, two neighbouring phases as pairs: so these have a call of
-// their own, and the settings differ at the prototype's end alone.
+// One output at a mu that is cut, by the setting. Below the last phase both settings read the same cells. There and at the end in straight phase the two places
+// are neighbours, which the compiler reads as pairs: so these calls say `p + 1`, and wrapped phase, which goes back to the first, has one of its own.
 fn interpolate_within(
     prototype: &[f32; MOST_CELLS],
     delay: &[f32],
@@ -333,8 +321,10 @@ fn interpolate_within(
     if p + 1 < phases {
         return blended(prototype, delay, phases, taps, p, p + 1, f);
     }
-    let next = place_after(straight, p);
-    blended_at_the_end(prototype, delay, phases, taps, p, next, f)
+    if straight {
+        return blended_at_the_end(prototype, delay, phases, taps, p, f);
+    }
+    blended(prototype, delay, phases, taps, p, 0, f)
 }
 
 // One output at mu, of the prototype and the delay that are lent. Where P or T is outside its limits, 0.0. A leaf for the line, which has looked at the numbers:

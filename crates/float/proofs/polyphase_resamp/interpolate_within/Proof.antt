@@ -1,6 +1,6 @@
--- `interpolate_within` meets its contract: q is from 0 to P, so the first place is at most P, and `whole-before` and `whole-end` put the parts together.
+-- `interpolate_within` meets its contract: q is from 0 to P, so the first place is at most P, and each way of reading on from it is one of `output`'s.
 use mathlib.Core.Path.{sym, subst}
-use Prim.Native.Nat.{_≤_}
+use Prim.Native.Nat.{_≤_, _<_}
 use native.Mathlib.Nat.{le-trans}
 use native.Mathlib.Omega.{arith}
 use borrow.Author.Needs.{needs}
@@ -9,7 +9,7 @@ use lib.Ieee.{Float, binary32, ofInt, sub, mul}
 use Rattle.float.specs.F32.{one32}
 use Rattle.float.specs.PolyphaseOutput.{place}
 use Rattle.float.proofs.Place.{UpTo, place-up-to, below-all-whole, whole-up-to}
-use Rattle.float.proofs.PolyphaseOutput.{Limits, limits-say, exact, first-up-to, after-up-to, whole-before, whole-end}
+use Rattle.float.proofs.PolyphaseOutput.{Limits, limits-say, exact, first-below, first-up-to, whole-straight, whole-before, whole-last}
 use Rattle.float.proofs.polyphase_resamp.interpolate_within.Statement.{statement}
 use Rattle.float.proofs.polyphase_resamp.interpolate_within.Tie as tie
 
@@ -56,21 +56,29 @@ returns c =
     let p = c .before .before .before in
     whole-before _ _ _ _ _ _ _ _ _ (p .before .before .before .pre .2) (p .first-place .ensures) (c .before .if1 .taken) (c .blended .ensures)
 
-place-after-requires : tie.Need-place-after-requires
-place-after-requires c κs = le-trans (at-most (c .before .before)) (limits (c .before .before .before .before .before) .few-phases)
-
 blended-at-the-end-requires : tie.Need-blended-at-the-end-requires
 blended-at-the-end-requires c κs =
     let p = c .before .before .before in
     let s = p .before .before .before in
-    (s .pre .0, s .pre .1, at-most p, rw (c .place-after .ensures) (after-up-to (s .args .straight) _ _ (at-most p)))
+    (s .pre .0, s .pre .1, at-most p)
 
 returns-2 : tie.Need-returns-2
 returns-2 c =
     let p = c .before .before .before .before in
+    whole-straight _ _ _ _ _ _ _ _ _ (p .before .before .before .pre .2) (p .first-place .ensures) (c .before .if2 .taken) (c .blended-at-the-end .ensures)
+
+blended-requires-2 : tie.Need-blended-requires-2
+blended-requires-2 c κs =
+    let p = c .before .before .before in
     let s = p .before .before .before in
-    let l = limits s in
-    whole-end _ _ _ _ _ _ _ _ _ (s .pre .2) (p .first-place .ensures) _ (omega (arith, l .some-phases)) (c .before .before .if1 .left) (c .before .place-after .ensures) (c .blended-at-the-end .ensures)
+    let some : 0 < s .args .phases = omega (arith, limits s .some-phases) in
+    (s .pre .0, s .pre .1, rw (p .first-place .ensures, c .if2 .left) (first-below _ _ some), some)
+
+returns-3 : tie.Need-returns-3
+returns-3 c =
+    let p = c .before .before .before .before in
+    let s = p .before .before .before in
+    whole-last _ _ _ _ _ _ _ _ _ (s .pre .2) (p .first-place .ensures) (omega (arith, limits s .some-phases)) (c .before .before .if1 .left) (c .before .if2 .left) (c .blended2 .ensures)
 
 pub interpolate-within-spec : {M : Type 1} → statement M
 interpolate-within-spec =
@@ -83,6 +91,7 @@ interpolate-within-spec =
     add-blended
     blended-requires
     returns
-    place-after-requires
     blended-at-the-end-requires
-    returns-2)
+    returns-2
+    blended-requires-2
+    returns-3)
