@@ -32,7 +32,7 @@ pub type Build = Box<dyn Fn(usize) -> Box<dyn Side>>;
 pub struct Case {
     pub name: String,
     pub unit: Unit,
-    /// The lengths of blocks to race over, the longest first.
+    /// The lengths of blocks to race over; instructions are counted of the first.
     pub blocks: &'static [usize],
     pub ours: Build,
     pub rust: Build,

@@ -4,7 +4,7 @@ mod cic;
 mod half_band;
 pub mod line;
 mod linear;
-mod linear_phase;
+pub mod linear_phase;
 mod polyphase_q15;
 pub mod resampler;
 

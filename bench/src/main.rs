@@ -27,22 +27,25 @@ fn main() -> ExitCode {
     let mut converters = cases::converters();
     let mut lines = cases::line::cases();
     let mut phases = cases::resampler::phases();
+    let mut lengths = cases::linear_phase::lengths();
     converters.retain(|case| case.name.contains(&options.only));
     lines.retain(|case| case.name.contains(&options.only));
     phases.retain(|case| case.name.contains(&options.only));
+    lengths.retain(|case| case.name.contains(&options.only));
 
     if options.list {
         for case in converters.iter().chain(&lines) {
             println!("{}", case.name);
         }
     } else if let Some(named) = &options.case {
-        let all = converters.iter().chain(&lines);
-        return once::run(all, named, options.side, options.repeat);
+        let all = converters.iter().chain(&lines).chain(&lengths);
+        return once::run(all, named, &options);
     } else {
         report::converters(&converters, options.rounds);
         report::lines(&lines, options.rounds);
         report::pieces(&lines, options.rounds);
         report::phases(&phases, options.rounds);
+        report::lengths(&lengths, options.rounds);
     }
     ExitCode::SUCCESS
 }

@@ -2,7 +2,7 @@
 
 pub const USAGE: &str = "usage: bench [--rounds N] [--only SUBSTRING]
        bench --list [--only SUBSTRING]
-       bench --case NAME --side ours|rust [--repeat K]";
+       bench --case NAME --side ours|rust [--block N] [--repeat K]";
 
 #[derive(Clone, Copy)]
 pub enum SideName {
@@ -16,6 +16,8 @@ pub struct Options {
     pub list: bool,
     pub case: Option<String>,
     pub side: SideName,
+    /// Samples of a block; the case's first length if not given.
+    pub block: Option<usize>,
     pub repeat: usize,
 }
 
@@ -27,6 +29,7 @@ impl Options {
             list: false,
             case: None,
             side: SideName::Ours,
+            block: None,
             repeat: 1,
         };
         while let Some(flag) = arguments.next() {
@@ -48,6 +51,7 @@ impl Options {
             "--only" => self.only = value,
             "--case" => self.case = Some(value),
             "--side" => self.side = side(&value)?,
+            "--block" => self.block = Some(count(&value)?),
             "--repeat" => self.repeat = count(&value)?,
             _ => return Err(format!("no option {flag}")),
         }

@@ -2,6 +2,7 @@
 
 use crate::case::{Case, Settings, Unit};
 use crate::cases::line::PIECES;
+use crate::cases::linear_phase::LENGTHS;
 use crate::cases::{BLOCK, SHORT_BLOCK};
 use crate::race::{least_times, timed};
 
@@ -74,6 +75,27 @@ phase, whose outputs are others
             let samples = case.unit.samples(&*sides[0]);
             let [first, second] = [first, second].map(|time| nanoseconds(time, samples));
             print!("{first:10.2}{second:10.2}{:10.2}", first / second);
+        }
+        println!();
+    }
+}
+
+pub fn lengths(cases: &[Case], rounds: usize) {
+    println!(
+        "
+6. Linear-phase filters by the length of a block: ours/Rust, the least of {rounds} rounds by turns
+"
+    );
+    print!("{:40}", "filter");
+    for length in LENGTHS {
+        print!("{length:>6}");
+    }
+    println!();
+    for case in cases {
+        print!("{:40}", case.name);
+        for length in LENGTHS {
+            let [ours, rust] = least_times(&mut case.sides(*length), rounds, &case.name);
+            print!("{:6.2}", ours / rust);
         }
         println!();
     }

@@ -7,9 +7,13 @@ use crate::original::{Filter, PHASE_STATE};
 use crate::ours::{accepted, ours};
 use crate::samples::levels;
 use embedded_dsp::pipeline::SplitProcess;
-use embedded_dsp::resampling::{EvenSymmetric, HBF_TAPS, OddSymmetric};
+use embedded_dsp::resampling::{
+    EvenAntiSymmetric, EvenSymmetric, HBF_TAPS, OddAntiSymmetric, OddSymmetric,
+};
 
 const BLOCKS: &[usize] = &[BLOCK, SHORT_BLOCK, 1];
+/// What a call costs shows in short blocks.
+pub const LENGTHS: &[usize] = &[1, 2, 3, 4, 5, 8, 12, 15, 16, 24, 31, 32, 64];
 
 pub fn cases() -> Vec<Case> {
     vec![
@@ -22,26 +26,52 @@ pub fn cases() -> Vec<Case> {
     ]
 }
 
+/// The four kinds with few and with many taps, for a table by the length of a block.
+pub fn lengths() -> Vec<Case> {
+    [
+        kinds::<1>(),
+        kinds::<2>(),
+        kinds::<3>(),
+        kinds::<4>(),
+        kinds::<10>(),
+        kinds::<23>(),
+    ]
+    .into_iter()
+    .flatten()
+    .collect()
+}
+
+fn kinds<const M: usize>() -> [Case; 4] {
+    let taps: [f32; M] = std::array::from_fn(|t| 1.0 / (t + 3) as f32);
+    [
+        case("even symmetric", LENGTHS, taps, EvenSymmetric(taps)),
+        case("odd symmetric", LENGTHS, taps, OddSymmetric(taps)),
+        case("even antisymmetric", LENGTHS, taps, EvenAntiSymmetric(taps)),
+        case("odd antisymmetric", LENGTHS, taps, OddAntiSymmetric(taps)),
+    ]
+}
+
 fn even<const M: usize>(taps: [f32; M]) -> Case {
-    symmetric("even", taps, EvenSymmetric(taps))
+    case("even", BLOCKS, taps, EvenSymmetric(taps))
 }
 
 fn odd<const M: usize>(taps: [f32; M]) -> Case {
-    symmetric("odd", taps, OddSymmetric(taps))
+    case("odd", BLOCKS, taps, OddSymmetric(taps))
 }
 
-fn symmetric<F, const M: usize>(parity: &str, taps: [f32; M], filter: F) -> Case
+fn case<F, const M: usize>(kind: &str, blocks: &'static [usize], taps: [f32; M], filter: F) -> Case
 where
     F: SplitProcess<f32, f32, [f32; PHASE_STATE]> + Copy + 'static,
 {
-    let is_odd = parity == "odd";
+    let odd = kind.starts_with("odd");
+    let antisymmetric = kind.ends_with("antisymmetric");
     let cut = |block| Cut::apart(STREAM / block, block, block);
     Case {
-        name: format!("LinearPhaseFir {parity} M={M}"),
+        name: format!("LinearPhaseFir {kind} M={M}"),
         unit: Unit::Input,
-        blocks: BLOCKS,
+        blocks,
         ours: Box::new(move |block| {
-            let opened = gauge_line::LinearPhaseFir::new(is_odd, false, &taps);
+            let opened = gauge_line::LinearPhaseFir::new(odd, antisymmetric, &taps);
             let converter = ours(opened, |fir, src, dst| accepted(fir.block(src, dst)));
             side(converter, cut(block), levels)
         }),
