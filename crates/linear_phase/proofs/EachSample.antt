@@ -1,7 +1,7 @@
 -- Samples v one by one through a delay d: those that went in have made the first outputs, and the delay makes the others of what is left.
 use mathlib.Core.Path.{_≡_, refl, sym, ap, _∙_}
 use mathlib.Core.Bool.{Bool}
-use mathlib.Core.List.{List, [], _∷_, _++_}
+use mathlib.Core.List.{List, [], _∷_, _++_, append-nil}
 use Prim.Native.Nat.{ℕ, suc, _+_, _≤_, _<_}
 use native.Mathlib.Numerals.{add-one}
 use native.Mathlib.Omega.{arith}
@@ -36,13 +36,13 @@ module _ (odd antisymmetric : Bool) (c d v : List Float) where
   unfolding linearPhase
   next-value delay i h m =
       sym (
-        ap (λ (l : List Float). getD l i nan) (m .made ∙ ap (λ (r : List Float). listed i output ++ outs f delay r) (drop-cons v i nan h))
-        ∙ getD-at (listed i output) (windowValue odd antisymmetric c (delay ++ (getD v i nan ∷ []))) (outs f (slid delay (getD v i nan ∷ [])) (drop (suc i) v)) nan i (length-listed i output)
+      ap (λ (l : List Float). getD l i nan) (m .made ∙ ap (λ (r : List Float). listed i output ++ outs f delay r) (drop-cons v i nan h))
+      ∙ getD-at (listed i output) (windowValue odd antisymmetric c (delay ++ (getD v i nan ∷ []))) (outs f (slid delay (getD v i nan ∷ [])) (drop (suc i) v)) nan i (length-listed i output)
       )
 
-  pub next-midway : (delay : List Float) (i : ℕ) → i < length v → 1 ≤ length d → Midway delay i → Midway (slid delay (getD v i nan ∷ [])) (i + 1)
+  slid-midway : (delay : List Float) (i : ℕ) → i < length v → 1 ≤ length d → Midway delay i → Midway (slid delay (getD v i nan ∷ [])) (i + 1)
   unfolding linearPhase
-  next-midway delay i h some m =
+  slid-midway delay i h some m =
       record {
         made =
             m .made
@@ -57,7 +57,19 @@ module _ (odd antisymmetric : Bool) (c d v : List Float) where
         long = length-slid delay (getD v i nan ∷ []) (omega (arith, m .long)) ∙ m .long;
       }
 
+  pub next-midway : (delay next : List Float) (i : ℕ) → i < length v → 1 ≤ length d → next ≡ slid delay (getD v i nan ∷ []) → Midway delay i → Midway next (i + 1)
+  next-midway delay next i h some q m = rw q (slid-midway delay i h some m)
+
   -- all went in
   pub last-delay : (delay : List Float) (i : ℕ) → length v ≤ i → Midway delay i → delay ≡ state f d v
   unfolding linearPhase
   last-delay delay i h m = ap (state f delay) (sym (drop-of-length-le v {i = i} h)) ∙ m .left
+
+  pub all-made : (delay : List Float) (i : ℕ) → i ≡ length v → Midway delay i → listed i output ≡ outs f d v
+  unfolding linearPhase
+  all-made delay i e m =
+      sym (
+      m .made
+      ∙ ap (λ (r : List Float). listed i output ++ outs f delay r) (drop-of-length-le v {i = i} (omega (arith, e)))
+      ∙ append-nil (listed i output)
+      )

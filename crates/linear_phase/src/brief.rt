@@ -49,14 +49,7 @@ fn push(delay: &mut [f32], x: f32)
 }
 
 // Sample by sample, an output of each into the span.
-fn each(
-    delay: &mut [f32],
-    taps: &[f32],
-    odd: bool,
-    minus: bool,
-    src: &[f32],
-    span: &mut [f32],
-)
+fn each(delay: &mut [f32], taps: &[f32], odd: bool, minus: bool, src: &[f32], span: &mut [f32])
     requires { ⌜ (1 ≤ length (now taps)) × (length (now delay) ≡ P.reach odd (length (now taps))) × (length (now span) ≡ length (now src)) ⌝ }
     ensures delay { λ _. ⌜ now (delay .exit) ≡ state (W.linearPhase odd minus (now (taps .entry))) (now (delay .entry)) (now (src .entry)) ⌝ }
     ensures span { λ _. ⌜ now (span .exit) ≡ outs (W.linearPhase odd minus (now (taps .entry))) (now (delay .entry)) (now (src .entry)) ⌝ }
