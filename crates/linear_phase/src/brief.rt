@@ -64,7 +64,7 @@ fn each(delay: &mut [f32], taps: &[f32], odd: bool, minus: bool, src: &[f32], sp
     }
 }
 
-// The same through m taps and the delay, both in front of the lent ones. The delay moves in an array of this function, which nothing else can be.
+// The same through m taps and the delay, both in front of the lent ones. The delay moves in an array of this function: no store to the span can be one to it.
 fn held(
     m: usize,
     odd: bool,
