@@ -7,3 +7,5 @@ pub mod Shifting
 pub mod Tapes
 pub mod Backward
 pub mod Filters
+pub mod Pushing
+pub mod EachSample

@@ -1,24 +1,38 @@
 -- A group of values put into a list: in front, or from a place on.
 use mathlib.Core.Path.{_≡_, sym, ap, ap₂, _∙_}
-use mathlib.Core.List.{List, [], _++_, append-nil, append-assoc}
+use mathlib.Core.List.{List, _++_, append-nil, append-assoc}
 use Prim.Native.Nat.{ℕ, _+_, _-_, _≤_, min}
 use native.Mathlib.Omega.{arith}
-use lib.ListN.{length, getD, take, drop, length-append, length-drop, drop-of-length-le}
-use lib.Seq.{length-take-le, take-at, take-add, take-take, take-all, take-append-le, drop-drop, take-append-add}
+use lib.ListN.{length, getD, take, drop, length-append, length-drop, drop-of-length-le, take-append-drop}
+use lib.Seq.{length-take-le, take-at, take-add, take-take, take-all, take-append-le, drop-drop, drop-append-le, take-append-add}
 use lib.Ieee.{Float, nan}
 use Rattle.theory.specs.Lists.{listed}
 use Rattle.q15.proofs.Filling.{listed-take}
 use Rattle.linear_phase.specs.Windows.{putInFront}
 use Rattle.linear_phase.proofs.SideBySide.{rest}
 
-pub put-first : (w : ℕ) (y d s p : List Float) → y ≡ take w d → w ≤ length d → w ≤ length s → p ≡ putInFront y s → p ≡ take w d ++ drop w s
+-- all of a list in front of another
+put-whole : (w : ℕ) (y s p : List Float) → length y ≡ w → w ≤ length s → p ≡ putInFront y s → p ≡ y ++ drop w s
 unfolding putInFront
-put-first w y d s p e h room q =
-    let long : length y ≡ w = ap length e ∙ length-take-le w d h in
+put-whole w y s p long room q =
     let all : min (length y) (length s) ≡ w = omega (arith, long) in
     q
     ∙ ap (λ (k : ℕ). listed k (λ i. getD y i nan) ++ drop k s) all
-    ∙ ap (λ (l : List Float). l ++ drop w s) (listed-take nan w y (omega (arith, long)) ∙ take-all w y (omega (arith, long)) ∙ e)
+    ∙ ap (λ (l : List Float). l ++ drop w s) (listed-take nan w y (omega (arith, long)) ∙ take-all w y (omega (arith, long)))
+
+pub put-first : (w : ℕ) (y d s p : List Float) → y ≡ take w d → w ≤ length d → w ≤ length s → p ≡ putInFront y s → p ≡ take w d ++ drop w s
+put-first w y d s p e h room q = put-whole w y s p (ap length e ∙ length-take-le w d h) room q ∙ ap (λ (l : List Float). l ++ drop w s) e
+
+-- the first w of d, put back after their first k have become others
+pub put-back : (w k : ℕ) (d y p next : List Float) → k ≤ w → w ≤ length d → length next ≡ k → y ≡ next ++ drop k (take w d) → p ≡ putInFront y d → p ≡ next ++ drop k d
+put-back w k d y p next h room long e q =
+    put-whole w y d p (ap length e ∙ y-long) room q
+    ∙ ap (λ (l : List Float). l ++ drop w d) e
+    ∙ append-assoc next (drop k (take w d)) (drop w d)
+    ∙ ap (λ (l : List Float). next ++ l) (sym (drop-append-le k (take w d) (drop w d) (omega (arith, length-take-le w d room))) ∙ ap (drop k) (take-append-drop w d))
+  where
+    y-long : length (next ++ drop k (take w d)) ≡ w
+    y-long = omega (arith, length-append next (drop k (take w d)), length-drop k (take w d), length-take-le w d room)
 
 pub put-from : (w : ℕ) (t y d part : List Float) (k : ℕ) → y ≡ take w d → w ≤ length d → k + w ≤ length t → part ≡ putInFront y (take (length t - k) (drop k t))
     → take k t ++ (part ++ drop (length t - k) (drop k t)) ≡ take k t ++ (take w d ++ drop (k + w) t)

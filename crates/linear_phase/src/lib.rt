@@ -1,4 +1,5 @@
 // 02, §2: linear-phase FIR filters, in 02's order of IEEE 754 operations.
+mod brief;
 mod few;
 mod filter;
 mod lanes;

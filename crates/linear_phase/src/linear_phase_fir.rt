@@ -8,6 +8,8 @@ ghost use Rattle.refusal.specs.Outcome.{openingNumber};
 ghost use Rattle.half_band.specs.Answers.{toldOpening, toldCount};
 ghost use Rattle.half_band.specs.ResponseLength.{toldLength};
 ghost use Rattle.linear_phase.specs.LinearPhaseFir as P;
+use crate::brief::filter_brief;
+use crate::brief::is_brief;
 use crate::filter::filter;
 use crate::filter::filter_few;
 use crate::filter::filter_short;
@@ -121,8 +123,8 @@ fn inplace_lent(
     );
 }
 
-// The samples of src, likewise, an output of each into the span.
-fn block_lent(
+// The samples of src, likewise, an output of each into the span: one sample in the lent delay, more of them along a tape.
+fn block_long(
     m: usize,
     odd: bool,
     antisymmetric: bool,
@@ -181,6 +183,29 @@ fn block_lent(
         false,
         span,
     );
+}
+
+// The same, a few samples through a short delay in registers.
+fn block_lent(
+    m: usize,
+    odd: bool,
+    antisymmetric: bool,
+    taps: &[f32],
+    delay: &mut [f32],
+    src: &[f32],
+    span: &mut [f32],
+)
+    requires { ⌜ (1 ≤ m) × (m ≤ 23) × (length (now taps) ≡ 23) × (length (now delay) ≡ 46) × (length (now span) ≡ length (now src)) ⌝ }
+    ensures delay { λ _. ⌜ (let before = P.phaseOf m odd antisymmetric (now (taps .entry)) (now (delay .entry)) in
+        let after = P.phaseOf m odd antisymmetric (now (taps .entry)) (now (delay .exit)) in
+        after ≡ state P.phaseFir before (now (src .entry))) ⌝ }
+    ensures span { λ _. ⌜ (let before = P.phaseOf m odd antisymmetric (now (taps .entry)) (now (delay .entry)) in
+        now (span .exit) ≡ outs P.phaseFir before (now (src .entry))) ⌝ }
+{
+    if is_brief(m, src.len()) {
+        return filter_brief(m, odd, antisymmetric, taps, delay, src, span);
+    }
+    block_long(m, odd, antisymmetric, taps, delay, src, span);
 }
 
 // One sample, the numbers by value and the arrays lent. Refusal 15.

@@ -27,7 +27,7 @@ pub(crate) fn sum_with(delay: &[f32], taps: &[f32], antisymmetric: bool, x: f32)
 }
 
 // The output at that window; the centre is added last.
-fn value_with(delay: &[f32], taps: &[f32], odd: bool, antisymmetric: bool, x: f32) -> f32
+pub(crate) fn value_with(delay: &[f32], taps: &[f32], odd: bool, antisymmetric: bool, x: f32) -> f32
     requires { ⌜ (1 ≤ length (now taps)) × (length (now delay) ≡ P.reach odd (length (now taps))) ⌝ }
     ensures { λ r. ⌜ r ≡ W.windowValue odd antisymmetric (now (taps .entry)) (now (delay .entry) ++ (x ∷ [])) ⌝ }
 {
