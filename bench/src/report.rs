@@ -4,6 +4,7 @@ use crate::case::{Case, Settings, Unit};
 use crate::cases::line::PIECES;
 use crate::cases::linear_phase::LENGTHS;
 use crate::cases::{BLOCK, SHORT_BLOCK};
+use crate::flat::{POWERS, streams};
 use crate::race::{least_times, timed};
 
 const SIDES: &str = "      ours      Rust ours/Rust";
@@ -133,6 +134,23 @@ fn cut(case: &Case, rounds: usize) -> String {
         .map(|time| format!("{:9.2}", time / times[0]))
         .collect();
     costs.concat() + &ratios
+}
+
+pub fn flat(rounds: usize) {
+    println!(
+        "7. Streams of 10^3 to 10^9 samples through our line A, in pieces of {BLOCK}: ns per input sample, the
+least of {rounds} rounds by turns, and the ratio to 10^3
+"
+    );
+    println!("{:12}{:>10}{:>10}", "samples", "ours", "ratio");
+    let mut sides = streams();
+    let times = timed(&mut sides, rounds);
+    let costs = std::array::from_fn::<_, { POWERS.len() }, _>(|at| {
+        nanoseconds(times[at], sides[at].inputs())
+    });
+    for (power, cost) in POWERS.iter().zip(costs) {
+        println!("10^{power:<9}{cost:10.2}{:10.2}", cost / costs[0]);
+    }
 }
 
 fn nanoseconds(time: f64, samples: usize) -> f64 {
