@@ -1,59 +1,71 @@
-//! A stream of any length through line A: what a sample costs does not grow with the samples before it.
+//! Streams of 10^3 to 10^9 samples through line A: what a sample costs does not grow with the samples before it.
 
 use crate::cases::BLOCK;
 use crate::cases::line::line_a;
 use crate::ours::took_all;
-use crate::race::Side;
 use crate::samples::cells;
-use gauge_line::Line;
 use std::hint::black_box;
+use std::time::{Duration, Instant};
 
 /// The lengths of the streams, in powers of ten.
 pub const POWERS: [u32; 7] = [3, 4, 5, 6, 7, 8, 9];
+/// Samples of a round at least: short streams are run so often, each through a fresh line.
+const ROUND: usize = 1_000_000;
 
-/// A stream of one piece over and over, so that no length has to come from slower memory than another.
-struct Stream {
-    line: Line,
-    samples: usize,
-    piece: Vec<i32>,
-    span: Vec<f32>,
-    last: usize,
+/// What a sample of a stream costs, in nanoseconds.
+#[derive(Clone)]
+pub struct Cost {
+    /// By the time of a whole stream, the least of all.
+    whole: f64,
+    /// Of each feed: what else the machine does falls on some of them.
+    feeds: Vec<f64>,
 }
 
-/// A side for each of the lengths.
-pub fn streams() -> [Box<dyn Side>; POWERS.len()] {
-    POWERS.map(|power| -> Box<dyn Side> {
-        Box::new(Stream {
-            line: line_a(),
-            samples: 10usize.pow(power),
-            piece: cells(BLOCK),
-            span: vec![0.0; BLOCK],
-            last: 0,
-        })
-    })
-}
-
-impl Side for Stream {
-    fn restart(&mut self) {
-        self.line = line_a();
+impl Cost {
+    /// What a tenth of all feeds cost less than, what half of them did, and the least of whole streams.
+    pub fn figures(mut self) -> [f64; 3] {
+        self.feeds.sort_by(f64::total_cmp);
+        let count = self.feeds.len();
+        [self.feeds[count / 10], self.feeds[count / 2], self.whole]
     }
+}
 
-    fn run(&mut self) {
-        let mut left = self.samples;
-        while left > 0 {
-            let piece = black_box(&self.piece[..left.min(BLOCK)]);
-            self.last = took_all(piece, self.line.feed(piece, &mut self.span));
-            left -= piece.len();
+/// One for each of the lengths, which take turns.
+pub fn costs(rounds: usize) -> Vec<Cost> {
+    let piece = cells(BLOCK);
+    let none = Cost {
+        whole: f64::MAX,
+        feeds: Vec::new(),
+    };
+    let mut costs = vec![none; POWERS.len()];
+    for _ in 0..rounds {
+        for (power, cost) in POWERS.iter().zip(&mut costs) {
+            let samples = 10usize.pow(*power);
+            for _ in 0..(ROUND / samples).max(1) {
+                stream(samples, &piece, cost);
+            }
         }
-        black_box(&self.span);
     }
+    costs
+}
 
-    fn inputs(&self) -> usize {
-        self.samples
+/// The piece over and over, so that no stream has to come from slower memory than another.
+fn stream(samples: usize, piece: &[i32], cost: &mut Cost) {
+    let mut line = line_a();
+    let mut span = vec![0.0; BLOCK];
+    cost.feeds.reserve(samples / BLOCK + 1);
+    let mut left = samples;
+    let start = Instant::now();
+    while left > 0 {
+        let src = black_box(&piece[..left.min(BLOCK)]);
+        let start = Instant::now();
+        took_all(src, line.feed(src, &mut span));
+        cost.feeds.push(each(start.elapsed(), src.len()));
+        left -= src.len();
     }
+    cost.whole = cost.whole.min(each(start.elapsed(), samples));
+}
 
-    fn outputs(&self) -> Vec<u32> {
-        let last = &self.span[..self.last];
-        last.iter().map(|level| level.to_bits()).collect()
-    }
+fn each(time: Duration, samples: usize) -> f64 {
+    time.as_nanos() as f64 / samples as f64
 }

@@ -19,7 +19,7 @@ use std::process::ExitCode;
 
 const ROUNDS: usize = 30;
 /// Of a stream of 10^9 samples one round takes seconds.
-const FLAT_ROUNDS: usize = 10;
+const FLAT_ROUNDS: usize = 3;
 
 fn main() -> ExitCode {
     let options = match Options::parse(std::env::args().skip(1)) {

@@ -4,7 +4,7 @@ use crate::case::{Case, Settings, Unit};
 use crate::cases::line::PIECES;
 use crate::cases::linear_phase::LENGTHS;
 use crate::cases::{BLOCK, SHORT_BLOCK};
-use crate::flat::{POWERS, streams};
+use crate::flat::{Cost, POWERS, costs};
 use crate::race::{least_times, timed};
 
 const SIDES: &str = "      ours      Rust ours/Rust";
@@ -138,18 +138,21 @@ fn cut(case: &Case, rounds: usize) -> String {
 
 pub fn flat(rounds: usize) {
     println!(
-        "7. Streams of 10^3 to 10^9 samples through our line A, in pieces of {BLOCK}: ns per input sample, the
-least of {rounds} rounds by turns, and the ratio to 10^3
+        "7. Streams of 10^3 to 10^9 samples through our line A, in pieces of {BLOCK}, {rounds} rounds by turns:
+ns per input sample, what a tenth and what half of all feeds cost less than, and the least of whole
+streams; and their ratios to 10^3
 "
     );
-    println!("{:12}{:>10}{:>10}", "samples", "ours", "ratio");
-    let mut sides = streams();
-    let times = timed(&mut sides, rounds);
-    let costs = std::array::from_fn::<_, { POWERS.len() }, _>(|at| {
-        nanoseconds(times[at], sides[at].inputs())
-    });
-    for (power, cost) in POWERS.iter().zip(costs) {
-        println!("10^{power:<9}{cost:10.2}{:10.2}", cost / costs[0]);
+    println!("{:10}{:>20}{:>20}{:>20}", "", "tenth", "half", "stream");
+    let sides = "        ns     ratio";
+    println!("{:10}{sides}{sides}{sides}", "samples");
+    let figures: Vec<_> = costs(rounds).into_iter().map(Cost::figures).collect();
+    for (power, row) in POWERS.iter().zip(&figures) {
+        print!("10^{power:<7}");
+        for (cost, first) in row.iter().zip(figures[0]) {
+            print!("{cost:10.2}{:10.2}", cost / first);
+        }
+        println!();
     }
 }
 
