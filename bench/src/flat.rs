@@ -11,6 +11,8 @@ use std::time::{Duration, Instant};
 pub const POWERS: [u32; 7] = [3, 4, 5, 6, 7, 8, 9];
 /// Samples of a round at least: short streams are run so often, each through a fresh line.
 const ROUND: usize = 1_000_000;
+/// From the beginning of a piece to that of the next.
+const STRIDE: usize = 977;
 
 /// What a sample of a stream costs, in nanoseconds.
 #[derive(Clone)]
@@ -32,7 +34,7 @@ impl Cost {
 
 /// One for each of the lengths, which take turns.
 pub fn costs(rounds: usize) -> Vec<Cost> {
-    let piece = cells(BLOCK);
+    let cells = cells(2 * BLOCK);
     let none = Cost {
         whole: f64::MAX,
         feeds: Vec::new(),
@@ -42,22 +44,23 @@ pub fn costs(rounds: usize) -> Vec<Cost> {
         for (power, cost) in POWERS.iter().zip(&mut costs) {
             let samples = 10usize.pow(*power);
             for _ in 0..(ROUND / samples).max(1) {
-                stream(samples, &piece, cost);
+                stream(samples, &cells, cost);
             }
         }
     }
     costs
 }
 
-/// The piece over and over, so that no stream has to come from slower memory than another.
-fn stream(samples: usize, piece: &[i32], cost: &mut Cost) {
+/// Pieces of one short list, so that no stream comes from slower memory than another. Each begins at another place, so that the processor does not learn a short stream by heart.
+fn stream(samples: usize, cells: &[i32], cost: &mut Cost) {
     let mut line = line_a();
     let mut span = vec![0.0; BLOCK];
     cost.feeds.reserve(samples / BLOCK + 1);
     let mut left = samples;
     let start = Instant::now();
     while left > 0 {
-        let src = black_box(&piece[..left.min(BLOCK)]);
+        let from = cost.feeds.len() * STRIDE % BLOCK;
+        let src = black_box(&cells[from..from + left.min(BLOCK)]);
         let start = Instant::now();
         took_all(src, line.feed(src, &mut span));
         cost.feeds.push(each(start.elapsed(), src.len()));

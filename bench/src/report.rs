@@ -140,7 +140,7 @@ pub fn flat(rounds: usize) {
     println!(
         "7. Streams of 10^3 to 10^9 samples through our line A, in pieces of {BLOCK}, {rounds} rounds by turns:
 ns per input sample, what a tenth and what half of all feeds cost less than, and the least of whole
-streams; and their ratios to 10^3
+streams; and their ratios to 10^9
 "
     );
     println!("{:10}{:>20}{:>20}{:>20}", "", "tenth", "half", "stream");
@@ -149,8 +149,8 @@ streams; and their ratios to 10^3
     let figures: Vec<_> = costs(rounds).into_iter().map(Cost::figures).collect();
     for (power, row) in POWERS.iter().zip(&figures) {
         print!("10^{power:<7}");
-        for (cost, first) in row.iter().zip(figures[0]) {
-            print!("{cost:10.2}{:10.2}", cost / first);
+        for (cost, longest) in row.iter().zip(figures[POWERS.len() - 1]) {
+            print!("{cost:10.2}{:10.2}", cost / longest);
         }
         println!();
     }
