@@ -172,7 +172,7 @@ static void race(Race which, unsigned rounds) {
 }
 
 int main(int argc, char **argv) {
-    int rounds = argc > 1 ? atoi(argv[1]) : 30;
+    int rounds = argc > 1 ? atoi(argv[1]) : 100;
     if (argc > 2 || rounds < 1) {
         fprintf(stderr, "usage: peers [ROUNDS]\n");
         return 2;

@@ -1,4 +1,4 @@
-// soxr. It works in chunks of its own and holds samples back for them.
+// soxr. Its better recipes, and all that decimate, work in chunks of their own and hold samples back for them.
 #include "peers.h"
 #include <soxr.h>
 
@@ -47,13 +47,13 @@ static size_t from_cells(void *state, Samples samples, void *places) {
 }
 
 const Side soxr[] = {
-    {RESAMPLER_8, "soxr, LQ", "16 bits, passband 68 %, one ratio, in chunks", low, resampled},
+    {RESAMPLER_8, "soxr, LQ", "16 bits, passband 68 %, one ratio", low, resampled},
     {LINE_C, "soxr, LQ", "the same behind a loop to floats; nothing cut", low, from_cells},
-    {RESAMPLER_16, "soxr, LQ", "16 bits, passband 68 %, one ratio, in chunks", low, resampled},
-    {RESAMPLER_16, "soxr, HQ", "20 bits, passband 91 %, one ratio, in chunks", high, resampled},
+    {RESAMPLER_16, "soxr, LQ", "16 bits, passband 68 %, one ratio", low, resampled},
+    {RESAMPLER_16, "soxr, HQ", "20 bits, passband 91 %, one ratio; held back in chunks", high, resampled},
     {LINEAR, "soxr, QQ", "cubic; has a state", quick, resampled},
-    {DEPTH_3, "soxr, VHQ", "28 bits, passband 91 %, in chunks", very_high_8, resampled},
-    {DEPTH_5, "soxr, VHQ", "28 bits, passband 91 %, in chunks", very_high_32, resampled},
-    {DEPTH_5_98, "soxr, LQ", "16 bits, passband 68 %, in chunks", low_32, resampled},
+    {DEPTH_3, "soxr, VHQ", "28 bits, passband 91 %; held back in chunks", very_high_8, resampled},
+    {DEPTH_5, "soxr, VHQ", "28 bits, passband 91 %; held back in chunks", very_high_32, resampled},
+    {DEPTH_5_98, "soxr, LQ", "16 bits, passband 68 %; held back in chunks", low_32, resampled},
     {.name = NULL},
 };

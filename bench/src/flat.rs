@@ -10,7 +10,7 @@ use std::time::{Duration, Instant};
 /// The lengths of the streams, in powers of ten.
 pub const POWERS: [u32; 7] = [3, 4, 5, 6, 7, 8, 9];
 /// Samples of a round at least: short streams are run so often, each through a fresh line.
-const ROUND: usize = 1_000_000;
+const ROUND: usize = 100_000_000;
 /// From the beginning of a piece to that of the next.
 const STRIDE: usize = 977;
 
