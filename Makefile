@@ -47,7 +47,7 @@ bench: ## 30 s | what a sample costs here and in the Rust; BENCH="--rounds 100" 
 bench-instructions: ## 2 min | the same in instructions, by valgrind
 	@bench/run.sh --callgrind $(BENCH)
 
-bench-peers: ## 20 s | like work in liquid-dsp, libsamplerate, soxr and speexdsp, beside the archive; what is not installed is skipped
+bench-peers: ## 15 s | like work in liquid-dsp, libsamplerate, soxr and speexdsp, beside the archive; what is not installed is skipped
 	@bench/peers.sh
 
 bench-flat: ## 30 s | what a sample costs in streams of 10^3 to 10^9
