@@ -1,5 +1,5 @@
 # `make help` prints the commands. Each stands below as NAME: ## HOW LONG | WHAT IT DOES, with the archive made; times are of a machine with two cores.
-.PHONY: all help run test readings host compare bench bench-instructions targets firmware python page install review
+.PHONY: all help run test readings host compare bench bench-instructions bench-peers bench-flat targets firmware python page install review
 .DELETE_ON_ERROR:
 
 # TARGET: the folder for all that is built; relative names, here and in GAUGE_ARCHIVE, begin at the top of the repository.
@@ -46,6 +46,12 @@ bench: ## 30 s | what a sample costs here and in the Rust; BENCH="--rounds 100" 
 
 bench-instructions: ## 2 min | the same in instructions, by valgrind
 	@bench/run.sh --callgrind $(BENCH)
+
+bench-peers: ## 15 s | like work in liquid-dsp, libsamplerate, soxr and speexdsp, beside the archive; what is not installed is skipped
+	@bench/peers.sh
+
+bench-flat: ## 30 s | what a sample costs in streams of 10^3 to 10^9
+	@bench/run.sh --flat
 
 targets: ## 30 s | the proved module on other machines, its outputs compared with those on x86-64; MACHINES="wasm32" names some
 	@targets/run.sh $(MACHINES)

@@ -5,6 +5,7 @@
 mod blocks;
 mod case;
 mod cases;
+mod flat;
 mod once;
 mod options;
 mod original;
@@ -15,6 +16,10 @@ mod samples;
 
 use options::Options;
 use std::process::ExitCode;
+
+const ROUNDS: usize = 30;
+/// Of a stream of 10^9 samples one round takes seconds.
+const FLAT_ROUNDS: usize = 3;
 
 fn main() -> ExitCode {
     let options = match Options::parse(std::env::args().skip(1)) {
@@ -33,6 +38,7 @@ fn main() -> ExitCode {
     phases.retain(|case| case.name.contains(&options.only));
     lengths.retain(|case| case.name.contains(&options.only));
 
+    let rounds = options.rounds.unwrap_or(ROUNDS);
     if options.list {
         for case in converters.iter().chain(&lines) {
             println!("{}", case.name);
@@ -40,12 +46,14 @@ fn main() -> ExitCode {
     } else if let Some(named) = &options.case {
         let all = converters.iter().chain(&lines).chain(&lengths);
         return once::run(all, named, &options);
+    } else if options.flat {
+        report::flat(options.rounds.unwrap_or(FLAT_ROUNDS));
     } else {
-        report::converters(&converters, options.rounds);
-        report::lines(&lines, options.rounds);
-        report::pieces(&lines, options.rounds);
-        report::phases(&phases, options.rounds);
-        report::lengths(&lengths, options.rounds);
+        report::converters(&converters, rounds);
+        report::lines(&lines, rounds);
+        report::pieces(&lines, rounds);
+        report::phases(&phases, rounds);
+        report::lengths(&lengths, rounds);
     }
     ExitCode::SUCCESS
 }

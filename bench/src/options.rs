@@ -1,6 +1,7 @@
 //! The command line.
 
 pub const USAGE: &str = "usage: bench [--rounds N] [--only SUBSTRING]
+       bench --flat [--rounds N]
        bench --list [--only SUBSTRING]
        bench --case NAME --side ours|rust [--block N] [--repeat K]";
 
@@ -11,8 +12,9 @@ pub enum SideName {
 }
 
 pub struct Options {
-    pub rounds: usize,
+    pub rounds: Option<usize>,
     pub only: String,
+    pub flat: bool,
     pub list: bool,
     pub case: Option<String>,
     pub side: SideName,
@@ -24,8 +26,9 @@ pub struct Options {
 impl Options {
     pub fn parse(mut arguments: impl Iterator<Item = String>) -> Result<Self, String> {
         let mut options = Options {
-            rounds: 30,
+            rounds: None,
             only: String::new(),
+            flat: false,
             list: false,
             case: None,
             side: SideName::Ours,
@@ -33,21 +36,19 @@ impl Options {
             repeat: 1,
         };
         while let Some(flag) = arguments.next() {
-            if flag == "--list" {
-                options.list = true;
-                continue;
+            match flag.as_str() {
+                "--flat" => options.flat = true,
+                "--list" => options.list = true,
+                _ => options.set(&flag, arguments.next())?,
             }
-            let value = arguments
-                .next()
-                .ok_or_else(|| format!("{flag} wants a value"))?;
-            options.set(&flag, value)?;
         }
         Ok(options)
     }
 
-    fn set(&mut self, flag: &str, value: String) -> Result<(), String> {
+    fn set(&mut self, flag: &str, value: Option<String>) -> Result<(), String> {
+        let value = value.ok_or_else(|| format!("{flag} wants a value"))?;
         match flag {
-            "--rounds" => self.rounds = count(&value)?,
+            "--rounds" => self.rounds = Some(count(&value)?),
             "--only" => self.only = value,
             "--case" => self.case = Some(value),
             "--side" => self.side = side(&value)?,

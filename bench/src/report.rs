@@ -4,6 +4,7 @@ use crate::case::{Case, Settings, Unit};
 use crate::cases::line::PIECES;
 use crate::cases::linear_phase::LENGTHS;
 use crate::cases::{BLOCK, SHORT_BLOCK};
+use crate::flat::{Cost, POWERS, costs};
 use crate::race::{least_times, timed};
 
 const SIDES: &str = "      ours      Rust ours/Rust";
@@ -133,6 +134,26 @@ fn cut(case: &Case, rounds: usize) -> String {
         .map(|time| format!("{:9.2}", time / times[0]))
         .collect();
     costs.concat() + &ratios
+}
+
+pub fn flat(rounds: usize) {
+    println!(
+        "7. Streams of 10^3 to 10^9 samples through our line A, in pieces of {BLOCK}, {rounds} rounds by turns:
+ns per input sample, what a tenth and what half of all feeds cost less than, and the least of whole
+streams; and their ratios to 10^9
+"
+    );
+    println!("{:10}{:>20}{:>20}{:>20}", "", "tenth", "half", "stream");
+    let sides = "        ns     ratio";
+    println!("{:10}{sides}{sides}{sides}", "samples");
+    let figures: Vec<_> = costs(rounds).into_iter().map(Cost::figures).collect();
+    for (power, row) in POWERS.iter().zip(&figures) {
+        print!("10^{power:<7}");
+        for (cost, longest) in row.iter().zip(figures[POWERS.len() - 1]) {
+            print!("{cost:10.2}{:10.2}", cost / longest);
+        }
+        println!();
+    }
 }
 
 fn nanoseconds(time: f64, samples: usize) -> f64 {

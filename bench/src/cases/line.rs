@@ -6,7 +6,7 @@ use crate::original;
 use crate::ours::{self, took_all};
 use crate::race::Side;
 use crate::samples::{cells, prototype, taps, to_q15};
-use gauge_line::{Line, Settings, Thinning};
+use gauge_line::{Line, Refusal, Settings, Thinning};
 
 /// The lengths of pieces, the whole stream first.
 pub const PIECES: [usize; 4] = [65_536, 4_096, 64, 1];
@@ -90,9 +90,19 @@ fn cut(settings: Settings, piece: usize) -> Cut {
     Cut::apart(PIECES[0] / piece, piece, places)
 }
 
-fn ours(settings: Settings, tap_count: usize, piece: usize) -> Box<dyn Side> {
+/// Line A, freshly opened.
+pub fn line_a() -> Line {
+    let opened = opened(settings::<3, 32, 8>(16, 2, 2, 0.9), 32);
+    opened.expect("the settings are not refused")
+}
+
+fn opened(settings: Settings, tap_count: usize) -> Result<Line, Refusal> {
     let prototype = prototype(settings.phases * settings.phase_taps);
-    let opened = Line::open(settings, &taps(tap_count), &prototype);
+    Line::open(settings, &taps(tap_count), &prototype)
+}
+
+fn ours(settings: Settings, tap_count: usize, piece: usize) -> Box<dyn Side> {
+    let opened = opened(settings, tap_count);
     let line = ours::ours(opened, |line, src, dst| took_all(src, line.feed(src, dst)));
     side(line, cut(settings, piece), cells)
 }
