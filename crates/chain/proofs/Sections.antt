@@ -27,8 +27,8 @@ use Rattle.half_band.specs.Limits.{mostStages}
 use Rattle.half_band.specs.declared.hbf_stream.HbfStream.{HbfStream}
 use Rattle.half_band.proofs.StageTables.{dec-stages}
 use Rattle.half_band.proofs.Streaming.{depth-next}
-use Rattle.line.proofs.Flags.{and-left}
-use Rattle.plan.specs.Ticking.{orOne}
+use Rattle.float.proofs.Flags.{both-true}
+use Rattle.chain.specs.Counting.{orOne, stagesLeft}
 use Rattle.theory.proofs.Counting.{came, CountsDown}
 
 -- a choice, seen
@@ -57,7 +57,7 @@ thinPeriod t = t .cic .r
 thin-below : (t : Thinner) → ThinGood t → t .cic .«sample_counter» < t .cic .r
 unfolding fine
 thin-below t g =
-    either-below (t .kind) (t .cic .stages) (t .cic .r) (t .cic .«sample_counter») (and-left (validAt (t .kind) (t .cic .stages) (t .cic .r) (t .cic .«sample_counter»)) _ g)
+    either-below (t .kind) (t .cic .stages) (t .cic .r) (t .cic .«sample_counter») (both-true (validAt (t .kind) (t .cic .stages) (t .cic .r) (t .cic .«sample_counter»)) _ g .0)
 
 thin-left : (r k : ℕ) → k < r → cond (ltb (k + 1) r) (r - (k + 1)) (r - 0) ≡ cond (leb (r - k) 1) r (r - k - 1)
 thin-left r k g = go (ltb (k + 1) r) refl
@@ -164,12 +164,8 @@ fir-down =
       out-same = fir-out;
     }
 
--- ---- the half-band stages: of n from stage k on, each holds none and wants two values, or holds one and wants one
-abbrev pub stagesLeft : ℕ → ℕ → List ℕ → ℕ
-stagesLeft zero k c = 1
-stagesLeft (suc n) k c = cond (eqb (getD c k 0) 0) 2 1 + (stagesLeft n (suc k) c - 1) * 2
-
-some-stages : (n k : ℕ) (c : List ℕ) → 1 ≤ stagesLeft n k c
+-- ---- the half-band stages
+pub some-stages : (n k : ℕ) (c : List ℕ) → 1 ≤ stagesLeft n k c
 some-stages zero k c = omega arith
 some-stages (suc n) k c = go (eqb (getD c k 0) 0)
   where

@@ -1,0 +1,26 @@
+// What a feed of a line never changes.
+ghost use mathlib.Core.Path.{_≡_};
+ghost use Prim.Native.Nat.{min};
+
+// The most sums of section 1 in a block.
+pub const MOST_SUMS: usize = 128;
+
+// The settings, and the gain bits that follow from them.
+pub struct Fixed {
+    pub stages: usize,
+    pub r: usize,
+    pub bits: u32,
+    pub tap_count: usize,
+    pub factor: usize,
+    pub depth: usize,
+    pub phases: usize,
+    pub taps: usize,
+    pub straight: bool,
+    pub step: f32,
+}
+
+pub fn least(a: usize, b: usize) -> usize
+    ensures { λ m. ⌜ m ≡ min a b ⌝ }
+{
+    if a < b { a } else { b }
+}
