@@ -165,14 +165,11 @@ module _ (f : Fixed) (wait : ℕ) (counts : List ℕ) (places stride levels valu
 
     pub sums-leave :
         firValidInLine (f .«tap_count») (f .factor) wait ≡ true → R.validInLine r ≡ true → from5 .due r ≡ false → 1 ≤ places
-        → (1 ≤ n) × Leaves from2 (cutOn s h r) n places
+        → Leaves from2 (cutOn s h r) n places
     sums-leave fv v d p =
         let good : FirGood s = fir-runs s fv in
-        let some : 1 ≤ firLeft s = fir-down .some-left s good in
         let short : values * period ≤ values * firPeriod s = mul-le-mul-left values (let e = w .period-is in let q : period ≤ firPeriod s = omega arith in q) in
         let e = w .first-is in
-        let a = w .are in (
-          omega (arith, a, e, some),
-          leaves s h r good (w .long) v d n levels places p (subst (λ (j : ℕ). levels * 4096 ≤ (places - 1) * j) stride-of (w .levels-fit))
-              (subst (λ (k : ℕ). n ≤ firLeft s + k * firPeriod s) (w .values-are) (omega (arith, a, e, short))),
-        )
+        let a = w .are in
+        leaves s h r good (w .long) v d n levels places p (subst (λ (j : ℕ). levels * 4096 ≤ (places - 1) * j) stride-of (w .levels-fit))
+        (subst (λ (k : ℕ). n ≤ firLeft s + k * firPeriod s) (w .values-are) (omega (arith, a, e, short)))

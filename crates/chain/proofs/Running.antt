@@ -360,7 +360,7 @@ module _ (t t′ : Thinner) (s s′ : FirDecimator) (h h′ : HbfStream) (r r′
         whole,
         chain-batched t t′ (cutOn s h r) (cutOn s′ h′ r′) xs sums taken made bits count at w o o′ eb fine et el whole
             (λ whole2. batched-each (cut w16) from3 (firOn s h r) (outs either t zs) (take made vals) at o o′ (firOn s′ h′ r′) w values whole2
-                (on v (subst⁻¹ (λ (l : List ℤ). Whole from3 (firOn s h r) l (length o - at)) values (whole-each (cut w16) from3 (firOn s h r) (outs either t zs) (length o - at) whole2)))),
+            (on v (subst⁻¹ (λ (l : List ℤ). Whole from3 (firOn s h r) l (length o - at)) values (whole-each (cut w16) from3 (firOn s h r) (outs either t zs) (length o - at) whole2)))),
         ap₂ {C = ℕ} (λ (a b : ℕ). a + b) (ec ∙ ap (cutCount w16) scaled) (e2 ∙ ap (λ (l : List ℤ). cutCount w16 (outs summing s l)) values),
       )
 

@@ -11,13 +11,13 @@ ghost use Rattle.float.specs.PolyphaseResamp.{validInLine};
 ghost use Rattle.chain.specs.Chain.{from3};
 ghost use Rattle.chain.specs.Parts.{firOf, halfBandOf, resamplerOf, firOn};
 ghost use Rattle.chain.specs.Batched.{mostSums, Whole, Batched};
-use crate::levels::levels_in;
 use crate::fixed::Fixed;
+use crate::fixed::MOST_SUMS;
+use crate::levels::levels_in;
 use float::polyphase_resamp::MOST_CELLS;
 use float::polyphase_resamp::MOST_TAPS as MOST_PHASE_TAPS;
 use half_band::DEC_CASCADE_DELAYS;
 use half_band::MOST_STAGES;
-use crate::fixed::MOST_SUMS;
 use q15::MOST_TAPS;
 use q15::fir_block_at;
 

@@ -5,6 +5,9 @@ ghost use Prim.Native.Nat.{min};
 // The most sums of section 1 in a block.
 pub const MOST_SUMS: usize = 128;
 
+// Fewer sums than these are not worth a block.
+pub const FEW_SUMS: usize = 6;
+
 // The settings, and the gain bits that follow from them.
 pub struct Fixed {
     pub stages: usize,

@@ -10,6 +10,7 @@ ghost use Rattle.chain.specs.Chain.{fromLevels};
 ghost use Rattle.chain.specs.Parts.{halfBandOf, resamplerOf, levelsOn};
 ghost use Rattle.chain.specs.Batched.{mostSums, Whole, Batched};
 use crate::fixed::Fixed;
+use crate::fixed::MOST_SUMS;
 use crate::resample::resample;
 use float::polyphase_resamp::Due;
 use float::polyphase_resamp::MOST_CELLS;
@@ -18,7 +19,6 @@ use float::q15_to_f32;
 use half_band::DEC_CASCADE_DELAYS;
 use half_band::MOST_STAGES;
 use half_band::hbf_stream_block_at;
-use crate::fixed::MOST_SUMS;
 use q15::Q15;
 
 // The values as levels, in front of a span.

@@ -14,6 +14,7 @@ ghost use Rattle.chain.specs.Chain.{from2, from5};
 ghost use Rattle.chain.specs.Parts.{firOf, halfBandOf, resamplerOf, cutOn};
 ghost use Rattle.chain.specs.Counting.{orOne, stagesLeft};
 ghost use Rattle.chain.specs.Batched.{mostSums, Leaves};
+use crate::fixed::FEW_SUMS;
 use crate::fixed::Fixed;
 use crate::fixed::MOST_SUMS;
 use crate::fixed::least;
@@ -80,17 +81,35 @@ fn or_one(tap_count: usize, n: usize) -> usize
     least(n, MOST_SUMS)
 }
 
-// How many sums a block may have where no output is due and so many places are left.
-pub fn sums_for(f: Fixed, wait: usize, counts: [usize; MOST_STAGES], places: usize) -> usize
+// So many sums, or fewer, leave a place before the last of them.
+fn sums_within(f: Fixed, wait: usize, counts: [usize; MOST_STAGES], places: usize) -> usize
     ensures within { λ n. ⌜ n ≤ mostSums ⌝ }
-    ensures leaves { λ n. ⌜ ((mu : Float) (taps fir-delay : List ℤ) (delays held : List Float) (delay prototype : List Float) →
+    ensures leaves { λ n. ⌜ ((mu : Float) (taps fir-delay : List ℤ) (delays held delay prototype : List Float) →
         let resampler = resamplerOf f mu delay prototype in
         firValidInLine (f .«tap_count») (f .factor) wait ≡ true → validInLine resampler ≡ true → from5 .due resampler ≡ false → 1 ≤ places
-        → (1 ≤ n) × Leaves from2 (cutOn (firOf f wait taps fir-delay) (halfBandOf f delays held counts) resampler) n places) ⌝ }
+        → Leaves from2 (cutOn (firOf f wait taps fir-delay) (halfBandOf f delays held counts) resampler) n places) ⌝ }
 {
     let levels = levels_for(places, stride(f.phases, f.step));
     let values = values_for(f.depth, counts, levels);
     let first = or_one(f.tap_count, wait);
     let period = or_one(f.tap_count, f.factor);
     least(first + values * period, MOST_SUMS)
+}
+
+// How many sums a block may have where no output is due and so many places are left; 0 where it would have fewer than FEW_SUMS, which go faster one by one.
+pub fn sums_for(f: Fixed, wait: usize, counts: [usize; MOST_STAGES], places: usize) -> usize
+    ensures within { λ n. ⌜ (n ≤ mostSums) × (1 ≤ n → 1 ≤ places) ⌝ }
+    ensures leaves { λ n. ⌜ ((mu : Float) (taps fir-delay : List ℤ) (delays held delay prototype : List Float) →
+        let resampler = resamplerOf f mu delay prototype in
+        firValidInLine (f .«tap_count») (f .factor) wait ≡ true → validInLine resampler ≡ true → from5 .due resampler ≡ false → 1 ≤ n
+        → Leaves from2 (cutOn (firOf f wait taps fir-delay) (halfBandOf f delays held counts) resampler) n places) ⌝ }
+{
+    if places == 0 {
+        return 0;
+    }
+    let count = sums_within(f, wait, counts, places);
+    if count < FEW_SUMS {
+        return 0;
+    }
+    count
 }

@@ -28,7 +28,8 @@ use Rattle.q15.specs.FirDecimator as Q
 use Rattle.q15.specs.declared.fir_decimator.FirDecimator.{FirDecimator}
 use Rattle.q15.proofs.FirStream.{line-summed}
 use Rattle.line.specs.Outputs.{Opening, mostCuts, cutsOf, heldCuts}
-use Rattle.line.specs.Line.{Parts, thinnerOf, partsOf, from3, chain, sumCut, cutsFor, cutsAt, line, fresh}
+use Rattle.chain.specs.Chain.{Parts, from3, chain}
+use Rattle.line.specs.Line.{thinnerOf, partsOf, sumCut, cutsFor, cutsAt, line, fresh}
 use Rattle.line.specs.declared.gauge_line.Line.{Line}
 use Rattle.line.proofs.Openings.{Accepted}
 

@@ -71,8 +71,7 @@ returns c =
     let s = start e in
     let a = s .args in
     let told = e .fir-block-at .ensures in
-    let on = c .before .before .levels-in .ensures in
-    (
+    let on = c .before .before .levels-in .ensures in (
       (on .0, few-made e .2),
       (
         filter-batched (fir e) (now (a .values)) zeros (made e) (e .fir-block-at .result .made) (s .pre .1) zeros-long _ (half-band e) _ (resampler e) _ (a .from) _ (now (a .out)) _ (told .0)

@@ -73,8 +73,7 @@ returns c =
     let s = start e in
     let a = s .args in
     let told = e .hbf-stream-block-at .ensures in
-    let on = c .before .before .resample .ensures in
-    (
+    let on = c .before .before .resample .ensures in (
       on .0,
       levels-batched (half-band e) _ (resampler e) _ (now (a .values)) _ (laid e) (thinned e) (e .hbf-stream-block-at .result) (a .from) _ (now (a .out)) _ (s .pre .1) (search needs) (c .before .before .before .before .before .before .before .before .before .before .before .before .before .put-levels .ensures)
           (told .0) (told .1 .1 .0) (on .1),

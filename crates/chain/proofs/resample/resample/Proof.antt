@@ -54,8 +54,7 @@ returns-2 : tie.Need-returns-2
 returns-2 c =
     let s = c .before .before .before .before .before .before .before .before .before in
     let a = s .args in
-    let fits : length (now (a .levels)) ≤ length (now (a .out)) - a .from = c .before .before .before .before .if2 .left in
-    (
+    let fits : length (now (a .levels)) ≤ length (now (a .out)) - a .from = c .before .before .before .before .if2 .left in (
       omega (arith, fits, s .pre),
       λ v whole. subst⁻¹ (λ (l : List Float). Batched from5 (lent s) (now (a .levels)) (a .from) (now (a .out)) l (lent s) (a .from + length (now (a .levels))))
           (off-span (now (a .levels)) (now (a .out)) _ (a .from) fits (c .before .before .put-at-end .ensures))
@@ -100,8 +99,7 @@ returns-3 : tie.Need-returns-3
 returns-3 c =
     let a = start c .args in
     let r = lent (start c) in
-    let told = c .before .before .before .block-at .ensures in
-    (
+    let told = c .before .before .before .block-at .ensures in (
       within c,
       λ v whole. batched-on r (now (a .levels)) (now (a .out)) (a .from) (start c .pre) _ _ _ (is-on r (c .before .before .before .before .before .before .if1 .left)) v (wrote c)
           (ap (λ (t : Outcome Counts PolyphaseResampF32). t .state) (told .0)) (told .1),

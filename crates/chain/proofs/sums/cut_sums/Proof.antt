@@ -102,10 +102,9 @@ returns : tie.Need-returns Inv-loop μ-loop
 returns c =
     let a = c .before .before .args in
     let done = all-cut _ _ _ _ _ _ (c .loop-test .left) (c .before .loop .inv) in
-    let g : ℤ → ℤ = (λ y. floorDiv y (2 ^ a .bits)) in
-    (
+    let g : ℤ → ℤ = (λ y. floorDiv y (2 ^ a .bits)) in (
       done .0
-      ∙ ap (λ (l : List ℤ). l ++ drop (length (now (a .sums))) (now (a .dst))) (sym (map-listed (cut w16) (length (now (a .sums))) (λ k. g (at (now (a .sums)) k))) ∙ ap (map (cut w16)) (listed-map g (pos 0) (now (a .sums)))),
+          ∙ ap (λ (l : List ℤ). l ++ drop (length (now (a .sums))) (now (a .dst))) (sym (map-listed (cut w16) (length (now (a .sums))) (λ k. g (at (now (a .sums)) k))) ∙ ap (map (cut w16)) (listed-map g (pos 0) (now (a .sums)))),
       done .1 ∙ ap (cutCount w16) (listed-map g (pos 0) (now (a .sums))),
     )
 

@@ -151,15 +151,14 @@ returns c =
     let k = cuts-within (sums b) (values e) zeros (a .f .bits) (made b) (made-in b) (e .cut-sums .ensures .0) _ (e .cut-sums .ensures .1) in
     let m = few-made b in
     let n = on .0 .1 in
-    let w = thin-within (thinner b) (now (a .samples)) (length (take (most b) zeros)) .0 in
-    (
+    let w = thin-within (thinner b) (now (a .samples)) (length (take (most b) zeros)) .0 in (
       (omega (arith, told .0 .0, w), omega (arith, k, m, n)),
       λ eb fine v room c₁ c₂ some leaves.
           let at : c .before .before .before .before .before .before .before .before .before .before .before .before .before .before .before .before .before .before .before .before .before .least2 .result ≡ a .from = let q = c .before .before .before .before .before .before .before .before .before .before .before .before .before .before .before .before .before .before .before .before .before .least2 .ensures in omega (arith, q, room) in
           let count : length (take (most b) zeros) ≡ a .count = let q = c .before .before .before .before .before .before .before .before .before .before .before .before .before .before .before .before .before .before .before .before .before .before .least .ensures in lent-long b ∙ omega (arith, q, c₂) in
           took-batch-at (thinner b) _ (fir b) _ (half-band b) _ (resampler b) _ (now (a .samples)) (sums b) (values e) _ (made b) (a .f .bits) (length (take (most b) zeros)) _ _ _ _ (now (a .out)) _ (a .from) (a .count)
-              at count eb fine (told .0 .0) (told .1 .0) (front b)
-              (values-front (sums b) (values e) zeros (a .f .bits) (made b) (made-in b) (e .cut-sums .ensures .0)) (e .cut-sums .ensures .1) (on .1 .1) (on .1 .0) v c₁ some leaves,
+          at count eb fine (told .0 .0) (told .1 .0) (front b)
+          (values-front (sums b) (values e) zeros (a .f .bits) (made b) (made-in b) (e .cut-sums .ensures .0)) (e .cut-sums .ensures .1) (on .1 .1) (on .1 .0) v c₁ some leaves,
     )
 
 pub take-batch-spec : {M : Type 1} → statement M

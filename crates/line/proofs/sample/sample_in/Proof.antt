@@ -22,8 +22,10 @@ use Rattle.q15.specs.FirDecimator.{cutIn, firSumOut}
 use Rattle.theory.specs.Tally.{heldSum}
 use Rattle.theory.proofs.Tally.{held-none}
 use Rattle.line.specs.Outputs.{mostCuts}
-use Rattle.line.specs.Line.{from3, cutsFor}
-use Rattle.line.specs.Together.{firOf, together}
+use Rattle.chain.specs.Chain.{from3}
+use Rattle.line.specs.Line.{cutsFor}
+use Rattle.chain.specs.Parts.{firOf}
+use Rattle.line.specs.Together.{together}
 use Rattle.line.specs.declared.gauge_line.Line.{Line}
 use Rattle.line.proofs.Taking.{takes-none, takes-some, two-cuts, takes-line}
 use Rattle.line.proofs.sample.sample_in.Statement.{statement}
