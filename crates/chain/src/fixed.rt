@@ -1,6 +1,4 @@
 // What a feed of a line never changes.
-ghost use mathlib.Core.Path.{_≡_};
-ghost use Prim.Native.Nat.{min};
 
 // The most sums of section 1 in a block.
 pub const MOST_SUMS: usize = 128;
@@ -20,10 +18,4 @@ pub struct Fixed {
     pub taps: usize,
     pub straight: bool,
     pub step: f32,
-}
-
-pub fn least(a: usize, b: usize) -> usize
-    ensures { λ m. ⌜ m ≡ min a b ⌝ }
-{
-    if a < b { a } else { b }
 }

@@ -17,9 +17,9 @@ ghost use Rattle.chain.specs.Batched.{mostSums, Leaves};
 use crate::fixed::FEW_SUMS;
 use crate::fixed::Fixed;
 use crate::fixed::MOST_SUMS;
-use crate::fixed::least;
 use float::f32_to_usize_saturating;
 use half_band::MOST_STAGES;
+use integer::limits::least;
 
 // A level in the parts that a stride is counted in.
 const PARTS: usize = 4096;
