@@ -22,14 +22,11 @@ const FEW_BY_THREE: usize = 24;
 
 const FEW_BY_FOUR: usize = 15;
 
-// Whether there are at most four taps, and few samples; one is made sooner in the lent delay, and with one tap any number are few.
+// Whether there are at most four taps, and few samples; with one tap any number are few.
 pub(crate) fn is_brief(m: usize, n: usize) -> bool
     ensures { λ r. ⌜ (r ≡ true → m ≤ 4) ⌝ }
 {
     if 4 < m {
-        return false;
-    }
-    if n < 2 {
         return false;
     }
     if m == 1 {
