@@ -1,4 +1,4 @@
--- `linear_phase::linear_phase_fir::inplace_lent` meets its contract: what lies behind the taps and the delay is not looked at, and stays.
+-- `linear_phase::linear_phase_fir::inplace_long` meets its contract: what lies behind the taps and the delay is not looked at, and stays.
 use mathlib.Core.Path.{refl, sym, ap, _∙_}
 use mathlib.Core.Bool.{true}
 use borrow.Author.Needs.{needs}
@@ -12,8 +12,8 @@ use Rattle.linear_phase.specs.LinearPhaseFir.{phaseOf, phaseTaps}
 use Rattle.linear_phase.specs.declared.linear_phase_fir.LinearPhaseFir.{LinearPhaseFir}
 use Rattle.linear_phase.proofs.Backward.{picked-first}
 use Rattle.linear_phase.proofs.Filters.{Usable, taps-long, delay-long, ready, lent, outs-are, state-is}
-use Rattle.linear_phase.proofs.linear_phase_fir.inplace_lent.Statement.{statement}
-use Rattle.linear_phase.proofs.linear_phase_fir.inplace_lent.Tie as tie
+use Rattle.linear_phase.proofs.linear_phase_fir.inplace_long.Statement.{statement}
+use Rattle.linear_phase.proofs.linear_phase_fir.inplace_long.Tie as tie
 
 abbrev lent-to : tie.Start → LinearPhaseFir
 lent-to s = phaseOf (s .args .m) (s .args .odd) (s .args .antisymmetric) (now (s .args .taps)) (now (s .args .delay))
@@ -115,5 +115,5 @@ returns-3 c =
     let o = c .before .before .before .before .filter in
     (state-is d u (r .result) (r .ensures) v _ (o .ensures .0 ∙ ap (state f (take (r .result) (now (a .delay)))) (picked-first true (now (a .span)) _ refl)), outs-are d u (r .result) (r .ensures) v _ (o .ensures .1 ∙ ap (outs f (take (r .result) (now (a .delay)))) (picked-first true (now (a .span)) _ refl)))
 
-pub inplace-lent-spec : {M : Type 1} → statement M
-inplace-lent-spec = tie.close (tie.spec reach-requires slice-relend-prefix-filter-few slice-aggregate-filter-few slice-aggregate-filter-few-2 filter-few-requires same-length same-length-2 returns is-short-requires slice-aggregate-filter-short filter-short-requires same-length-3 same-length-4 returns-2 slice-relend-prefix-filter slice-aggregate-filter slice-aggregate-filter-2 filter-requires same-length-5 same-length-6 returns-3)
+pub inplace-long-spec : {M : Type 1} → statement M
+inplace-long-spec = tie.close (tie.spec reach-requires slice-relend-prefix-filter-few slice-aggregate-filter-few slice-aggregate-filter-few-2 filter-few-requires same-length same-length-2 returns is-short-requires slice-aggregate-filter-short filter-short-requires same-length-3 same-length-4 returns-2 slice-relend-prefix-filter slice-aggregate-filter slice-aggregate-filter-2 filter-requires same-length-5 same-length-6 returns-3)
