@@ -1,20 +1,18 @@
 -- What a batch comes to: a section's block and then a batch of the machine behind it is a batch of the two, where all is taken; so section by section, from the resampler up.
 use mathlib.Core.Path.{_≡_, refl, sym, ap, ap₂, _∙_, subst, subst⁻¹}
-use mathlib.Core.Bool.{true, false, cond, _&&_}
+use mathlib.Core.Bool.{true, false}
 use mathlib.Core.List.{List, _++_, map}
-use mathlib.Core.Option.{none, some}
 use Prim.Native.Nat.{ℕ, _+_, _-_, _≤_}
 use borrow.Author.Tests.{eq-eqb, ne-eqb}
-use lib.Ieee.{Float, lt}
+use lib.Ieee.{Float}
 use lib.ListN.{length, take, drop}
 use Rattle.theory.specs.Sections.{Section, state, outs, each}
 use Rattle.theory.specs.Machines.{Machine, before}
 use Rattle.theory.specs.Feeds as F
 use Rattle.theory.proofs.Sections.{outs-each}
-use Rattle.theory.proofs.Feeds.{Right, feed-right}
+use Rattle.theory.proofs.Feeds.{feed-right}
 use Rattle.theory.proofs.Batches.{feed-before}
 use Rattle.theory.proofs.FeedsSeen.{feed-seen, feed-hands}
-use Rattle.float.specs.F32.{one32}
 use Rattle.float.specs.PolyphaseResamp.{isOn, passed, consumed, inLine, resampler, validInLine}
 use Rattle.float.specs.declared.polyphase_resamp.PolyphaseResampF32.{PolyphaseResampF32}
 use Rattle.float.proofs.PolyphaseRange as Res

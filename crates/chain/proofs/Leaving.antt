@@ -1,11 +1,11 @@
 -- How many sums leave a place: so many levels do, by the resampler's pace; the half-band stages make no more of so many values, and the FIR no more of so many sums.
 use mathlib.Core.Path.{_≡_, refl, sym, ap, _∙_, subst}
-use mathlib.Core.Bool.{Bool, true, false, cond, false≢true}
-use mathlib.Core.List.{List, map}
+use mathlib.Core.Bool.{Bool, true, false, cond}
+use mathlib.Core.List.{List}
 use Prim.Native.Nat.{ℕ, zero, suc, _+_, _-_, _*_, _^_, _≤_, _<_, min}
-use native.Mathlib.Nat.{le-trans, mul-le-mul-left, mul-le-mul-right, zero-mul, suc-mul, div-mul-le-self, mul-le-mul, mul-assoc, pow-suc, pow-le-pow-right}
+use native.Mathlib.Nat.{le-trans, mul-le-mul-left, mul-le-mul-right, mul-le-mul, mul-assoc, pow-suc, pow-le-pow-right}
 use native.Mathlib.Omega.{arith}
-use borrow.Author.Tests.{eqb-false, eqb-true, ne-eqb}
+use borrow.Author.Tests.{eqb-true}
 use lib.Dec.{eqb}
 use lib.IntN.{ℤ}
 use lib.Ieee.{Float, binary32, ofBits, mul, toUnsigned}
@@ -17,9 +17,9 @@ use Rattle.theory.proofs.Sections.{outs-each}
 use Rattle.theory.proofs.Batches.{place-before}
 use Rattle.theory.proofs.Counting.{few-outs}
 use Rattle.q15.specs.Fixed.{cut}
-use Rattle.q15.specs.FirDecimator.{fir, mostTaps, firValid, firValidInLine, validInLine}
+use Rattle.q15.specs.FirDecimator.{fir, firValid, firValidInLine, validInLine}
 use Rattle.q15.specs.declared.fir_decimator.FirDecimator.{FirDecimator}
-use Rattle.q15.proofs.FirSteps.{On, valid-on}
+use Rattle.q15.proofs.FirSteps.{valid-on}
 use Rattle.half_band.specs.HbfStream.{hbfStream}
 use Rattle.half_band.specs.declared.hbf_stream.HbfStream.{HbfStream}
 use Rattle.float.specs.Level.{level}
@@ -31,7 +31,7 @@ use Rattle.chain.specs.Parts.{firOf, halfBandOf, resamplerOf, levelsOn, 
 use Rattle.chain.specs.Batched.{mostSums, Leaves}
 use Rattle.chain.specs.Counting.{orOne, stagesLeft}
 use Rattle.chain.specs.declared.fixed.Fixed.{Fixed}
-use Rattle.chain.proofs.Sections.{FirGood, firLeft, firPeriod, fir-down, or-one, HalfGood, halfLeft, halfPeriod, half-down, some-stages}
+use Rattle.chain.proofs.Sections.{FirGood, firLeft, firPeriod, fir-down, HalfGood, halfLeft, halfPeriod, half-down, some-stages}
 
 -- a FIR that row 15 takes counts down
 pub fir-runs : (s : FirDecimator) → validInLine s ≡ true → FirGood s

@@ -1,9 +1,8 @@
 -- A list mapped is the listing of what its places become.
 use mathlib.Core.Path.{_≡_, sym, ap, _∙_}
 use mathlib.Core.List.{List, map}
-use Prim.Native.Nat.{ℕ}
 use native.Mathlib.Omega.{arith}
-use lib.ListN.{length, getD, take}
+use lib.ListN.{length, getD}
 use lib.Seq.{take-all}
 use Rattle.theory.specs.Lists.{listed}
 use Rattle.theory.proofs.Listed.{map-listed}

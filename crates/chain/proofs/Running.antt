@@ -1,13 +1,12 @@
 -- What the functions of this crate leave is a batch of the machine from their section on: each section's block in its laws, one section before the other.
 use mathlib.Core.Path.{_≡_, refl, sym, ap, ap₂, _∙_, subst, subst⁻¹}
-use mathlib.Core.Bool.{Bool, true, false, cond, _&&_}
+use mathlib.Core.Bool.{Bool, true, false, cond}
 use mathlib.Core.List.{List, [], _∷_, _++_, map, append-nil, append-assoc}
 use mathlib.Core.Option.{Option, none, some}
 use Prim.Native.Nat.{ℕ, zero, suc, _+_, _-_, _^_, _≤_, _<_, suc-le-suc}
 use native.Mathlib.Nat.{le-trans}
 use native.Mathlib.Omega.{arith}
 use borrow.Author.Tests.{le-leb}
-use lib.Dec.{leb}
 use lib.IntN.{ℤ, pos}
 use lib.Ieee.{Float}
 use lib.ListN.{length, getD, take, drop, length-append, length-drop, length-map, length-take, drop-of-length-le}
@@ -37,15 +36,14 @@ use Rattle.half_band.specs.HbfStreamBlock.{streamBlockFits, streamBlockState, s
 use Rattle.half_band.specs.declared.hbf_stream.HbfStream.{HbfStream}
 use Rattle.float.specs.Ending.{endingIn}
 use Rattle.float.specs.Level.{level}
-use Rattle.float.specs.PolyphaseResamp.{isOn, inLine, resampler, valid, validInLine, Counts, block, blockOutcome, blockSpan}
+use Rattle.float.specs.PolyphaseResamp.{isOn, inLine, resampler, valid, validInLine, block, blockOutcome, blockSpan}
 use Rattle.float.specs.declared.polyphase_resamp.PolyphaseResampF32.{PolyphaseResampF32}
 use Rattle.float.proofs.Tape.{ends-in}
 use Rattle.float.proofs.PolyphaseRange as Res
-use Rattle.refusal.specs.Outcome.{Outcome}
 use Rattle.chain.specs.Chain.{Parts2, from2, from3, from4, from5, fromLevels, chain}
 use Rattle.chain.specs.Parts.{levelsOn, firOn, cutOn}
-use Rattle.chain.specs.Batched.{mostSums, Whole, Leaves, Batched}
-use Rattle.chain.proofs.Batching.{whole-behind, batched-before, batched-each, whole-each, batched-off, fed-on, off-room}
+use Rattle.chain.specs.Batched.{Whole, Leaves, Batched}
+use Rattle.chain.proofs.Batching.{whole-behind, batched-before, batched-each, whole-each, fed-on}
 
 -- ---- a feed writes no more than there are places
 module _ {S A C : Type 0} (m : Machine S A C) where

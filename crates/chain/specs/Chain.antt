@@ -1,5 +1,4 @@
 -- 01, section 6: the sections one before the other, as one machine from each section on.
-use mathlib.Core.List.{List}
 use lib.IntN.{ℤ}
 use lib.Ieee.{Float}
 use mir.Syntax.{w16}

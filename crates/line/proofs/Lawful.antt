@@ -1,12 +1,12 @@
 -- Each section keeps its state valid, so the line does, and 64 outputs a value are enough: the resampler's law with the sections put before it one by one.
 use mathlib.Core.Path.{_≡_, refl, _∙_}
-use mathlib.Core.Bool.{Bool, true, false, _&&_, not}
+use mathlib.Core.Bool.{Bool, true, _&&_}
 use mathlib.Core.List.{List}
 use lib.IntN.{ℤ}
 use lib.Ieee.{Float}
 use mir.Syntax.{w16}
 use Rattle.theory.specs.Sections.{each}
-use Rattle.theory.specs.Machines.{Machine, before, viewed}
+use Rattle.theory.specs.Machines.{before}
 use Rattle.theory.specs.Tally.{tallied}
 use Rattle.theory.proofs.Tally.{lawful-tallied, all-tallied}
 use Rattle.line.specs.Outputs.{mostCuts}

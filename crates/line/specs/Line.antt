@@ -1,8 +1,7 @@
 -- 01, section 6: the sections one before the other, as one machine over the line's own record; what a state must be not to be refused; and what a step, a feed,
 -- an opening and a reset come to.
-use mathlib.Core.Path.{_≡_}
-use mathlib.Core.Bool.{Bool, true, false, cond, _&&_, not}
-use mathlib.Core.List.{List, [], _∷_, _++_}
+use mathlib.Core.Bool.{Bool, cond, _&&_, not}
+use mathlib.Core.List.{List, _++_}
 use mathlib.Core.Option.{Option, none, some}
 use Prim.Native.Nat.{ℕ, zero, suc, _+_, _*_}
 use lib.Dec.{ltb, eqb}
@@ -26,12 +25,11 @@ use Rattle.q15.specs.FirDecimator.{fir, firSumOut, settingsNumberInLine}
 use Rattle.q15.specs.FirDecimator as Q
 use Rattle.q15.specs.declared.fir_decimator.FirDecimator.{FirDecimator}
 use Rattle.half_band.specs.Limits.{mostStages}
-use Rattle.half_band.specs.HbfStream.{hbfStream, streamFresh, streamRefusedInLine}
-use Rattle.float.specs.PolyphaseResamp.{inLine, inLimits, stepInLine, validInLine}
+use Rattle.half_band.specs.HbfStream.{streamFresh, streamRefusedInLine}
+use Rattle.float.specs.PolyphaseResamp.{inLimits, stepInLine, validInLine}
 use Rattle.float.specs.PolyphaseResamp as R
 use Rattle.half_band.specs.declared.hbf_stream.HbfStream.{HbfStream}
 use Rattle.float.specs.declared.polyphase_resamp.PolyphaseResampF32.{PolyphaseResampF32}
-use Rattle.float.specs.Level.{level}
 use Rattle.chain.specs.Chain.{Parts, chain}
 use Rattle.line.specs.Outputs.{Opening, mostCuts}
 use Rattle.line.specs.declared.settings.Settings.{Settings}

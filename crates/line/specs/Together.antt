@@ -15,13 +15,10 @@ use Rattle.integer.specs.CicDecimator.{decimatorOf}
 use Rattle.integer.specs.declared.cic_decimator.CicDecimator.{CicDecimator}
 use Rattle.nonrecursive.specs.EitherKind as E
 use Rattle.nonrecursive.specs.declared.thinning.Thinning.{Thinning}
-use Rattle.q15.specs.FirDecimator.{firState, firValidInLine}
-use Rattle.q15.specs.declared.fir_decimator.FirDecimator.{FirDecimator}
+use Rattle.q15.specs.FirDecimator.{firValidInLine}
 use Rattle.float.specs.F32.{one32}
-use Rattle.half_band.specs.HbfStream.{streamOf, streamRefusedInLine}
+use Rattle.half_band.specs.HbfStream.{streamRefusedInLine}
 use Rattle.float.specs.PolyphaseResamp as R
-use Rattle.half_band.specs.declared.hbf_stream.HbfStream.{HbfStream}
-use Rattle.float.specs.declared.polyphase_resamp.PolyphaseResampF32.{PolyphaseResampF32}
 use Rattle.chain.specs.Parts.{firOf, halfBandOf, resamplerOf}
 use Rattle.line.specs.Line.{fedLine, valid}
 use Rattle.line.specs.declared.gauge_line.Line.{Line}

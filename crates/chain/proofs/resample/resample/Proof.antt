@@ -1,7 +1,7 @@
 -- `resample::resample` meets its contract: off, the levels go into just their places; on, the resampler's block is the feed.
 use mathlib.Core.Path.{_≡_, ap, _∙_, subst⁻¹}
 use mathlib.Core.List.{List}
-use Prim.Native.Nat.{ℕ, _+_, _-_, _≤_}
+use Prim.Native.Nat.{_+_, _-_, _≤_}
 use native.Mathlib.Omega.{arith}
 use borrow.Author.Needs.{needs}
 use lib.Ieee.{Float}

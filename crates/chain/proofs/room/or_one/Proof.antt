@@ -1,9 +1,8 @@
 -- `room::or_one` meets its contract: its test is the definition's.
-use mathlib.Core.Path.{_≡_, refl}
-use Prim.Native.Nat.{ℕ, min}
+use mathlib.Core.Path.{_≡_}
+use Prim.Native.Nat.{min}
 use native.Mathlib.Omega.{arith}
 use borrow.Author.Tests.{eq-eqb, ne-eqb}
-use Rattle.chain.specs.Counting.{orOne}
 use Rattle.chain.proofs.room.or_one.Statement.{statement}
 use Rattle.chain.proofs.room.or_one.Tie as tie
 

@@ -1,6 +1,5 @@
 -- `room::sums_for` meets its contract: nothing, or what leaves a place.
 use native.Mathlib.Omega.{arith}
-use borrow.Author.Needs.{needs}
 use Rattle.chain.proofs.room.sums_for.Statement.{statement}
 use Rattle.chain.proofs.room.sums_for.Tie as tie
 

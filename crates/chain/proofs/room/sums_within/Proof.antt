@@ -1,10 +1,8 @@
 -- `room::sums_within` meets its contract: what it works out leaves a place.
-use mathlib.Core.Path.{_≡_, refl, sym, ap, _∙_, subst, subst⁻¹}
-use Prim.Native.Nat.{ℕ, _+_, _-_, _*_, _≤_, _<_, min}
+use mathlib.Core.Path.{_≡_}
+use Prim.Native.Nat.{ℕ, _-_, _*_, _≤_, min}
 use native.Mathlib.Nat.{mul-le-mul}
 use native.Mathlib.Omega.{arith}
-use lib.ListN.{length, take, drop}
-use denote.Ref.{now}
 use borrow.Author.Needs.{needs}
 use Rattle.chain.proofs.Leaving.{sums-leave}
 use Rattle.chain.proofs.room.sums_within.Statement.{statement}

@@ -1,6 +1,6 @@
 -- `room::values_for` meets its contract: the invariant says that the stages from k on are counted.
-use mathlib.Core.Path.{_≡_, sym, subst}
-use Prim.Native.Nat.{ℕ, _≤_, min}
+use mathlib.Core.Path.{sym, subst}
+use Prim.Native.Nat.{ℕ, min}
 use native.Mathlib.Omega.{arith}
 use borrow.Author.Needs.{needs}
 use Rattle.chain.proofs.Leaving.{Counted, none-counted, next-counted, few-counted, all-counted}

@@ -1,8 +1,8 @@
 -- `feed_batches` meets its contract: the loop keeps `Midway` of the line put together from its locals; the outputs that are due have a law, and a batch another.
-use mathlib.Core.Path.{_≡_, refl, sym, ap, _∙_}
+use mathlib.Core.Path.{_≡_, ap, _∙_}
 use mathlib.Core.Bool.{true, false}
 use mathlib.Core.List.{List}
-use Prim.Native.Nat.{ℕ, _+_, _-_, _*_, _/_, _≤_, _<_}
+use Prim.Native.Nat.{ℕ, _+_, _-_, _/_, _≤_, _<_}
 use native.Mathlib.Nat.{div-mul-le-self}
 use native.Mathlib.Omega.{arith}
 use borrow.Author.Needs.{needs}
@@ -11,13 +11,13 @@ use denote.Ref.{now}
 use lib.IntN.{ℤ}
 use lib.Ieee.{Float}
 use lib.ListN.{length, take, drop, length-drop}
-use lib.Seq.{length-take-le, take-all}
+use lib.Seq.{take-all}
 use Rattle.theory.specs.Tally.{heldSum}
 use Rattle.theory.proofs.FeedLoop.{Midway, start}
 use Rattle.nonrecursive.specs.EitherKind.{validAt, fine}
 use Rattle.float.specs.PolyphaseResamp.{toldDue, inLine, isOn}
 use Rattle.chain.specs.Chain.{from2, from5}
-use Rattle.chain.specs.Parts.{cutOn, resamplerOf}
+use Rattle.chain.specs.Parts.{cutOn}
 use Rattle.chain.specs.Batched.{Leaves}
 use Rattle.line.specs.Outputs.{mostCuts}
 use Rattle.line.specs.Line.{line, thinnerOf, partsOf}

@@ -1,10 +1,8 @@
 -- `feed_by` meets its contract: a feed by batches, and then a feed of the rest, sample by sample.
-use mathlib.Core.Path.{_≡_}
-use Prim.Native.Nat.{_+_, _≤_}
 use native.Mathlib.Omega.{arith}
 use borrow.Author.Needs.{needs}
 use denote.Ref.{now}
-use Rattle.line.specs.Together.{together, RanTo}
+use Rattle.line.specs.Together.{together}
 use Rattle.line.specs.declared.gauge_line.Line.{Line}
 use Rattle.line.proofs.Batching.{begun-ran-on, ran-within, ran-long}
 use Rattle.line.proofs.feed.feed_by.Statement.{statement}

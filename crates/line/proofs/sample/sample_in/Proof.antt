@@ -1,7 +1,7 @@
 -- `sample_in` meets its contract: the decimator makes nothing, or a sum that, scaled and cut, the FIR takes.
 use mathlib.Core.Path.{_≡_, refl, sym, ap, _∙_}
 use mathlib.Core.List.{List}
-use mathlib.Core.Option.{Option, none, some}
+use mathlib.Core.Option.{Option}
 use Prim.Native.Nat.{ℕ, _^_}
 use native.Mathlib.Omega.{arith}
 use borrow.Author.Needs.{needs}
@@ -18,7 +18,6 @@ use Rattle.integer.specs.Gain.{gainBits}
 use Rattle.integer.specs.CicDecimator.{scaledBy, sumOf}
 use Rattle.nonrecursive.specs.EitherKind.{Thinner, thinnerOf, nextBy, outBy, kindOf, either}
 use Rattle.q15.specs.Fixed.{cut, isCut}
-use Rattle.q15.specs.FirDecimator.{cutIn, firSumOut}
 use Rattle.theory.specs.Tally.{heldSum}
 use Rattle.theory.proofs.Tally.{held-none}
 use Rattle.line.specs.Outputs.{mostCuts}
