@@ -13,7 +13,7 @@ use embedded_dsp::resampling::{
 
 const BLOCKS: &[usize] = &[BLOCK, SHORT_BLOCK, 1];
 /// What a call costs shows in short blocks.
-pub const LENGTHS: &[usize] = &[1, 2, 3, 4, 5, 8, 12, 15, 16, 24, 31, 32, 64];
+pub const LENGTHS: &[usize] = &[1, 2, 3, 4, 5, 8, 9, 12, 15, 16, 17, 24, 31, 32, 64];
 
 pub fn cases() -> Vec<Case> {
     vec![
@@ -33,7 +33,10 @@ pub fn lengths() -> Vec<Case> {
         kinds::<2>(),
         kinds::<3>(),
         kinds::<4>(),
+        kinds::<5>(),
+        kinds::<8>(),
         kinds::<10>(),
+        kinds::<16>(),
         kinds::<23>(),
     ]
     .into_iter()

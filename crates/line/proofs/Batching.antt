@@ -1,102 +1,34 @@
--- What a batch comes to: a section's block and then a batch of the machine behind it is a batch of the two, where all is taken; so, section by section, of the line, whose count
--- of cut values has grown by those of the block.
-use mathlib.Core.Path.{_≡_, refl, sym, ap, ap₂, _∙_, subst, subst⁻¹}
-use mathlib.Core.Bool.{Bool, true, false, not, cond, _&&_}
-use mathlib.Core.List.{List, [], _∷_, _++_, map}
-use mathlib.Core.Option.{none, some}
-use Prim.Native.Nat.{ℕ, suc, _+_, _-_, _^_, _≤_, _<_}
+-- What a batch of the sections comes to for the line, whose count of cut values has grown by those of the block.
+use mathlib.Core.Path.{_≡_, refl, sym, ap, ap₂, _∙_, subst⁻¹}
+use mathlib.Core.Bool.{true}
+use mathlib.Core.List.{List, _++_, map, append-assoc, append-nil}
+use Prim.Native.Nat.{ℕ, _+_, _-_, _≤_}
 use native.Mathlib.Omega.{arith}
-use lib.Dec.{eqb}
-use lib.IntN.{ℤ, pos}
-use lib.Ieee.{Float, lt}
-use lib.ListN.{length, getD, take, drop, length-map, take-append-drop, drop-of-length-le}
-use lib.Seq.{drop-cons, take-all}
+use lib.IntN.{ℤ}
+use lib.Ieee.{Float}
+use lib.ListN.{length, take, drop, length-append, length-drop, drop-of-length-le}
+use lib.Seq.{take-all, length-take-le, drop-drop}
 use mir.Syntax.{w16}
-use Rattle.theory.specs.Floor.{floorDiv}
-use Rattle.theory.specs.Lists.{butLast}
-use Rattle.theory.specs.Sections.{Section, state, outs, each}
-use Rattle.theory.specs.Machines.{Machine, alone, before}
+use Rattle.theory.specs.Sections.{outs}
 use Rattle.theory.specs.Tally.{heldSum, tallied}
 use Rattle.theory.specs.Feeds as F
-use Rattle.theory.proofs.Sections.{outs-each}
-use Rattle.theory.proofs.Machines.{Seen}
 use Rattle.theory.proofs.Tally.{weights, feed-told}
-use Rattle.theory.proofs.Batches.{feed-before, feed-one-more, whole-by-place}
-use Rattle.theory.proofs.FeedsSeen.{feed-seen, feed-viewed, feed-tallied, feed-hands}
-use Rattle.integer.specs.Gain.{gainBits}
-use Rattle.nonrecursive.specs.EitherKind.{Thinner, either}
+use Rattle.theory.proofs.Feeds.{feed-right}
+use Rattle.theory.proofs.FeedLoop.{Midway}
+use Rattle.theory.proofs.Batches.{after-batch}
+use Rattle.theory.proofs.FeedsSeen.{feed-viewed, feed-tallied}
+use Rattle.nonrecursive.specs.EitherKind.{either}
 use Rattle.q15.specs.Fixed.{cut, cutCount}
 use Rattle.q15.specs.FirDecimator.{summing}
-use Rattle.float.specs.F32.{one32}
-use Rattle.float.specs.PolyphaseResamp.{isOn, passed, consumed, inLine, resampler}
-use Rattle.float.specs.declared.polyphase_resamp.PolyphaseResampF32.{PolyphaseResampF32}
+use Rattle.chain.specs.Chain.{Parts, chain}
+use Rattle.chain.specs.Batched.{Whole, Batched}
 use Rattle.line.specs.Outputs.{mostCuts}
-use Rattle.line.specs.Line.{Parts, thinnerOf, partsOf, countedOf, ofCounted, cutsAt, from3, chain, line}
+use Rattle.line.specs.Line.{thinnerOf, partsOf, countedOf, ofCounted, cutsAt, line, valid, fedLine}
+use Rattle.line.specs.Together.{Begun, RanTo}
 use Rattle.line.specs.declared.gauge_line.Line.{Line}
+use Rattle.line.proofs.Lawful.{Good, line-lawful}
 use Rattle.line.proofs.Cuts.{front, weight, frontOf, tallies, weights-are}
 
--- the machine takes all of xs, with so many places
-abbrev pub Whole : {S A : Type 0} → Machine S A Float → S → List A → ℕ → Type 0
-Whole m s xs places = F.feed m s xs places .taken ≡ length xs
-
--- what a block xs left of a span of which `from` places were written: the state t, the places written and the span are those of the feed
-pub record Batched {S A : Type 0} (m : Machine S A Float) (s : S) (xs : List A) (from : ℕ) (before after : List Float) (t : S) (written : ℕ) : Type 0 where
-  pub state : t ≡ F.feed m s xs (length before - from) .line
-  pub wrote : written ≡ from + length (F.feed m s xs (length before - from) .written)
-  pub span :
-      after
-      ≡ take from before ++ (F.feed m s xs (length before - from) .written ++ drop (length (F.feed m s xs (length before - from) .written)) (drop from before))
-
--- ---- a section in front of a machine
-module _ {S R A B : Type 0} (f : Section S A B) (m : Machine R B Float) where
-  -- what the section makes is taken whole too
-  pub whole-behind : (s : S) (r : R) (xs : List A) (n : ℕ) → Whole (before f m) (s, r) xs n → Whole m r (outs f s xs) n
-  whole-behind s r xs n w = feed-before f m s r xs n w .0
-
-  pub batched-before :
-      (s : S) (r : R) (xs : List A) (from : ℕ) (o₀ o : List Float) (t : S) (q : R) (w : ℕ) → Whole (before f m) (s, r) xs (length o₀ - from) → t ≡ state f s xs
-      → Batched m r (outs f s xs) from o₀ o q w → Batched (before f m) (s, r) xs from o₀ o (t, q) w
-  batched-before s r xs from o₀ o t q w h e b =
-      let i = feed-before f m s r xs (length o₀ - from) h .1 in
-      record {
-        state = ap₂ {C = S × R} (λ (x : S) (y : R). (x, y)) e (b .state) ∙ sym (ap (λ (g : F.Fed (S × R) Float). g .line) i);
-        wrote = b .wrote ∙ sym (ap (λ (g : F.Fed (S × R) Float). from + length (g .written)) i);
-        span = b .span ∙ sym (ap (λ (g : F.Fed (S × R) Float). take from o₀ ++ (g .written ++ drop (length (g .written)) (drop from o₀))) i);
-      }
-
--- a section that maps each value
-pub batched-each :
-    {R A B : Type 0} (g : A → B) (m : Machine R B Float) (r : R) (xs : List A) (ys : List B) (from : ℕ) (o₀ o : List Float) (q : R) (w : ℕ) → ys ≡ map g xs
-    → Whole (before (each {S = Unit {0}} g) m) (tt, r) xs (length o₀ - from) → Batched m r ys from o₀ o q w → Batched (before (each {S = Unit {0}} g) m) (tt, r) xs from o₀ o (tt, q) w
-batched-each g m r xs ys from o₀ o q w e h b =
-    batched-before (each g) m tt r xs from o₀ o tt q w h refl (subst⁻¹ (λ l. Batched m r l from o₀ o q w) (outs-each g tt xs ∙ sym e) b)
-
-pub whole-each : {R A B : Type 0} (g : A → B) (m : Machine R B Float) (r : R) (xs : List A) (n : ℕ) → Whole (before (each {S = Unit {0}} g) m) (tt, r) xs n → Whole m r (map g xs) n
-whole-each g m r xs n h = subst (λ l. Whole m r l n) (outs-each g tt xs) (whole-behind (each g) m tt r xs n h)
-
--- ---- the resampler
--- off, it hands each level on
-pub batched-off :
-    (s : PolyphaseResampF32) (xs : List Float) (from : ℕ) (o₀ : List Float) → isOn s ≡ false → Whole inLine s xs (length o₀ - from)
-    → Batched inLine s xs from o₀ (take from o₀ ++ (xs ++ drop (length xs) (drop from o₀))) s (from + length xs)
-unfolding inLine
-batched-off s xs from o₀ o h =
-    let e = feed-hands inLine s (rw o) (λ x. rw o) (λ x. rw o) xs (length o₀ - from) h in
-    record {
-      state = sym (ap (λ (g : F.Fed PolyphaseResampF32 Float). g .line) e);
-      wrote = sym (ap (λ (g : F.Fed PolyphaseResampF32 Float). from + length (g .written)) e);
-      span = sym (ap (λ (g : F.Fed PolyphaseResampF32 Float). take from o₀ ++ (g .written ++ drop (length (g .written)) (drop from o₀))) e);
-    }
-
--- on, it is the one beside the line
-pub fed-on : (s : PolyphaseResampF32) (xs : List Float) (n : ℕ) → isOn s ≡ true → F.feed inLine s xs n ≡ F.feed resampler s xs n
-unfolding inLine resampler isOn passed consumed
-fed-on s xs n o =
-    feed-seen inLine resampler (λ x. x) (λ x. isOn x ≡ true)
-    (record { due-same = λ x g. rw g; val-same = λ x g d. refl; after-same = λ x g d. refl; next-same = λ x y g d. rw g; now-same = λ x y g d. rw g })
-    (λ x g d. g) (λ x y g d. rw g g) s xs n o
-
--- ---- the line
 module _ (l : Line) (zs : List ℤ) (from : ℕ) (o₀ o : List Float) (k : Line) (w : ℕ) where
   abbrev sums : List ℤ
   sums = outs either (thinnerOf l) zs
@@ -145,3 +77,94 @@ module _ (l : Line) (zs : List ℤ) (from : ℕ) (o₀ o : List Float) (k : Line
               b .span
               ∙ sym (ap (λ (v : List Float). take from o₀ ++ (v ++ drop (length v) (drop from o₀))) (ap (λ (g : F.Fed Line Float). g .written) seen ∙ written-by));
         }
+
+-- ---- between two batches
+module _ (l₀ : Line) (xs : List ℤ) (out₀ out : List Float) (l : Line) (t w : ℕ) (mid : Midway line 64 Good line-lawful l₀ xs out₀ out l t w) where
+  -- the samples ys are those left: so many of them are taken whole
+  pub after-line-batch :
+      (ys : List ℤ) → ys ≡ drop t xs → (k : Line) (taken v : ℕ) (after : List Float) → taken ≤ length ys
+      → Whole chain (partsOf l) (take taken ys) (length out - w) → Batched chain (partsOf l) (take taken ys) w out after (partsOf k) v
+      → k .cuts ≡ heldSum mostCuts (l .cuts) (cutCount w16 (outs either (thinnerOf l) (take taken ys)) + cutCount w16 (outs summing (l .fir) (map (cut w16) (outs either (thinnerOf l) (take taken ys)))))
+      → Midway line 64 Good line-lawful l₀ xs out₀ after k (t + taken) v
+  after-line-batch ys e k taken v after few whole batched cuts =
+      let zs : List ℤ = take taken ys in
+      let g : F.Fed Line Float = F.feed line l zs (length out - w) in
+      let b : Batched line l zs w out after k v = line-batched l zs w out after k v whole batched cuts in
+      let long : length zs ≡ taken = length-take-le taken ys few in
+      let places : F.feed line l (take taken (drop t xs)) (length out₀ - w) ≡ g =
+      ap₂ {C = F.Fed Line Float} (λ (v : List ℤ) (n : ℕ). F.feed line l v n) (ap (take taken) (sym e)) (ap (λ (n : ℕ). n - w) (sym (mid .same)))
+      in
+      let within : t + taken ≤ length xs = let q = ap length e ∙ length-drop t xs in let s = mid .some-taken in omega (arith, q, few, s) in
+      let next = after-batch line 64 Good line-lawful l₀ xs out₀ out l t w taken mid within g places (line-whole l zs w out after k v whole ∙ long) in
+      subst⁻¹ (λ (o : List Float). Midway line 64 Good line-lawful l₀ xs out₀ o k (t + taken) v) (b .span)
+      (subst⁻¹ (λ (m : Line). Midway line 64 Good line-lawful l₀ xs out₀ (spanned g) m (t + taken) v) (b .state)
+      (subst⁻¹ (λ (n : ℕ). Midway line 64 Good line-lawful l₀ xs out₀ (spanned g) (g .line) (t + taken) n) (b .wrote) next))
+    where
+      spanned : F.Fed Line Float → List Float
+      spanned g = take w out ++ (g .written ++ drop (length (g .written)) (drop w out))
+
+  -- what the loop keeps is what it answers
+  pub to-begun : Begun l₀ xs out₀ out t w l
+  unfolding fedLine
+  to-begun =
+      record {
+        some-taken = mid .some-taken;
+        some-written = mid .some-written;
+        same = mid .same;
+        fine = mid .good;
+        rest = mid .rest;
+        took = ap (λ (f : F.Fed Line Float). f .taken) (mid .ahead);
+        wrote = ap (λ (f : F.Fed Line Float). f .written) (mid .ahead);
+        line = ap (λ (f : F.Fed Line Float). f .line) (mid .ahead);
+      }
+
+-- a feed by batches, and then a feed of the rest
+pub begun-ran :
+    (l : Line) (xs : List ℤ) (before mid : List Float) (t w : ℕ) (m : Line) (ys : List ℤ) (rest part : List Float) (t′ w′ : ℕ) (k : Line)
+    → Begun l xs before mid t w m → ys ≡ drop t xs → rest ≡ drop w mid → RanTo m ys rest part t′ w′ k
+    → RanTo l xs before (take w mid ++ part) (t + t′) (w + w′) k
+begun-ran l xs before mid t w m ys rest part t′ w′ k b ey er r =
+    let places : length rest ≡ length before - w = ap length er ∙ length-drop w mid ∙ ap (λ (n : ℕ). n - w) (b .same) in
+    let same : fedLine m ys (length rest) ≡ fedLine m (drop t xs) (length before - w) = ap₂ {C = F.Fed Line Float} (λ (v : List ℤ) (n : ℕ). fedLine m v n) ey places in
+    let f : F.Fed Line Float = fedLine m (drop t xs) (length before - w) in
+    let front : length (take w mid) ≡ w = length-take-le w mid (let s = b .same in let q = b .some-written in omega (arith, s, q)) in
+    let wrote : w′ ≡ length (f .written) = r .wrote ∙ ap (λ (g : F.Fed Line Float). length (g .written)) same in
+    let total : length (fedLine l xs (length before) .written) ≡ w + length (f .written) =
+    ap length (b .wrote) ∙ length-append (take w mid) (f .written) ∙ ap (λ (n : ℕ). n + length (f .written)) front
+    in
+    record {
+      took = ap (λ (n : ℕ). t + n) (r .took ∙ ap (λ (g : F.Fed Line Float). g .taken) same) ∙ sym (b .took);
+      wrote = ap (λ (n : ℕ). w + n) wrote ∙ sym total;
+      line = r .line ∙ ap (λ (g : F.Fed Line Float). g .line) same ∙ sym (b .line);
+      span =
+          ap (λ (v : List Float). take w mid ++ v) (r .span ∙ ap (λ (g : F.Fed Line Float). g .written ++ drop (length (g .written)) rest) same)
+          ∙ sym (append-assoc (take w mid) (f .written) (drop (length (f .written)) rest))
+          ∙ ap₂ {C = List Float} (λ (a c : List Float). a ++ c) (sym (b .wrote))
+          (ap (drop (length (f .written))) (er ∙ b .rest) ∙ drop-drop (length (f .written)) w before ∙ ap (λ (n : ℕ). drop n before) (sym total));
+    }
+
+-- the same of the parts of the samples and of the span that the code lends for the rest
+pub begun-ran-on :
+    (l : Line) (xs : List ℤ) (before mid : List Float) (t w : ℕ) (m : Line) (part : List Float) (t′ w′ : ℕ) (k : Line)
+    → Begun l xs before mid t w m → RanTo m (take (length xs - t) (drop t xs)) (take (length mid - w) (drop w mid)) part t′ w′ k
+    → RanTo l xs before (take w mid ++ (part ++ drop (length mid - w) (drop w mid))) (t + t′) (w + w′) k
+begun-ran-on l xs before mid t w m part t′ w′ k b r =
+    let all : length (drop w mid) ≤ length mid - w = let e = length-drop w mid in omega (arith, e) in
+    let none-behind : part ++ drop (length mid - w) (drop w mid) ≡ part = ap (λ (v : List Float). part ++ v) (drop-of-length-le (drop w mid) all) ∙ append-nil part in
+    subst⁻¹ (λ (v : List Float). RanTo l xs before (take w mid ++ v) (t + t′) (w + w′) k) none-behind
+    (begun-ran l xs before mid t w m (take (length xs - t) (drop t xs)) (take (length mid - w) (drop w mid)) part t′ w′ k b
+    (take-all (length xs - t) (drop t xs) (let e = length-drop t xs in omega (arith, e))) (take-all (length mid - w) (drop w mid) all) r)
+
+-- a feed of a valid line stays within the samples and the span
+module _ (l : Line) (xs : List ℤ) (before after : List Float) (taken written : ℕ) (k : Line) (good : valid l ≡ true) (r : RanTo l xs before after taken written k) where
+  pub ran-within : (taken ≤ length xs) × (written ≤ length before)
+  unfolding fedLine
+  ran-within =
+      let f = feed-right line 64 Good line-lawful l xs (length before) good in
+      (subst⁻¹ (λ (n : ℕ). n ≤ length xs) (r .took) (f .within), subst⁻¹ (λ (n : ℕ). n ≤ length before) (r .wrote) (f .room))
+
+  pub ran-long : length after ≡ length before
+  ran-long =
+      let w = fedLine l xs (length before) .written in
+      ap length (r .span) ∙ length-append w (drop (length w) before)
+      ∙ (let d = length-drop (length w) before in let f = ran-within .1 in let e = r .wrote in omega (arith, d, f, e))

@@ -1,6 +1,6 @@
 -- 02, §4: after any history the line's count is the number of cuts that the definitions make for the samples taken, held: what a sample adds follows from the decimator and the
 -- FIR alone, and over a whole list that is what sections 2 and 3 cut of it.
-use mathlib.Core.Path.{_≡_, refl, sym, ap, ap₂, _∙_}
+use mathlib.Core.Path.{_≡_, refl, sym, ap, _∙_}
 use mathlib.Core.Bool.{Bool, true, false, cond}
 use mathlib.Core.List.{List, [], _∷_, map}
 use mathlib.Core.Option.{Option, none, some}
@@ -8,15 +8,13 @@ use Prim.Native.Nat.{ℕ, _+_, min}
 use native.Mathlib.Omega.{arith}
 use lib.Dec.{eqb}
 use lib.IntN.{ℤ}
-use lib.Ieee.{Float}
 use lib.ListN.{length}
 use mir.Syntax.{w16}
 use Rattle.theory.specs.Sections.{Section, onto, outs, each, andThen, nextBy}
 use Rattle.theory.specs.Machines.{before, nextFor}
 use Rattle.theory.specs.Feeds as F
 use Rattle.theory.specs.Tally.{heldSum}
-use Rattle.theory.proofs.Sections.{outs-each}
-use Rattle.theory.proofs.Tally.{weights, Tallies, Told, history-told}
+use Rattle.theory.proofs.Tally.{weights, Tallies, history-told}
 use Rattle.integer.specs.MovingSums.{scaledSums}
 use Rattle.nonrecursive.specs.EitherKind.{Thinner, either}
 use Rattle.nonrecursive.specs.EitherKind as E
@@ -28,7 +26,8 @@ use Rattle.q15.specs.FirDecimator as Q
 use Rattle.q15.specs.declared.fir_decimator.FirDecimator.{FirDecimator}
 use Rattle.q15.proofs.FirStream.{line-summed}
 use Rattle.line.specs.Outputs.{Opening, mostCuts, cutsOf, heldCuts}
-use Rattle.line.specs.Line.{Parts, thinnerOf, partsOf, from3, chain, sumCut, cutsFor, cutsAt, line, fresh}
+use Rattle.chain.specs.Chain.{from3}
+use Rattle.line.specs.Line.{thinnerOf, partsOf, sumCut, cutsFor, line, fresh}
 use Rattle.line.specs.declared.gauge_line.Line.{Line}
 use Rattle.line.proofs.Openings.{Accepted}
 

@@ -21,7 +21,7 @@ use Rattle.nonrecursive.specs.declared.thinning.Thinning.{Thinning}
 use Rattle.line.specs.Line.{line}
 use Rattle.line.specs.Together.{together, dueAt}
 use Rattle.line.specs.declared.gauge_line.Line.{Line}
-use Rattle.line.specs.declared.sample.Fixed.{Fixed}
+use Rattle.chain.specs.declared.fixed.Fixed.{Fixed}
 use Rattle.line.specs.declared.sample.Numbers.{Numbers}
 use Rattle.line.proofs.Lawful.{Good, line-lawful}
 use Rattle.line.proofs.Flags.{and-false}

@@ -1,12 +1,12 @@
 -- Each section keeps its state valid, so the line does, and 64 outputs a value are enough: the resampler's law with the sections put before it one by one.
 use mathlib.Core.Path.{_≡_, refl, _∙_}
-use mathlib.Core.Bool.{Bool, true, false, _&&_, not}
+use mathlib.Core.Bool.{Bool, true, _&&_}
 use mathlib.Core.List.{List}
 use lib.IntN.{ℤ}
 use lib.Ieee.{Float}
 use mir.Syntax.{w16}
 use Rattle.theory.specs.Sections.{each}
-use Rattle.theory.specs.Machines.{Machine, before, viewed}
+use Rattle.theory.specs.Machines.{before}
 use Rattle.theory.specs.Tally.{tallied}
 use Rattle.theory.proofs.Tally.{lawful-tallied, all-tallied}
 use Rattle.line.specs.Outputs.{mostCuts}
@@ -26,7 +26,8 @@ use Rattle.float.specs.declared.polyphase_resamp.PolyphaseResampF32.{PolyphaseR
 use Rattle.half_band.proofs.HeldOnes.{line-next-not-refused}
 use Rattle.float.proofs.PolyphaseRange as Res
 use Rattle.float.specs.Level.{level}
-use Rattle.line.specs.Line.{Parts, thinnerOf, partsOf, countedOf, ofCounted, cutsAt, from3, from4, from5, chain, line, halfBandFine, valid}
+use Rattle.chain.specs.Chain.{Parts, from3, from4, from5, chain}
+use Rattle.line.specs.Line.{thinnerOf, partsOf, countedOf, ofCounted, cutsAt, line, halfBandFine, valid}
 use Rattle.line.specs.declared.gauge_line.Line.{Line}
 use Rattle.line.proofs.Flags.{and-left, and-right, and-both, not-says, not-is}
 
@@ -50,7 +51,7 @@ Good3 p = (Q.validInLine (p .0) ≡ true) × GoodLevel (p .1)
 abbrev Good2 : Unit {0} × (FirDecimator × (Unit {0} × (HbfStream × PolyphaseResampF32))) → Type 0
 Good2 p = Unit {0} × Good3 (p .1)
 
-abbrev Good1 : Parts → Type 0
+abbrev pub Good1 : Parts → Type 0
 Good1 p = (fine (p .0) ≡ true) × Good2 (p .1)
 
 law4 : Lawful from4 64 Good4

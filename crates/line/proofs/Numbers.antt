@@ -23,10 +23,11 @@ use Rattle.half_band.proofs.HeldOnes.{line-few}
 use Rattle.float.proofs.PolyphaseOutput.{limits-say}
 use Rattle.float.proofs.PolyphaseRange.{on-in-limits, on-step}
 use Rattle.line.specs.Line.{valid, thinnerOf, halfBandFine, depthNumber, resamplerNumber, numberAt, opened, openingOf, reset}
-use Rattle.line.specs.Together.{together, resamplerOf, dueAt, bitsAt, validAt}
+use Rattle.chain.specs.Parts.{resamplerOf}
+use Rattle.line.specs.Together.{together, dueAt, bitsAt, validAt}
 use Rattle.line.specs.Lent.{numbersIn, fixedIn, changingIn}
 use Rattle.line.specs.declared.gauge_line.Line.{Line}
-use Rattle.line.specs.declared.sample.Fixed.{Fixed}
+use Rattle.chain.specs.declared.fixed.Fixed.{Fixed}
 use Rattle.line.specs.declared.sample.Numbers.{Numbers}
 use Rattle.line.proofs.Flags.{and-left, and-right, not-says}
 use Rattle.line.proofs.Lawful.{to-parts}

@@ -9,7 +9,8 @@ use Rattle.theory.specs.Sections.{Section}
 use Rattle.theory.specs.Machines.{Machine, nextFor, nowFor, before}
 use Rattle.theory.specs.Tally.{heldSum}
 use Rattle.line.specs.Outputs.{mostCuts}
-use Rattle.line.specs.Line.{Parts, partsOf, ofCounted, chain, sumCut, cutsFor, cutsAt, line}
+use Rattle.chain.specs.Chain.{Parts, chain}
+use Rattle.line.specs.Line.{partsOf, ofCounted, sumCut, cutsFor, cutsAt, line}
 use Rattle.q15.specs.Fixed.{cut, isCut}
 use Rattle.q15.specs.FirDecimator.{firSumOut, cutIn}
 use Rattle.q15.specs.declared.fir_decimator.FirDecimator.{FirDecimator}

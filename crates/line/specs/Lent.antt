@@ -15,7 +15,7 @@ use Rattle.line.specs.declared.gauge_line.Line.{Line}
 use Rattle.line.specs.declared.lent.LineNumbers.{LineNumbers}
 use Rattle.line.specs.declared.lent.LentStepped.{LentStepped}
 use Rattle.line.specs.declared.lent.LentFed.{LentFed}
-use Rattle.line.specs.declared.sample.Fixed.{Fixed}
+use Rattle.chain.specs.declared.fixed.Fixed.{Fixed}
 use Rattle.line.specs.declared.sample.Numbers.{Numbers}
 
 -- the line of these numbers and arrays

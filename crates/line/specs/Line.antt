@@ -1,8 +1,7 @@
 -- 01, section 6: the sections one before the other, as one machine over the line's own record; what a state must be not to be refused; and what a step, a feed,
 -- an opening and a reset come to.
-use mathlib.Core.Path.{_≡_}
-use mathlib.Core.Bool.{Bool, true, false, cond, _&&_, not}
-use mathlib.Core.List.{List, [], _∷_, _++_}
+use mathlib.Core.Bool.{Bool, cond, _&&_, not}
+use mathlib.Core.List.{List, _++_}
 use mathlib.Core.Option.{Option, none, some}
 use Prim.Native.Nat.{ℕ, zero, suc, _+_, _*_}
 use lib.Dec.{ltb, eqb}
@@ -10,8 +9,7 @@ use lib.ListN.{length, take, drop, replicate}
 use lib.IntN.{ℤ, pos}
 use lib.Ieee.{Float}
 use mir.Syntax.{w16}
-use Rattle.theory.specs.Sections.{Section, each}
-use Rattle.theory.specs.Machines.{Machine, before, viewed}
+use Rattle.theory.specs.Machines.{Machine, viewed}
 use Rattle.theory.specs.Tally.{tallied}
 use Rattle.theory.specs.Feeds as F
 use Rattle.refusal.specs.Table.{numberOf}
@@ -27,12 +25,12 @@ use Rattle.q15.specs.FirDecimator.{fir, firSumOut, settingsNumberInLine}
 use Rattle.q15.specs.FirDecimator as Q
 use Rattle.q15.specs.declared.fir_decimator.FirDecimator.{FirDecimator}
 use Rattle.half_band.specs.Limits.{mostStages}
-use Rattle.half_band.specs.HbfStream.{hbfStream, streamFresh, streamRefusedInLine}
-use Rattle.float.specs.PolyphaseResamp.{inLine, inLimits, stepInLine, validInLine}
+use Rattle.half_band.specs.HbfStream.{streamFresh, streamRefusedInLine}
+use Rattle.float.specs.PolyphaseResamp.{inLimits, stepInLine, validInLine}
 use Rattle.float.specs.PolyphaseResamp as R
 use Rattle.half_band.specs.declared.hbf_stream.HbfStream.{HbfStream}
 use Rattle.float.specs.declared.polyphase_resamp.PolyphaseResampF32.{PolyphaseResampF32}
-use Rattle.float.specs.Level.{level}
+use Rattle.chain.specs.Chain.{Parts, chain}
 use Rattle.line.specs.Outputs.{Opening, mostCuts}
 use Rattle.line.specs.declared.settings.Settings.{Settings}
 use Rattle.line.specs.declared.gauge_line.Line.{Line}
@@ -41,10 +39,6 @@ use Rattle.line.specs.declared.lent.LineStep.the-variants as step
 use Rattle.line.specs.declared.gauge_line.LineStepped.{LineStepped}
 use Rattle.line.specs.declared.gauge_line.LineFed.{LineFed}
 use Rattle.line.specs.declared.gauge_line.LineOpened.{LineOpened}
-
--- the sections' states, in their order; those that only map a value have none
-abbrev pub Parts : Type 0
-Parts = Thinner × (Unit {0} × (FirDecimator × (Unit {0} × (HbfStream × PolyphaseResampF32))))
 
 -- section 1's: which kind thins, and what both kinds hold
 abbrev pub thinnerOf : Line → Thinner
@@ -68,19 +62,6 @@ ofCounted p =
       resampler = p .0 .1 .1 .1 .1 .1;
       cuts = p .1;
     }
-
--- "the next sample is taken through sections 1 to 5 (with the resampler off, a value that results is written)": the machine, from section k on
-abbrev pub from5 : Machine PolyphaseResampF32 Float Float
-from5 = inLine
-
-abbrev pub from4 : Machine (HbfStream × PolyphaseResampF32) Float Float
-from4 = before hbfStream from5
-
-abbrev pub from3 : Machine (FirDecimator × (Unit {0} × (HbfStream × PolyphaseResampF32))) ℤ Float
-from3 = before fir (before (each level) from4)
-
-abbrev pub chain : Machine Parts ℤ Float
-chain = before either (before (each (cut w16)) from3)
 
 -- 02, §4: how many values are cut where a scaled sum reaches sections 2 and 3: the sum itself, and the FIR's, if it makes one
 abbrev pub sumCut : Option ℤ → ℕ

@@ -1,11 +1,11 @@
 -- The line of which a loop holds the settings, the numbers and the arrays apart, and what a value does in a machine: for the contracts of the private functions.
 use mathlib.Core.Path.{_≡_}
-use mathlib.Core.Bool.{Bool, cond, _&&_, not}
+use mathlib.Core.Bool.{Bool, true, cond, _&&_, not}
 use mathlib.Core.List.{List, _++_}
 use mathlib.Core.Option.{Option}
-use Prim.Native.Nat.{ℕ, _+_, _-_, min}
+use Prim.Native.Nat.{ℕ, _+_, _-_, _≤_, min}
 use lib.Dec.{eqb, leb}
-use lib.ListN.{length, drop}
+use lib.ListN.{length, take, drop}
 use lib.IntN.{ℤ}
 use lib.Ieee.{Float, lt}
 use Rattle.theory.specs.Machines.{Machine}
@@ -15,16 +15,14 @@ use Rattle.integer.specs.CicDecimator.{decimatorOf}
 use Rattle.integer.specs.declared.cic_decimator.CicDecimator.{CicDecimator}
 use Rattle.nonrecursive.specs.EitherKind as E
 use Rattle.nonrecursive.specs.declared.thinning.Thinning.{Thinning}
-use Rattle.q15.specs.FirDecimator.{firState, firValidInLine}
-use Rattle.q15.specs.declared.fir_decimator.FirDecimator.{FirDecimator}
+use Rattle.q15.specs.FirDecimator.{firValidInLine}
 use Rattle.float.specs.F32.{one32}
-use Rattle.half_band.specs.HbfStream.{streamOf, streamRefusedInLine}
+use Rattle.half_band.specs.HbfStream.{streamRefusedInLine}
 use Rattle.float.specs.PolyphaseResamp as R
-use Rattle.half_band.specs.declared.hbf_stream.HbfStream.{HbfStream}
-use Rattle.float.specs.declared.polyphase_resamp.PolyphaseResampF32.{PolyphaseResampF32}
-use Rattle.line.specs.Line.{fedLine}
+use Rattle.chain.specs.Parts.{firOf, halfBandOf, resamplerOf}
+use Rattle.line.specs.Line.{fedLine, valid}
 use Rattle.line.specs.declared.gauge_line.Line.{Line}
-use Rattle.line.specs.declared.sample.Fixed.{Fixed}
+use Rattle.chain.specs.declared.fixed.Fixed.{Fixed}
 use Rattle.line.specs.declared.sample.Numbers.{Numbers}
 use Rattle.line.specs.declared.step.Did.{Did}
 use Rattle.line.specs.declared.step.Did.the-variants as did
@@ -38,15 +36,6 @@ Takes m p a out q = (out ≡ m .now p a) × (q ≡ m .next p a)
 -- the parts
 abbrev pub cicOf : Fixed → ℕ → List ℤ → List ℤ → CicDecimator
 cicOf f counter integrators combs = decimatorOf (f .stages) (f .r) integrators combs counter
-
-abbrev pub firOf : Fixed → ℕ → List ℤ → List ℤ → FirDecimator
-firOf f wait taps delay = firState taps (f .«tap_count») (f .factor) delay wait
-
-abbrev pub halfBandOf : Fixed → List Float → List Float → List ℕ → HbfStream
-halfBandOf f delays held counts = streamOf (f .depth) delays held counts
-
-abbrev pub resamplerOf : Fixed → Float → List Float → List Float → PolyphaseResampF32
-resamplerOf f mu delay prototype = R.together (f .straight) (f .phases) (f .taps) mu (f .step) delay prototype
 
 -- the whole
 abbrev pub together : Thinning → Fixed → Numbers → List ℤ → List ℤ → List ℤ → List ℤ → List ℤ → List Float → List Float → List ℕ → List Float → List Float → Line
@@ -106,3 +95,14 @@ pub record RanTo (l : Line) (xs : List ℤ) (before after : List Float) (taken w
   pub wrote : written ≡ length (fedLine l xs (length before) .written)
   pub line : k ≡ fedLine l xs (length before) .line
   pub span : after ≡ fedLine l xs (length before) .written ++ drop (length (fedLine l xs (length before) .written)) before
+
+-- how far a feed of the line l came, which is now the line k: what is done, and then what the feed does from there, is the whole feed
+pub record Begun (l : Line) (xs : List ℤ) (before after : List Float) (taken written : ℕ) (k : Line) : Type 0 where
+  pub some-taken : taken ≤ length xs
+  pub some-written : written ≤ length before
+  pub same : length after ≡ length before
+  pub fine : valid k ≡ true
+  pub rest : drop written after ≡ drop written before
+  pub took : fedLine l xs (length before) .taken ≡ taken + fedLine k (drop taken xs) (length before - written) .taken
+  pub wrote : fedLine l xs (length before) .written ≡ take written after ++ fedLine k (drop taken xs) (length before - written) .written
+  pub line : fedLine l xs (length before) .line ≡ fedLine k (drop taken xs) (length before - written) .line

@@ -1,4 +1,5 @@
 // 01, section 6: the gauge line, which joins the converters of the layers below.
+mod batches;
 mod feed;
 pub mod gauge_line;
 pub mod lent;

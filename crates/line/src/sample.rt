@@ -10,8 +10,11 @@ ghost use Rattle.nonrecursive.specs.EitherKind as E;
 ghost use Rattle.q15.specs.FirDecimator.{firSumOut, cutIn};
 ghost use Rattle.half_band.specs.HbfStream.{streamOf, hbfStream, valueOf};
 ghost use Rattle.line.specs.Outputs.{mostCuts};
+ghost use Rattle.chain.specs.Chain as C;
 ghost use Rattle.line.specs.Line as L;
+ghost use Rattle.chain.specs.Parts as P;
 ghost use Rattle.line.specs.Together as T;
+use chain::fixed::Fixed;
 use float::polyphase_resamp::MOST_TAPS as MOST_PHASE_TAPS;
 use float::polyphase_resamp::shift_in;
 use float::q15_to_f32;
@@ -33,21 +36,7 @@ use q15::fir_at;
 // Where the count of cut values holds.
 pub const MOST_CUTS: u32 = 4294967295;
 
-// What a feed never changes: the settings, and the gain bits that follow from them.
-pub struct Fixed {
-    pub stages: usize,
-    pub r: usize,
-    pub bits: u32,
-    pub tap_count: usize,
-    pub factor: usize,
-    pub depth: usize,
-    pub phases: usize,
-    pub taps: usize,
-    pub straight: bool,
-    pub step: f32,
-}
-
-// The numbers that it does change.
+// The numbers that a feed changes.
 pub struct Numbers {
     pub sample_counter: usize,
     pub wait: usize,
@@ -78,7 +67,7 @@ pub struct Sampled {
 // A level into the resampler, or past it where it is off.
 fn resampler_in(f: Fixed, mu: f32, delay: &mut [f32; MOST_PHASE_TAPS], level: f32) -> Resampled
     ensures { λ r. ⌜ ((h : List Float) →
-        T.Takes L.from5 (T.resamplerOf f mu (now (delay .entry)) h) level (valueOf (r .out)) (T.resamplerOf f (r .mu) (now (delay .exit)) h)) ⌝ }
+        T.Takes C.from5 (P.resamplerOf f mu (now (delay .entry)) h) level (valueOf (r .out)) (P.resamplerOf f (r .mu) (now (delay .exit)) h)) ⌝ }
 {
     if f.phases == 0 {
         return Resampled {
@@ -122,11 +111,11 @@ fn half_band_in(
     level: f32,
 ) -> Resampled
     ensures { λ r. ⌜ ((h : List Float) →
-        let half-band = T.halfBandOf f (now (delays .entry)) (now (held .entry)) (now (counts .entry)) in
-        let resampler = T.resamplerOf f mu (now (delay .entry)) h in
-        let next-half-band = T.halfBandOf f (now (delays .exit)) (now (held .exit)) (now (counts .exit)) in
-        let next-resampler = T.resamplerOf f (r .mu) (now (delay .exit)) h in
-        T.Takes L.from4 (half-band, resampler) level (valueOf (r .out)) (next-half-band, next-resampler)) ⌝ }
+        let half-band = P.halfBandOf f (now (delays .entry)) (now (held .entry)) (now (counts .entry)) in
+        let resampler = P.resamplerOf f mu (now (delay .entry)) h in
+        let next-half-band = P.halfBandOf f (now (delays .exit)) (now (held .exit)) (now (counts .exit)) in
+        let next-resampler = P.resamplerOf f (r .mu) (now (delay .exit)) h in
+        T.Takes C.from4 (half-band, resampler) level (valueOf (r .out)) (next-half-band, next-resampler)) ⌝ }
 {
     let made = stages_in(f.depth, delays, held, counts, level);
     match made {
@@ -152,15 +141,15 @@ fn fir_in(
     value: Q15,
 ) -> Filtered
     ensures takes { λ r. ⌜ ((h : List Float) →
-        let fir = T.firOf f wait (now (taps .entry)) (now («fir_delay» .entry)) in
-        let half-band = T.halfBandOf f (now (delays .entry)) (now (held .entry)) (now (counts .entry)) in
-        let resampler = T.resamplerOf f mu (now (delay .entry)) h in
-        let next-fir = T.firOf f (r .wait) (now (taps .entry)) (now («fir_delay» .exit)) in
-        let next-half-band = T.halfBandOf f (now (delays .exit)) (now (held .exit)) (now (counts .exit)) in
-        let next-resampler = T.resamplerOf f (r .mu) (now (delay .exit)) h in
-        T.Takes L.from3 (fir, (tt, (half-band, resampler))) (value .0) (valueOf (r .out))
+        let fir = P.firOf f wait (now (taps .entry)) (now («fir_delay» .entry)) in
+        let half-band = P.halfBandOf f (now (delays .entry)) (now (held .entry)) (now (counts .entry)) in
+        let resampler = P.resamplerOf f mu (now (delay .entry)) h in
+        let next-fir = P.firOf f (r .wait) (now (taps .entry)) (now («fir_delay» .exit)) in
+        let next-half-band = P.halfBandOf f (now (delays .exit)) (now (held .exit)) (now (counts .exit)) in
+        let next-resampler = P.resamplerOf f (r .mu) (now (delay .exit)) h in
+        T.Takes C.from3 (fir, (tt, (half-band, resampler))) (value .0) (valueOf (r .out))
         (next-fir, (tt, (next-half-band, next-resampler)))) ⌝ }
-    ensures cut { λ r. ⌜ r .cut ≡ cutIn (firSumOut (T.firOf f wait (now (taps .entry)) (now («fir_delay» .entry))) (value .0)) ⌝ }
+    ensures cut { λ r. ⌜ r .cut ≡ cutIn (firSumOut (P.firOf f wait (now (taps .entry)) (now («fir_delay» .entry))) (value .0)) ⌝ }
 {
     let at = fir_at(fir_delay, taps, f.tap_count, f.factor, wait, value);
     let made = at.made;
@@ -191,16 +180,21 @@ fn one(cut: bool) -> u32
     if cut { 1 } else { 0 }
 }
 
-// The count of cut values, with one more for a scaled sum and for a sum of the FIR that was cut; it holds at its end. The compiler makes one held
-// addition of it.
-fn counted(cuts: u32, scaled: bool, filtered: bool) -> u32
-    ensures { λ n. ⌜ n ≡ heldSum mostCuts cuts (cond scaled 1 0 + cond filtered 1 0) ⌝ }
+// The count of cut values, with so many more; it holds at its end. The compiler makes one held addition of it.
+pub(crate) fn held_sum(cuts: u32, more: u32) -> u32
+    ensures { λ n. ⌜ n ≡ heldSum mostCuts cuts more ⌝ }
 {
-    let more = one(scaled) + one(filtered);
     if MOST_CUTS - cuts < more {
         return MOST_CUTS;
     }
     cuts + more
+}
+
+// The same with one more for a scaled sum and for a sum of the FIR that was cut.
+fn counted(cuts: u32, scaled: bool, filtered: bool) -> u32
+    ensures { λ n. ⌜ n ≡ heldSum mostCuts cuts (cond scaled 1 0 + cond filtered 1 0) ⌝ }
+{
+    held_sum(cuts, one(scaled) + one(filtered))
 }
 
 // A sample into the decimator of this kind, and what it makes, scaled and cut, into the FIR.

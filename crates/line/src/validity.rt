@@ -2,8 +2,8 @@
 ghost use mathlib.Core.Path.{_≡_};
 ghost use Rattle.line.specs.Together as T;
 use crate::opening::MAX_BITS;
-use crate::sample::Fixed;
 use crate::sample::Numbers;
+use chain::fixed::Fixed;
 use float::polyphase_resamp::is_valid_in_line;
 use half_band::MOST_STAGES;
 use half_band::hbf_stream::hbf_stream_refused_in_line;

@@ -165,6 +165,14 @@ module _ (g : ℕ → Float) (d : List Float) where
             ∙ listed-more (λ k. g (at + k)) (end - at) (length d - end)
             ∙ ap (λ (k : ℕ). listed k (λ k. g (at + k))) (let i : end - at + (length d - end) ≡ length d - at = omega arith in i)
 
+    -- none is left
+    pub none-left : end ≡ 0 → e ≡ listed (length d) g
+    none-left z =
+        q
+        ∙ ap (λ (k : ℕ). take k d ++ from k) z
+        ∙ listed-ext (length d - 0) (λ k. g (0 + k)) g (λ k l. ap g (let i : 0 + k ≡ k = omega arith in i))
+        ∙ ap (λ (m : ℕ). listed m g) (let i : length d - 0 ≡ length d = omega arith in i)
+
     -- the rest of them, in front
     pub all-back : (part : List Float) → part ≡ listed end g → part ++ drop end e ≡ listed (length d) g
     all-back part p =

@@ -1,13 +1,13 @@
 -- `LinearPhaseFir` runs as the filter of its taps with its delay as the state, so from an opening it makes what 02, §2, says of the whole list.
-use mathlib.Core.Path.{_≡_, refl, sym, ap, _∙_}
+use mathlib.Core.Path.{_≡_, refl, sym, ap, ap₂, _∙_}
 use mathlib.Core.Bool.{Bool, true, false, not}
 use mathlib.Core.List.{List, [], _∷_, _++_}
 use Prim.Native.Nat.{ℕ, _-_, _*_, _≤_}
 use native.Mathlib.Omega.{arith}
 use borrow.Author.Tests.{ne-eqb, eq-eqb}
-use lib.ListN.{length, take, drop, replicate}
+use lib.ListN.{length, getD, take, drop, replicate, set}
 use lib.Seq.{take-at}
-use lib.Ieee.{Float}
+use lib.Ieee.{Float, nan}
 use Rattle.theory.specs.Sections.{Section, outs, state}
 use Rattle.refusal.proofs.Limits.{Between, not-outside}
 use Rattle.float.specs.F32.{zero32}
@@ -82,6 +82,39 @@ module _ (d : LinearPhaseFir) (u : Usable d) where
     pub out-is : (x y : Float) → y ≡ windowValue (d .odd) (d .antisymmetric) (phaseTaps d) (take long (d .delay) ++ (x ∷ [])) → y ≡ phaseOut d x
     unfolding phaseOut
     out-is x y h = h ∙ ap (λ (n : ℕ). windowValue (d .odd) (d .antisymmetric) (phaseTaps d) (take n (d .delay) ++ (x ∷ []))) e
+
+-- ---- one sample, or two, one after the other
+only : {A : Type 0} (z : A) (l : List A) → length l ≡ 1 → l ≡ getD l 0 z ∷ []
+only z [] h = absurd (omega arith)
+only {A} z (x ∷ []) h = refl
+only z (x ∷ y ∷ l) h = absurd (omega arith)
+
+both : {A : Type 0} (z : A) (l : List A) → length l ≡ 2 → l ≡ getD l 0 z ∷ getD l 1 z ∷ []
+both z [] h = absurd (omega arith)
+both z (x ∷ []) h = absurd (omega arith)
+both {A} z (x ∷ y ∷ []) h = refl
+both z (x ∷ y ∷ w ∷ l) h = absurd (omega arith)
+
+module _ (d : LinearPhaseFir) (v : List Float) where
+  pub one-state : (e : LinearPhaseFir) → length v ≡ 1 → e ≡ phaseNext d (getD v 0 nan) → e ≡ state phaseFir d v
+  unfolding phaseFir
+  one-state e h q = q ∙ ap (state phaseFir d) (sym (only nan v h))
+
+  pub one-out : (span : List Float) (y : Float) → length v ≡ 1 → length span ≡ 1 → y ≡ phaseOut d (getD v 0 nan) → set span 0 y ≡ outs phaseFir d v
+  unfolding phaseFir
+  one-out span y h l q = ap (λ (s : List Float). set s 0 y) (only nan span l) ∙ ap (λ (x : Float). x ∷ []) q ∙ ap (outs phaseFir d) (sym (only nan v h))
+
+  pub two-states : (e f : LinearPhaseFir) → length v ≡ 2 → e ≡ phaseNext d (getD v 0 nan) → f ≡ phaseNext e (getD v 1 nan) → f ≡ state phaseFir d v
+  unfolding phaseFir
+  two-states e f h q p = p ∙ ap (λ (s : LinearPhaseFir). phaseNext s (getD v 1 nan)) q ∙ ap (state phaseFir d) (sym (both nan v h))
+
+  pub two-outs : (e : LinearPhaseFir) (span : List Float) (y z : Float) → length v ≡ 2 → length span ≡ 2 → e ≡ phaseNext d (getD v 0 nan) → y ≡ phaseOut d (getD v 0 nan) → z ≡ phaseOut e (getD v 1 nan)
+      → set (set span 0 y) 1 z ≡ outs phaseFir d v
+  unfolding phaseFir
+  two-outs e span y z h l q p r =
+      ap (λ (s : List Float). set (set s 0 y) 1 z) (both nan span l)
+      ∙ ap₂ {C = List Float} (λ (a b : Float). a ∷ b ∷ []) p (r ∙ ap (λ (s : LinearPhaseFir). phaseOut s (getD v 1 nan)) q)
+      ∙ ap (outs phaseFir d) (sym (both nan v h))
 
 -- the test of 20
 pub differ : (a b : ℕ) → (a ≡ b → ⊥) → lengthsDiffer a b ≡ true

@@ -2,7 +2,7 @@ pub mod WholeList
 pub mod SideBySide
 pub mod Newest
 pub mod Putting
-pub mod Fours
+pub mod Groups
 pub mod Shifting
 pub mod Tapes
 pub mod Backward

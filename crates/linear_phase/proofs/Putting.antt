@@ -20,6 +20,13 @@ put-whole w y s p long room q =
     ∙ ap (λ (k : ℕ). listed k (λ i. getD y i nan) ++ drop k s) all
     ∙ ap (λ (l : List Float). l ++ drop w s) (listed-take nan w y (omega (arith, long)) ∙ take-all w y (omega (arith, long)))
 
+-- all of a list over another of its length
+pub put-exact : (w : ℕ) (y s p : List Float) → length y ≡ w → length s ≡ w → p ≡ putInFront y s → p ≡ y
+put-exact w y s p long room q =
+    put-whole w y s p long (omega (arith, room)) q
+    ∙ ap (λ (l : List Float). y ++ l) (drop-of-length-le s {i = w} (omega (arith, room)))
+    ∙ append-nil y
+
 pub put-first : (w : ℕ) (y d s p : List Float) → y ≡ take w d → w ≤ length d → w ≤ length s → p ≡ putInFront y s → p ≡ take w d ++ drop w s
 put-first w y d s p e h room q = put-whole w y s p (ap length e ∙ length-take-le w d h) room q ∙ ap (λ (l : List Float). l ++ drop w s) e
 
@@ -42,6 +49,16 @@ put-from w t y d part k e h room q =
     ∙ ap (λ (l : List Float). take w d ++ l) (drop-drop w k t) in
     ap₂ {C = List Float} (λ (l r : List Float). take k t ++ (l ++ r)) here (drop-of-length-le (drop k t) {i = length t - k} (omega (arith, length-drop k t)))
     ∙ ap (λ (l : List Float). take k t ++ l) (append-nil (take w d ++ drop (k + w) t))
+
+-- a group in front of a list, and one at its end
+pub put-ends : (w n : ℕ) (s y z s₁ part : List Float) → length y ≡ w → length z ≡ w → length s ≡ n → w ≤ n → n ≤ w + w → s₁ ≡ putInFront y s
+    → part ≡ putInFront z (take (length s₁ - (n - w)) (drop (n - w) s₁)) → take (n - w) s₁ ++ (part ++ drop (length s₁ - (n - w)) (drop (n - w) s₁)) ≡ take (n - w) y ++ z
+put-ends w n s y z s₁ part ly lz ls h g e p =
+    let whole : s₁ ≡ y ++ drop w s = put-whole w y s s₁ ly (omega (arith, ls)) e in
+    let l₁ : length s₁ ≡ n = ap length whole ∙ length-append y (drop w s) ∙ omega (arith, ly, ls, length-drop w s) in
+    put-from w s₁ z z part (n - w) (sym (take-all w z (omega (arith, lz)))) (omega (arith, lz)) (omega (arith, l₁)) p
+    ∙ ap₂ {C = List Float} _++_ (ap (take (n - w)) whole ∙ take-append-le (n - w) y (drop w s) (omega (arith, ly)))
+    (ap₂ {C = List Float} _++_ (take-all w z (omega (arith, lz))) (drop-of-length-le s₁ {i = n - w + w} (omega (arith, l₁))) ∙ append-nil z)
 
 module _ (w : ℕ) (t d : List Float) (k : ℕ) (h : w ≤ length d) (room : k + w ≤ length t) where
   values : length (take w d) ≡ w

@@ -13,9 +13,8 @@ use lib.Ieee.{Float, nan, binary32, add, mul}
 use Rattle.theory.specs.Lists.{listed}
 use Rattle.theory.proofs.Listed.{length-listed}
 use Rattle.q15.proofs.Filling.{Filled, listed-ext}
-use Rattle.float.specs.F32.{zero32}
 use Rattle.linear_phase.specs.LinearPhase.{pair}
-use Rattle.linear_phase.specs.Windows.{windowAcc, centredValue, windowSums, pairsOnto, pairsAdded, firstPairs, centresAdded, windowValues}
+use Rattle.linear_phase.specs.Windows.{windowAcc, centredValue, windowSums, pairsOnto, pairsAdded, noSums, centresAdded, windowValues}
 
 -- the k-th of n
 pub listed-at : {B : Type 0} (z : B) (n : ℕ) (g : ℕ → B) (k : ℕ) → k < n → getD (listed n g) k z ≡ g k
@@ -77,12 +76,10 @@ module _ (long : ℕ) (line : List Float) (n : ℕ) (room : long + n ≤ length 
           (ap₂ {C = Float} (λ (a b : Float). mul binary32 (pair antisymmetric a b) (getD c t nan)) (newest i l) (sym (window-place i t h)))
           ∙ ap (windowAcc antisymmetric c (window i)) (sym (add-one t))
 
-  pub sums-first : (antisymmetric : Bool) (c : List Float) → firstPairs antisymmetric (getD c 0 nan) line (drop long line) n ≡ windowSums antisymmetric c long line n 1
-  unfolding windowAcc
-  sums-first antisymmetric c = ap (λ (k : ℕ). firstPairs antisymmetric (getD c 0 nan) line (drop k line) n) (none long) ∙ sums-onto (λ i. zero32) antisymmetric c 0 (omega arith) (λ i l. refl)
-    where
-      none : (k : ℕ) → k ≡ k - 0
-      none k = omega arith
+  -- before the first pair
+  pub sums-none : (antisymmetric : Bool) (c : List Float) → windowSums antisymmetric c long line n 0 ≡ noSums n
+  unfolding windowSums windowAcc
+  sums-none antisymmetric c = refl
 
   pub sums-next : (antisymmetric : Bool) (c : List Float) (t : ℕ) → t ≤ long
       → pairsAdded antisymmetric (getD c t nan) (drop t line) (drop (long - t) line) (windowSums antisymmetric c long line n t) ≡ windowSums antisymmetric c long line n (t + 1)

@@ -5,7 +5,7 @@ use mathlib.Core.List.{List, [], _∷_, _++_, append-nil, append-assoc}
 use Prim.Native.Nat.{ℕ, zero, suc, _+_, _-_, _*_, _≤_, _<_, min}
 use native.Mathlib.Numerals.{add-one}
 use native.Mathlib.Omega.{arith}
-use lib.ListN.{length, getD, set, take, drop, length-append, length-drop, take-append-drop}
+use lib.ListN.{length, getD, take, drop, length-append, length-drop, take-append-drop}
 use lib.Seq.{length-take-le, take-at, take-add, take-take, take-all, take-append-le, take-append-add, drop-at, drop-append-le, drop-append-add, drop-drop}
 use lib.Ieee.{Float, nan}
 use Rattle.theory.specs.Sections.{Section, outs, state}
@@ -95,21 +95,3 @@ many-last d v h =
   where
     up : (n k : ℕ) → k ≤ n → k + (n - k) ≡ n
     up n k h = omega arith
-
--- ---- one sample
-only : {A : Type 0} (z : A) (l : List A) → length l ≡ 1 → l ≡ getD l 0 z ∷ []
-only z [] h = absurd (omega arith)
-only {A} z (x ∷ []) h = refl
-only z (x ∷ y ∷ l) h = absurd (omega arith)
-
-pub one-state : (odd antisymmetric : Bool) (c d v : List Float) → length v ≡ 1 → slid d (getD v 0 nan ∷ []) ≡ state (linearPhase odd antisymmetric c) d v
-unfolding linearPhase
-one-state odd antisymmetric c d v h = ap (state (linearPhase odd antisymmetric c) d) (sym (only nan v h))
-
-pub one-outs : (odd antisymmetric : Bool) (c d v span : List Float) (y : Float) → length v ≡ 1 → length span ≡ 1 → y ≡ windowValue odd antisymmetric c (d ++ (getD v 0 nan ∷ []))
-    → set span 0 y ≡ outs (linearPhase odd antisymmetric c) d v
-unfolding linearPhase
-one-outs odd antisymmetric c d v span y h l e =
-    ap (λ (s : List Float). set s 0 y) (only nan span l)
-    ∙ ap (λ (x : Float). x ∷ []) e
-    ∙ ap (outs (linearPhase odd antisymmetric c) d) (sym (only nan v h))

@@ -43,8 +43,9 @@ pairsOnto start antisymmetric tap old new n = listed n (λ i. add binary32 (star
 abbrev pub pairsAdded : Bool → Float → List Float → List Float → List Float → List Float
 pairsAdded antisymmetric tap old new sums = pairsOnto (λ i. getD sums i nan) antisymmetric tap old new (length sums)
 
-abbrev pub firstPairs : Bool → Float → List Float → List Float → ℕ → List Float
-firstPairs antisymmetric tap old new n = pairsOnto (λ i. zero32) antisymmetric tap old new n
+-- sums with no pair yet
+abbrev pub noSums : ℕ → List Float
+noSums n = listed n (λ i. zero32)
 
 -- a centre for each
 unfoldable pub centresAdded : List Float → List Float → List Float

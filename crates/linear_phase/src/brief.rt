@@ -8,29 +8,37 @@ ghost use Rattle.theory.specs.Sections.{state, outs};
 ghost use Rattle.half_band.specs.Windows.{slid};
 ghost use Rattle.linear_phase.specs.LinearPhase as P;
 ghost use Rattle.linear_phase.specs.Windows as W;
-use crate::lanes::LANES;
-use crate::lanes::put_all;
-use crate::lanes::taken;
 use crate::one::value_with;
 use crate::pairs::reach;
+use float::span::put_at_end;
 
-// So many samples are made sooner one by one than four by four.
-const FEW: usize = 8;
+// The longest delay of four taps.
+const SHORT_DELAY: usize = 8;
 
-// Whether there are at most four taps, and few samples; one is made sooner in the lent delay, and with one tap all fewer than a group are few.
+// So many samples are made sooner one by one than in groups, with two, three and four taps.
+const FEW_BY_TWO: usize = 48;
+
+const FEW_BY_THREE: usize = 24;
+
+const FEW_BY_FOUR: usize = 15;
+
+// Whether there are at most four taps, and few samples; with one tap any number are few.
 pub(crate) fn is_brief(m: usize, n: usize) -> bool
     ensures { λ r. ⌜ (r ≡ true → m ≤ 4) ⌝ }
 {
     if 4 < m {
         return false;
     }
-    if n < 2 {
-        return false;
-    }
     if m == 1 {
-        return n < LANES;
+        return true;
     }
-    n <= FEW
+    if m == 2 {
+        return n <= FEW_BY_TWO;
+    }
+    if m == 3 {
+        return n <= FEW_BY_THREE;
+    }
+    n <= FEW_BY_FOUR
 }
 
 // The delay moves down by one place, and x stands at its end. It goes from the end on: the other way would be a copy in memory to the compiler.
@@ -80,9 +88,10 @@ fn held(
     ensures span { λ _. ⌜ now (span .exit) ≡ outs (W.linearPhase odd minus (take m (now (taps .entry)))) (take (P.reach odd m) (now (delay .entry))) (now (src .entry)) ⌝ }
 {
     let long = reach(odd, m);
-    let mut window = taken(delay);
+    let mut window = [0.0f32; SHORT_DELAY];
+    put_at_end(&mut window[..long], &delay[..long]);
     each(&mut window[..long], &taps[..m], odd, minus, src, span);
-    put_all(delay, window);
+    put_at_end(&mut delay[..long], &window[..long]);
 }
 
 // A copy for each of the eight lengths.

@@ -15,7 +15,6 @@ use crate::lanes::put_all;
 use crate::lanes::taken;
 use crate::limits::LINEAR_PHASE_DELAYS;
 use crate::limits::MOST_LINEAR_PHASE_TAPS;
-use crate::one::filter_one;
 use crate::pairs::has_centre;
 use float::span::lay;
 use float::span::put_at_end;
@@ -160,23 +159,6 @@ pub(crate) fn filter_few(
     lay(&mut tape, delay, lent);
     put_at_end(delay, &tape[n..past]);
     outputs_back(&tape, src, own, taps, long, minus, centre, span);
-}
-
-// One sample of src.
-pub(crate) fn filter_single(
-    delay: &mut [f32],
-    taps: &[f32],
-    odd: bool,
-    minus: bool,
-    src: &[f32],
-    span: &mut [f32],
-)
-    requires { ⌜ (1 ≤ length (now taps)) × (length (now taps) ≤ 23) × (length (now delay) ≡ P.reach odd (length (now taps))) × (length (now span) ≡ 1) × (length (now src) ≡ 1) ⌝ }
-    ensures delay { λ _. ⌜ now (delay .exit) ≡ state (W.linearPhase odd minus (now (taps .entry))) (now (delay .entry)) (now (src .entry)) ⌝ }
-    ensures span { λ _. ⌜ now (span .exit) ≡ outs (W.linearPhase odd minus (now (taps .entry))) (now (delay .entry)) (now (src .entry)) ⌝ }
-{
-    let y = filter_one(delay, taps, odd, minus, src[0]);
-    span[0] = y;
 }
 
 // The taps in front, and zeros behind them.

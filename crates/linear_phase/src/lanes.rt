@@ -8,74 +8,75 @@ ghost use Rattle.linear_phase.specs.Windows as W;
 use crate::few::few_outputs;
 use crate::pairs::pair;
 
-// The sums that go side by side.
+// The sums of a whole group, which go side by side.
 pub(crate) const LANES: usize = 16;
 
 // One pair more for each sum: (new[j] ± old[j]) × tap.
-fn add_pairs(acc: &mut [f32; LANES], old: &[f32], new: &[f32], tap: f32, minus: bool)
-    requires { ⌜ (length (now acc) ≡ 16) × (16 ≤ length (now old)) × (16 ≤ length (now new)) ⌝ }
+fn add_pairs(acc: &mut [f32], old: &[f32], new: &[f32], tap: f32, minus: bool)
+    requires { ⌜ (length (now acc) ≤ length (now old)) × (length (now acc) ≤ length (now new)) ⌝ }
     ensures { λ _. ⌜ now (acc .exit) ≡ W.pairsAdded minus tap (now (old .entry)) (now (new .entry)) (now (acc .entry)) ⌝ }
 {
     let mut j = 0;
-    while j < LANES {
+    while j < acc.len() {
         acc[j] = acc[j] + pair(minus, new[j], old[j]) * tap;
         j += 1;
     }
 }
 
-// The first pair of each sum, from 0.0.
-fn first_pairs(old: &[f32], new: &[f32], tap: f32, minus: bool) -> [f32; LANES]
-    requires { ⌜ (16 ≤ length (now old)) × (16 ≤ length (now new)) ⌝ }
-    ensures { λ r. ⌜ r ≡ W.firstPairs minus tap (now (old .entry)) (now (new .entry)) 16 ⌝ }
-{
-    let mut acc = [0.0f32; LANES];
-    let mut j = 0;
-    while j < LANES {
-        acc[j] = 0.0 + pair(minus, new[j], old[j]) * tap;
-        j += 1;
-    }
-    acc
-}
-
 // The centre samples, one for each sum.
-fn add_centres(acc: &mut [f32; LANES], centres: &[f32])
-    requires { ⌜ (length (now acc) ≡ 16) × (16 ≤ length (now centres)) ⌝ }
+fn add_centres(acc: &mut [f32], centres: &[f32])
+    requires { ⌜ length (now acc) ≤ length (now centres) ⌝ }
     ensures { λ _. ⌜ now (acc .exit) ≡ W.centresAdded (now (centres .entry)) (now (acc .entry)) ⌝ }
 {
     let mut j = 0;
-    while j < LANES {
+    while j < acc.len() {
         acc[j] = acc[j] + centres[j];
         j += 1;
     }
 }
 
-// The sums of pairs at the windows that begin at the first places of the line, from 0.0, t ascending.
-fn sums_at(line: &[f32], taps: &[f32], long: usize, minus: bool) -> [f32; LANES]
-    requires { ⌜ (1 ≤ length (now taps)) × (length (now taps) ≤ long) × (long + 16 ≤ length (now line)) ⌝ }
-    ensures { λ r. ⌜ r ≡ W.windowSums minus (now (taps .entry)) long (now (line .entry)) 16 (length (now (taps .entry))) ⌝ }
+// The sums of pairs at the windows that begin at the first places of the line, as many as there are zeros to begin with, t ascending.
+fn sums_at(acc: &mut [f32], line: &[f32], taps: &[f32], long: usize, minus: bool)
+    requires { ⌜ (length (now taps) ≤ long) × (long + length (now acc) ≤ length (now line)) × (now acc ≡ W.noSums (length (now acc))) ⌝ }
+    ensures { λ _. ⌜ now (acc .exit) ≡ W.windowSums minus (now (taps .entry)) long (now (line .entry)) (length (now (acc .entry))) (length (now (taps .entry))) ⌝ }
 {
-    let mut acc = first_pairs(line, &line[long..], taps[0], minus);
-    let mut t = 1;
+    let mut t = 0;
     while t < taps.len() {
         let newest = long - t;
-        add_pairs(&mut acc, &line[t..], &line[newest..], taps[t], minus);
+        add_pairs(acc, &line[t..], &line[newest..], taps[t], minus);
         t += 1;
     }
-    acc
 }
 
-// The outputs at these windows; the centre is added last.
-fn outputs_at(line: &[f32], taps: &[f32], long: usize, minus: bool, centre: bool) -> [f32; LANES]
-    requires { ⌜ (1 ≤ length (now taps)) × (length (now taps) ≤ long) × (long + 16 ≤ length (now line)) ⌝ }
-    ensures { λ r. ⌜ r ≡ W.windowValues centre minus (now (taps .entry)) long (now (line .entry)) 16 ⌝ }
+// The outputs at these windows; the centre is added last. How many there are is known where the array of them is made: so one body serves groups of any size, and the compiler keeps each in
+// registers.
+pub(crate) fn outputs_at(
+    acc: &mut [f32],
+    line: &[f32],
+    taps: &[f32],
+    long: usize,
+    minus: bool,
+    centre: bool,
+)
+    requires { ⌜ (length (now taps) ≤ long) × (long + length (now acc) ≤ length (now line)) × (now acc ≡ W.noSums (length (now acc))) ⌝ }
+    ensures { λ _. ⌜ now (acc .exit) ≡ W.windowValues centre minus (now (taps .entry)) long (now (line .entry)) (length (now (acc .entry))) ⌝ }
 {
-    let mut acc = sums_at(line, taps, long, minus);
+    sums_at(acc, line, taps, long, minus);
     if !centre {
-        return acc;
+        return;
     }
     let m = taps.len();
-    add_centres(&mut acc, &line[m..]);
-    acc
+    add_centres(acc, &line[m..]);
+}
+
+// A whole group of them.
+fn group_at(line: &[f32], taps: &[f32], long: usize, minus: bool, centre: bool) -> [f32; LANES]
+    requires { ⌜ (length (now taps) ≤ long) × (long + 16 ≤ length (now line)) ⌝ }
+    ensures { λ r. ⌜ r ≡ W.windowValues centre minus (now (taps .entry)) long (now (line .entry)) 16 ⌝ }
+{
+    let mut y = [0.0f32; LANES];
+    outputs_at(&mut y, line, taps, long, minus, centre);
+    y
 }
 
 // The first of a line.
@@ -92,16 +93,24 @@ pub(crate) fn taken(line: &[f32]) -> [f32; LANES]
     y
 }
 
-// All of them in front of a span.
+// All of a group in front of a span.
+pub(crate) fn put_group(span: &mut [f32], y: &[f32])
+    requires { ⌜ length (now y) ≤ length (now span) ⌝ }
+    ensures { λ _. ⌜ now (span .exit) ≡ W.putInFront (now (y .entry)) (now (span .entry)) ⌝ }
+{
+    let mut j = 0;
+    while j < y.len() {
+        span[j] = y[j];
+        j += 1;
+    }
+}
+
+// The same of a whole group.
 pub(crate) fn put_all(span: &mut [f32], y: [f32; LANES])
     requires { ⌜ 16 ≤ length (now span) ⌝ }
     ensures { λ _. ⌜ now (span .exit) ≡ W.putInFront y (now (span .entry)) ⌝ }
 {
-    let mut j = 0;
-    while j < LANES {
-        span[j] = y[j];
-        j += 1;
-    }
+    put_group(span, &y);
 }
 
 // One of two lines.
@@ -138,7 +147,7 @@ pub(crate) fn outputs_back<'a>(
     centre: bool,
     span: &mut [f32],
 )
-    requires { ⌜ (1 ≤ length (now taps)) × (length (now taps) ≤ long) × (long + min (length (now span)) (long + 16) ≤ length (now tape)) ⌝ }
+    requires { ⌜ (1 ≤ length (now taps)) × (length (now taps) ≤ long) × (long + min (length (now span)) (long + 16) ≤ length (now tape)) × (long + 16 ≤ length (now tape)) ⌝ }
     requires { ⌜ W.OnTape long (now tape) (W.picked own (now span) (now src)) (length (now span)) ⌝ }
     ensures { λ _. ⌜ (let z = take long (now (tape .entry)) ++ W.picked own (now (span .entry)) (now (src .entry)) in
         now (span .exit) ≡ W.windowValues centre minus (now (taps .entry)) long z (length (now (span .entry)))) ⌝ }
@@ -150,9 +159,12 @@ pub(crate) fn outputs_back<'a>(
         let from = window_start(front, at, long);
         let samples = picked(own, span, src);
         let line = picked(front, tape, samples);
-        let y = outputs_at(&line[from..], taps, long, minus, centre);
+        let y = group_at(&line[from..], taps, long, minus, centre);
         put_all(&mut span[at..end], y);
         end = at;
+    }
+    if end == 0 {
+        return;
     }
     few_outputs(tape, taps, long, minus, centre, &mut span[..end]);
 }

@@ -13,7 +13,6 @@ use crate::brief::is_brief;
 use crate::filter::filter;
 use crate::filter::filter_few;
 use crate::filter::filter_short;
-use crate::filter::filter_single;
 use crate::filter::is_short;
 use crate::filter::padded;
 use crate::lanes::LANES;
@@ -80,8 +79,28 @@ fn process_lent(
     filter_one(&mut delay[..long], &taps[..m], odd, antisymmetric, x)
 }
 
-// The samples of the span, likewise, and their outputs take their places; no other line is read, so the taps are lent as one.
-fn inplace_lent(
+// One sample of the span, likewise, and its output takes its place.
+fn inplace_one(
+    m: usize,
+    odd: bool,
+    antisymmetric: bool,
+    taps: &[f32],
+    delay: &mut [f32],
+    span: &mut [f32],
+)
+    requires { ⌜ (1 ≤ m) × (m ≤ 23) × (length (now taps) ≡ 23) × (length (now delay) ≡ 46) × (length (now span) ≡ 1) ⌝ }
+    ensures delay { λ _. ⌜ (let before = P.phaseOf m odd antisymmetric (now (taps .entry)) (now (delay .entry)) in
+        let after = P.phaseOf m odd antisymmetric (now (taps .entry)) (now (delay .exit)) in
+        after ≡ state P.phaseFir before (now (span .entry))) ⌝ }
+    ensures span { λ _. ⌜ (let before = P.phaseOf m odd antisymmetric (now (taps .entry)) (now (delay .entry)) in
+        now (span .exit) ≡ outs P.phaseFir before (now (span .entry))) ⌝ }
+{
+    let y = process_lent(m, odd, antisymmetric, taps, delay, span[0]);
+    span[0] = y;
+}
+
+// The samples of the span, likewise, along a tape; no other line is read, so the taps are lent as one.
+fn inplace_long(
     m: usize,
     odd: bool,
     antisymmetric: bool,
@@ -123,7 +142,29 @@ fn inplace_lent(
     );
 }
 
-// The samples of src, likewise, an output of each into the span: one sample in the lent delay, more of them along a tape.
+// The same, one sample in the lent delay.
+fn inplace_lent(
+    m: usize,
+    odd: bool,
+    antisymmetric: bool,
+    taps: &[f32],
+    delay: &mut [f32],
+    span: &mut [f32],
+)
+    requires { ⌜ (1 ≤ m) × (m ≤ 23) × (length (now taps) ≡ 23) × (length (now delay) ≡ 46) ⌝ }
+    ensures delay { λ _. ⌜ (let before = P.phaseOf m odd antisymmetric (now (taps .entry)) (now (delay .entry)) in
+        let after = P.phaseOf m odd antisymmetric (now (taps .entry)) (now (delay .exit)) in
+        after ≡ state P.phaseFir before (now (span .entry))) ⌝ }
+    ensures span { λ _. ⌜ (let before = P.phaseOf m odd antisymmetric (now (taps .entry)) (now (delay .entry)) in
+        now (span .exit) ≡ outs P.phaseFir before (now (span .entry))) ⌝ }
+{
+    if span.len() == 1 {
+        return inplace_one(m, odd, antisymmetric, taps, delay, span);
+    }
+    inplace_long(m, odd, antisymmetric, taps, delay, span);
+}
+
+// The samples of src, likewise, an output of each into the span, along a tape.
 fn block_long(
     m: usize,
     odd: bool,
@@ -141,16 +182,6 @@ fn block_long(
         now (span .exit) ≡ outs P.phaseFir before (now (src .entry))) ⌝ }
 {
     let long = reach(odd, m);
-    if src.len() == 1 {
-        return filter_single(
-            &mut delay[..long],
-            &taps[..m],
-            odd,
-            antisymmetric,
-            src,
-            span,
-        );
-    }
     if src.len() < LANES {
         return filter_few(
             &mut delay[..long],
@@ -185,7 +216,51 @@ fn block_long(
     );
 }
 
-// The same, a few samples through a short delay in registers.
+// One sample of src, likewise, in the lent delay.
+fn block_one(
+    m: usize,
+    odd: bool,
+    antisymmetric: bool,
+    taps: &[f32],
+    delay: &mut [f32],
+    src: &[f32],
+    span: &mut [f32],
+)
+    requires { ⌜ (1 ≤ m) × (m ≤ 23) × (length (now taps) ≡ 23) × (length (now delay) ≡ 46) × (length (now span) ≡ 1) × (length (now src) ≡ 1) ⌝ }
+    ensures delay { λ _. ⌜ (let before = P.phaseOf m odd antisymmetric (now (taps .entry)) (now (delay .entry)) in
+        let after = P.phaseOf m odd antisymmetric (now (taps .entry)) (now (delay .exit)) in
+        after ≡ state P.phaseFir before (now (src .entry))) ⌝ }
+    ensures span { λ _. ⌜ (let before = P.phaseOf m odd antisymmetric (now (taps .entry)) (now (delay .entry)) in
+        now (span .exit) ≡ outs P.phaseFir before (now (src .entry))) ⌝ }
+{
+    let y = process_lent(m, odd, antisymmetric, taps, delay, src[0]);
+    span[0] = y;
+}
+
+// Two samples of src, likewise, in the lent delay one after the other.
+fn block_pair(
+    m: usize,
+    odd: bool,
+    antisymmetric: bool,
+    taps: &[f32],
+    delay: &mut [f32],
+    src: &[f32],
+    span: &mut [f32],
+)
+    requires { ⌜ (1 ≤ m) × (m ≤ 23) × (length (now taps) ≡ 23) × (length (now delay) ≡ 46) × (length (now span) ≡ 2) × (length (now src) ≡ 2) ⌝ }
+    ensures delay { λ _. ⌜ (let before = P.phaseOf m odd antisymmetric (now (taps .entry)) (now (delay .entry)) in
+        let after = P.phaseOf m odd antisymmetric (now (taps .entry)) (now (delay .exit)) in
+        after ≡ state P.phaseFir before (now (src .entry))) ⌝ }
+    ensures span { λ _. ⌜ (let before = P.phaseOf m odd antisymmetric (now (taps .entry)) (now (delay .entry)) in
+        now (span .exit) ≡ outs P.phaseFir before (now (src .entry))) ⌝ }
+{
+    let y = process_lent(m, odd, antisymmetric, taps, delay, src[0]);
+    let z = process_lent(m, odd, antisymmetric, taps, delay, src[1]);
+    span[0] = y;
+    span[1] = z;
+}
+
+// The same, one or two samples in the lent delay, and a few through a short one in registers.
 fn block_lent(
     m: usize,
     odd: bool,
@@ -202,8 +277,14 @@ fn block_lent(
     ensures span { λ _. ⌜ (let before = P.phaseOf m odd antisymmetric (now (taps .entry)) (now (delay .entry)) in
         now (span .exit) ≡ outs P.phaseFir before (now (src .entry))) ⌝ }
 {
+    if src.len() == 1 {
+        return block_one(m, odd, antisymmetric, taps, delay, src, span);
+    }
     if is_brief(m, src.len()) {
         return filter_brief(m, odd, antisymmetric, taps, delay, src, span);
+    }
+    if src.len() == 2 {
+        return block_pair(m, odd, antisymmetric, taps, delay, src, span);
     }
     block_long(m, odd, antisymmetric, taps, delay, src, span);
 }

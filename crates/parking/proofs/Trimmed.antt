@@ -46,7 +46,8 @@ use Rattle.float.specs.PolyphaseResamp.{inLine, validInLine, validInLineAt}
 use Rattle.float.specs.PolyphaseResamp as R
 use Rattle.float.specs.declared.polyphase_resamp.PolyphaseResampF32.{PolyphaseResampF32}
 use Rattle.line.specs.Outputs.{mostCuts}
-use Rattle.line.specs.Line.{Parts, thinnerOf, partsOf, cutsFor, sumCut, from3, from4, chain, line, halfBandFine, valid, fedLine, feedOutcome, feedSpan}
+use Rattle.chain.specs.Chain.{Parts, from3, from4, chain}
+use Rattle.line.specs.Line.{thinnerOf, partsOf, cutsFor, sumCut, line, halfBandFine, valid, fedLine, feedOutcome, feedSpan}
 use Rattle.line.specs.Demand3.{History, none-yet, fed}
 use Rattle.line.specs.declared.gauge_line.Line.{Line}
 use Rattle.line.proofs.Flags.{not-says, not-is}

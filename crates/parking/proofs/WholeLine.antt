@@ -37,7 +37,8 @@ use Rattle.float.specs.PolyphaseResamp.{inLine, inLimits, within, isOn, validIn
 use Rattle.float.specs.PolyphaseResamp as R
 use Rattle.float.specs.declared.polyphase_resamp.PolyphaseResampF32.{PolyphaseResampF32}
 use Rattle.line.specs.Outputs.{Opening, mostCuts}
-use Rattle.line.specs.Line.{Parts, thinnerOf, partsOf, cutsAt, from3, from4, from5, chain, line, halfBandFine, valid, resamplerFresh, fresh, opened}
+use Rattle.chain.specs.Chain.{Parts, from3, from4, from5, chain}
+use Rattle.line.specs.Line.{thinnerOf, partsOf, cutsAt, line, halfBandFine, valid, resamplerFresh, fresh, opened}
 use Rattle.line.specs.Demand3.{History, none-yet, fed, lineOf}
 use Rattle.line.specs.declared.gauge_line.Line.{Line}
 use Rattle.line.proofs.Flags.{and-left, and-right, not-says}

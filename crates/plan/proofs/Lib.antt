@@ -1,5 +1,4 @@
 pub mod Clocks
-pub mod Sections
 pub mod LineClock
 pub mod Going
 pub mod Listing

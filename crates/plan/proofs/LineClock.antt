@@ -29,7 +29,8 @@ use Rattle.float.specs.Level.{level}
 use Rattle.float.specs.PolyphaseResamp.{inLine, isOn, passed, consumed}
 use Rattle.float.specs.declared.polyphase_resamp.PolyphaseResampF32.{PolyphaseResampF32}
 use Rattle.line.specs.Outputs.{mostCuts}
-use Rattle.line.specs.Line.{Parts, partsOf, countedOf, ofCounted, cutsAt, from3, from4, from5, chain, line, valid}
+use Rattle.chain.specs.Chain.{Parts, from3, from4, from5, chain}
+use Rattle.line.specs.Line.{partsOf, countedOf, ofCounted, cutsAt, line, valid}
 use Rattle.line.specs.declared.gauge_line.Line.{Line}
 use Rattle.line.proofs.Lawful.{Good, line-lawful}
 use Rattle.line.proofs.Demanded.{outcome-is}
@@ -38,7 +39,7 @@ use Rattle.plan.specs.Ticking.{atMu, ticking, slowed, countFeed, countFe
 use Rattle.plan.specs.declared.counting.Clock.{Clock}
 use Rattle.theory.proofs.Counting.{came}
 use Rattle.plan.proofs.Clocks.{Counts, counts-before, counts-each, counts-tallied, counts-viewed, SameCounts, feed-counts}
-use Rattle.plan.proofs.Sections.{by-cond, ThinGood, thinLeft, thinPeriod, thin-down, FirGood, firLeft, firPeriod, fir-down, HalfGood, halfLeft, halfPeriod, half-down}
+use Rattle.chain.proofs.Sections.{by-cond, ThinGood, thinLeft, thinPeriod, thin-down, FirGood, firLeft, firPeriod, fir-down, HalfGood, halfLeft, halfPeriod, half-down}
 
 -- ---- the line, section by section from the last
 abbrev pub clock5 : PolyphaseResampF32 → Clock

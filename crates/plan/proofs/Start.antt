@@ -29,10 +29,11 @@ use Rattle.line.proofs.Flags.{and-left, and-right}
 use Rattle.line.proofs.Openings.{Accepted}
 use Rattle.line.proofs.Demanded.{ok, start, valid-fresh}
 use Rattle.plan.specs.Plan.{feedCounts, PlanKept, lengthsFine, listsFine, planNumber}
-use Rattle.plan.specs.Ticking.{slowed, resamplerClock, orOne, startClock, countFeeds}
+use Rattle.plan.specs.Ticking.{slowed, resamplerClock, startClock, countFeeds}
 use Rattle.plan.specs.Ticking as K
 use Rattle.plan.specs.declared.counting.Clock.{Clock}
-use Rattle.plan.proofs.Sections.{by-cond, or-one, FirGood, firLeft, firPeriod, stagesLeft}
+use Rattle.chain.proofs.Sections.{by-cond, or-one, FirGood, firLeft, firPeriod}
+use Rattle.chain.specs.Counting.{orOne, stagesLeft}
 use Rattle.plan.proofs.LineClock.{clock5, clockOf, Runs, feeds-counted}
 
 -- ---- the settings that an opening takes

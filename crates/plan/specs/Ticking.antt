@@ -12,6 +12,7 @@ use Rattle.theory.specs.Machines.{Machine}
 use Rattle.theory.specs.Feeds as F
 use Rattle.refusal.specs.Outcome.{Moved}
 use Rattle.float.specs.F32.{zero32, one32}
+use Rattle.chain.specs.Counting.{orOne}
 use Rattle.line.specs.declared.settings.Settings.{Settings}
 use Rattle.plan.specs.declared.counting.Clock.{Clock}
 
@@ -51,10 +52,6 @@ resamplerClock s =
       step = cond (eqb (s .phases) 0) zero32 (s .step);
       mu = cond (eqb (s .phases) 0) zero32 one32;
     }
-
--- a FIR without taps hands each value on
-abbrev pub orOne : ℕ → ℕ → ℕ
-orOne T n = cond (eqb T 0) 1 n
 
 abbrev pub startClock : Settings → ℕ → Clock
 startClock s T = slowed (s .r) (s .r) (slowed (orOne T T) (orOne T (s .factor)) (slowed (2 ^ s .depth) (2 ^ s .depth) (resamplerClock s)))

@@ -7,6 +7,7 @@ ghost use lib.Dec.{eqb};
 ghost use lib.Ieee.{lt};
 ghost use Rattle.q15.specs.FirDecimator.{mostTaps};
 ghost use Rattle.float.specs.F32.{zero32, one32};
+ghost use Rattle.chain.specs.Counting.{orOne};
 ghost use Rattle.plan.specs.Ticking as K;
 use line::Settings;
 
@@ -36,7 +37,7 @@ fn two_to(depth: usize) -> usize
 }
 
 fn or_one(tap_count: usize, n: usize) -> usize
-    ensures { λ r. ⌜ r ≡ K.orOne «tap_count» n ⌝ }
+    ensures { λ r. ⌜ r ≡ orOne «tap_count» n ⌝ }
 {
     if tap_count == 0 {
         return 1;
@@ -87,7 +88,7 @@ fn slowed(left: usize, period: usize, c: Clock) -> Clock
 
 // The clock of a line that was just opened.
 pub(crate) fn start_clock(s: Settings, tap_count: usize) -> Clock
-    requires { ⌜ (1 ≤ s .r) × (s .r ≤ 4096) × (1 ≤ K.orOne «tap_count» «tap_count») × (K.orOne «tap_count» «tap_count» ≤ mostTaps) × (K.orOne «tap_count» (s .factor) ≤ 4096) × (s .depth ≤ 5) ⌝ }
+    requires { ⌜ (1 ≤ s .r) × (s .r ≤ 4096) × (1 ≤ orOne «tap_count» «tap_count») × (orOne «tap_count» «tap_count» ≤ mostTaps) × (orOne «tap_count» (s .factor) ≤ 4096) × (s .depth ≤ 5) ⌝ }
     ensures { λ c. ⌜ c ≡ K.startClock s «tap_count» ⌝ }
 {
     let rate = two_to(s.depth);

@@ -1,7 +1,7 @@
 mod Sums
 pub mod Rounding
 pub mod Filling
-mod CutFilling
+pub mod CutFilling
 mod Rows
 mod Counts
 mod Between

@@ -1,6 +1,5 @@
 -- `feed_on` meets its contract: the loop keeps `Midway` of the line put together from its locals; the outputs that are due have a law, the samples that complete no sum another, and each kind of step its own.
-use mathlib.Core.Path.{_≡_, refl, sym, ap, _∙_}
-use mathlib.Core.Bool.{true}
+use mathlib.Core.Path.{_≡_, sym, ap, _∙_}
 use mathlib.Core.List.{List, _++_}
 use Prim.Native.Nat.{ℕ, _+_, _-_, _≤_, _<_}
 use native.Mathlib.Omega.{arith}
@@ -14,7 +13,7 @@ use Rattle.theory.specs.Feeds as F
 use Rattle.theory.proofs.FeedLoop.{Midway, start, after-took, after-both, after-stopped}
 use Rattle.nonrecursive.specs.declared.thinning.Thinning.the-variants as kind
 use Rattle.float.specs.PolyphaseResamp.{toldDue}
-use Rattle.line.specs.Line.{line, valid, fedLine}
+use Rattle.line.specs.Line.{line, fedLine}
 use Rattle.line.specs.Together.{together, takenOf, steppedAt, counted, RanTo}
 use Rattle.line.specs.declared.gauge_line.Line.{Line}
 use Rattle.line.specs.declared.sample.Numbers.{Numbers}

@@ -2,7 +2,7 @@
 use mathlib.Core.Path.{_≡_, ap}
 use Prim.Native.Nat.{ℕ}
 use borrow.Author.Needs.{needs}
-use Rattle.line.specs.declared.sample.Fixed.{Fixed}
+use Rattle.chain.specs.declared.fixed.Fixed.{Fixed}
 use Rattle.line.proofs.lent.fixed.Statement.{statement}
 use Rattle.line.proofs.lent.fixed.Tie as tie
 

@@ -1,8 +1,10 @@
--- `sample::counted` meets its contract: where less than what is added is left up to its end, the count holds there.
+-- `sample::counted` meets its contract: what is added is 2 at most.
+use mathlib.Core.Path.{ap₂, _∙_}
 use mathlib.Core.Bool.{Bool, true, false, cond}
-use Prim.Native.Nat.{ℕ, _≤_}
+use Prim.Native.Nat.{ℕ, _+_, _≤_}
 use native.Mathlib.Omega.{arith}
-use borrow.Author.Needs.{needs}
+use Rattle.theory.specs.Tally.{heldSum}
+use Rattle.line.specs.Outputs.{mostCuts}
 use Rattle.line.proofs.sample.counted.Statement.{statement}
 use Rattle.line.proofs.sample.counted.Tie as tie
 
@@ -11,28 +13,22 @@ most-one true = omega arith
 most-one false = omega arith
 
 one-requires : tie.Need-one-requires
-one-requires c κs = search needs
+one-requires c κs = tt
 
 one-requires-2 : tie.Need-one-requires-2
-one-requires-2 c κs = search needs
+one-requires-2 c κs = tt
 
-add-more : tie.Need-add-more
-add-more c =
+add-held-sum : tie.Need-add-held-sum
+add-held-sum c =
     let a = c .before .before .args in
     omega (arith, c .one2 .ensures, c .before .one .ensures, most-one (a .scaled), most-one (a .filtered))
 
-sub-if1 : tie.Need-sub-if1
-sub-if1 c = search needs
+held-sum-requires : tie.Need-held-sum-requires
+held-sum-requires c κs = tt
 
 returns : tie.Need-returns
-returns c = search needs
-
-add-result : tie.Need-add-result
-add-result c = search needs
-
-returns-2 : tie.Need-returns-2
-returns-2 c = search needs
+returns c = c .held-sum .ensures ∙ ap₂ {C = ℕ} (λ (i j : ℕ). heldSum mostCuts (c .before .before .before .args .cuts) (i + j)) (c .before .before .one .ensures) (c .before .one2 .ensures)
 
 pub counted-spec : {M : Type 1} → statement M
 counted-spec =
-    tie.close (tie.spec one-requires one-requires-2 add-more sub-if1 returns add-result returns-2)
+    tie.close (tie.spec one-requires one-requires-2 add-held-sum held-sum-requires returns)

@@ -2,7 +2,7 @@
 use mathlib.Core.Path.{sym, ap, _∙_}
 use borrow.Author.Needs.{needs}
 use Rattle.half_band.specs.HbfStream.{hbfStream, valueOf}
-use Rattle.line.specs.Line.{from5}
+use Rattle.chain.specs.Chain.{from5}
 use Rattle.line.proofs.Taking.{takes-none, takes-some}
 use Rattle.line.proofs.sample.half_band_in.Statement.{statement}
 use Rattle.line.proofs.sample.half_band_in.Tie as tie

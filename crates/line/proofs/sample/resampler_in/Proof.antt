@@ -1,5 +1,5 @@
 -- `resampler_in` meets its contract: off, the level is handed on; on, it is consumed.
-use mathlib.Core.Path.{_≡_, refl}
+use mathlib.Core.Path.{refl}
 use borrow.Author.Needs.{needs}
 use borrow.Author.Tests.{ne-eqb}
 use Rattle.float.specs.PolyphaseResamp.{inLine, isOn, consumed}

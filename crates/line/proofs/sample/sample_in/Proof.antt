@@ -1,7 +1,7 @@
 -- `sample_in` meets its contract: the decimator makes nothing, or a sum that, scaled and cut, the FIR takes.
 use mathlib.Core.Path.{_≡_, refl, sym, ap, _∙_}
 use mathlib.Core.List.{List}
-use mathlib.Core.Option.{Option, none, some}
+use mathlib.Core.Option.{Option}
 use Prim.Native.Nat.{ℕ, _^_}
 use native.Mathlib.Omega.{arith}
 use borrow.Author.Needs.{needs}
@@ -18,12 +18,13 @@ use Rattle.integer.specs.Gain.{gainBits}
 use Rattle.integer.specs.CicDecimator.{scaledBy, sumOf}
 use Rattle.nonrecursive.specs.EitherKind.{Thinner, thinnerOf, nextBy, outBy, kindOf, either}
 use Rattle.q15.specs.Fixed.{cut, isCut}
-use Rattle.q15.specs.FirDecimator.{cutIn, firSumOut}
 use Rattle.theory.specs.Tally.{heldSum}
 use Rattle.theory.proofs.Tally.{held-none}
 use Rattle.line.specs.Outputs.{mostCuts}
-use Rattle.line.specs.Line.{from3, cutsFor}
-use Rattle.line.specs.Together.{firOf, together}
+use Rattle.chain.specs.Chain.{from3}
+use Rattle.line.specs.Line.{cutsFor}
+use Rattle.chain.specs.Parts.{firOf}
+use Rattle.line.specs.Together.{together}
 use Rattle.line.specs.declared.gauge_line.Line.{Line}
 use Rattle.line.proofs.Taking.{takes-none, takes-some, two-cuts, takes-line}
 use Rattle.line.proofs.sample.sample_in.Statement.{statement}

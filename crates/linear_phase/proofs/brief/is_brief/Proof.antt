@@ -9,13 +9,16 @@ returns : tie.Need-returns
 returns c = λ e. absurd (true≢false (sym e))
 
 returns-2 : tie.Need-returns-2
-returns-2 c = λ e. absurd (true≢false (sym e))
+returns-2 c = λ e. omega (arith, c .before .if1 .left)
 
 returns-3 : tie.Need-returns-3
 returns-3 c = λ e. omega (arith, c .before .before .if1 .left)
 
 returns-4 : tie.Need-returns-4
-returns-4 c = λ e. omega (arith, c .before .before .if1 .left)
+returns-4 c = λ e. omega (arith, c .before .before .before .if1 .left)
+
+returns-5 : tie.Need-returns-5
+returns-5 c = λ e. omega (arith, c .before .before .before .if1 .left)
 
 pub is-brief-spec : {M : Type 1} → statement M
-is-brief-spec = tie.close (tie.spec returns returns-2 returns-3 returns-4)
+is-brief-spec = tie.close (tie.spec returns returns-2 returns-3 returns-4 returns-5)

@@ -106,7 +106,7 @@ outputs-back-requires : tie.Need-outputs-back-requires
 outputs-back-requires c κs =
     let m = c .before .before .before .before .before .before .before .before .before in
     let s = c .before .before .before .before .before .before .before .before .before .before .before .before .before .before .before .before .before .before .before in
-    ((s .pre .0 .0, omega (arith, reaches (s .args .odd) (length (now (s .args .taps))) (s .pre .0 .0) .least, s .pre .0), omega (arith, tape-long m, most s, s .pre .1 .1)), on-tape m)
+    ((s .pre .0 .0, omega (arith, reaches (s .args .odd) (length (now (s .args .taps))) (s .pre .0 .0) .least, s .pre .0), omega (arith, tape-long m, most s, s .pre .1 .1), omega (arith, tape-long m, most s)), on-tape m)
 
 same-length : tie.Need-same-length
 same-length c = search needs

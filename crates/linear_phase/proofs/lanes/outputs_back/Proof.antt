@@ -13,7 +13,7 @@ use lib.Seq.{length-take-le}
 use lib.Ieee.{Float, nan}
 use Rattle.linear_phase.specs.Windows.{centredValue, windowValues, picked}
 use Rattle.linear_phase.proofs.SideBySide.{rest, output-at, values-long}
-use Rattle.linear_phase.proofs.Backward.{picked-first, picked-other, group-window, group-fits, few-values, from, none-back, all-back, all-back-long, back-long, still, group-back}
+use Rattle.linear_phase.proofs.Backward.{none-left, picked-first, picked-other, group-window, group-fits, few-values, from, none-back, all-back, all-back-long, back-long, still, group-back}
 use Rattle.linear_phase.proofs.lanes.outputs_back.Statement.{statement}
 use Rattle.linear_phase.proofs.lanes.outputs_back.Tie as tie
 
@@ -91,20 +91,20 @@ picked-requires c κs = search needs
 picked-requires-2 : tie.Need-picked-requires-2 Inv-loop μ-loop
 picked-requires-2 c κs = search needs
 
-mul-outputs-at : tie.Need-mul-outputs-at Inv-loop μ-loop
-mul-outputs-at c = search (needs, starts c)
+mul-group-at : tie.Need-mul-group-at Inv-loop μ-loop
+mul-group-at c = search (needs, starts c)
 
-sub-outputs-at : tie.Need-sub-outputs-at Inv-loop μ-loop
-sub-outputs-at c = starts c
+sub-group-at : tie.Need-sub-group-at Inv-loop μ-loop
+sub-group-at c = starts c
 
-part-outputs-at-start : tie.Need-part-outputs-at-start Inv-loop μ-loop
-part-outputs-at-start c = starts c
+part-group-at-start : tie.Need-part-group-at-start Inv-loop μ-loop
+part-group-at-start c = starts c
 
-part-outputs-at-end : tie.Need-part-outputs-at-end Inv-loop μ-loop
-part-outputs-at-end c = search needs
+part-group-at-end : tie.Need-part-group-at-end Inv-loop μ-loop
+part-group-at-end c = search needs
 
-outputs-at-requires : tie.Need-outputs-at-requires Inv-loop μ-loop
-outputs-at-requires c κs = let s = c .before .before .before .before .before .before .before .before .before .before .before in (s .pre .0 .0, s .pre .0 .1, simp rest (simp length-drop (omega (arith, fits (c .before)))))
+group-at-requires : tie.Need-group-at-requires Inv-loop μ-loop
+group-at-requires c κs = let s = c .before .before .before .before .before .before .before .before .before .before .before in (s .pre .0 .1, simp rest (simp length-drop (omega (arith, fits (c .before)))))
 
 mul-put-all : tie.Need-mul-put-all Inv-loop μ-loop
 mul-put-all c = search needs
@@ -134,7 +134,7 @@ loop-again c =
     let h = c .before .before .before .before .before .before .before .before .before .before .loop-test .taken in
     let a = c .before .before .before .before .before .before .before .before .before .before .before .before .before .before .before .before .args in
     let g = output (now (a .tape)) (now (a .src)) (a .own) (now (a .taps)) (a .long) (a .minus) (a .centre) (now (a .span)) in
-    let o = c .before .before .before .before .outputs-at in
+    let o = c .before .before .before .before .group-at in
     let p = c .before .before .before .before .before .before in
     let line = now (p .picked2 .result) in
     let start = c .before .before .before .before .before .before .before .before .before .window-start .result in
@@ -149,23 +149,33 @@ loop-again c =
           (c .before .before .put-all .ensures),
     )
 
+same-length : tie.Need-same-length Inv-loop μ-loop
+same-length c = span-long (c .before .before)
+
+returns : tie.Need-returns Inv-loop μ-loop
+unfolding windowValues
+returns c =
+    let l = c .before .before .loop in
+    let a = c .before .before .before .before .before .before .before .args in
+    none-left (output (now (a .tape)) (now (a .src)) (a .own) (now (a .taps)) (a .long) (a .minus) (a .centre) (now (a .span))) (now (a .span)) (l .span) (l .end) (l .inv .0) (l .inv .1) (c .if1 .taken)
+
 slice-relend-prefix-few-outputs : tie.Need-slice-relend-prefix-few-outputs Inv-loop μ-loop
-slice-relend-prefix-few-outputs c = omega (arith, c .before .loop .inv .0, span-long (c .before))
+slice-relend-prefix-few-outputs c = omega (arith, c .before .before .loop .inv .0, span-long (c .before .before))
 
 slice-aggregate-few-outputs : tie.Need-slice-aggregate-few-outputs Inv-loop μ-loop
-slice-aggregate-few-outputs c = let m = c .before .before in sym (length-take-le (m .loop .end) (m .loop .span) (omega (arith, m .loop .inv .0, span-long m)))
+slice-aggregate-few-outputs c = let m = c .before .before .before in sym (length-take-le (m .loop .end) (m .loop .span) (omega (arith, m .loop .inv .0, span-long m)))
 
 few-outputs-requires : tie.Need-few-outputs-requires Inv-loop μ-loop
 few-outputs-requires c κs =
-    let m = c .before .before in
-    let s = c .before .before .before .before .before .before .before in
+    let m = c .before .before .before in
+    let s = c .before .before .before .before .before .before .before .before in
     let l = length-take-le (m .loop .end) (m .loop .span) (omega (arith, m .loop .inv .0, span-long m)) in
-    (s .pre .0 .0, s .pre .0 .1, omega (arith, l, s .pre .0 .2, m .loop .inv .0, c .before .loop-test .left))
+    (s .pre .0 .0, s .pre .0 .1, s .pre .0 .3, omega (arith, l, c .before .before .loop-test .left))
 
-same-length : tie.Need-same-length Inv-loop μ-loop
-same-length c =
-    let m = c .before .before .before .before .before in
-    let a = c .before .before .before .before .before .before .before .before .before .before .args in
+same-length-2 : tie.Need-same-length-2 Inv-loop μ-loop
+same-length-2 c =
+    let m = c .before .before .before .before .before .before in
+    let a = c .before .before .before .before .before .before .before .before .before .before .before .args in
     let l = m .loop in
     let g = output (now (a .tape)) (now (a .src)) (a .own) (now (a .taps)) (a .long) (a .minus) (a .centre) (now (a .span)) in
     all-back-long g (now (a .span)) (l .span) (l .end) (l .inv .0) (l .inv .1) (c .before .before .few-outputs .last .1 .1 .1 .1 .1 .0)
@@ -173,15 +183,15 @@ same-length c =
     ∙ values-long (a .centre) (a .minus) (now (a .taps)) (a .long) (now (a .tape)) (length (take (l .end) (l .span)))
     ∙ length-take-le (l .end) (l .span) (omega (arith, l .inv .0, span-long m)))
 
-returns : tie.Need-returns Inv-loop μ-loop
+returns-2 : tie.Need-returns-2 Inv-loop μ-loop
 unfolding windowValues
-returns c =
-    let m = c .before .before .before .before .before in
+returns-2 c =
+    let m = c .before .before .before .before .before .before in
     let l = m .loop in
-    let s = c .before .before .before .before .before .before .before .before .before .before in
+    let s = c .before .before .before .before .before .before .before .before .before .before .before in
     let a = s .args in
     let g = output (now (a .tape)) (now (a .src)) (a .own) (now (a .taps)) (a .long) (a .minus) (a .centre) (now (a .span)) in
-    let h = c .before .before .before .before .loop-test .left in
+    let h = c .before .before .before .before .before .loop-test .left in
     let n = length-take-le (l .end) (l .span) (omega (arith, l .inv .0, span-long m)) in
     all-back g (now (a .span)) (l .span) (l .end) (l .inv .0) (l .inv .1) _
     (c .before .before .few-outputs .ensures
@@ -189,4 +199,4 @@ returns c =
     ∙ few-values (a .long) (now (a .tape)) (picked (a .own) (now (a .span)) (now (a .src))) (length (now (a .span))) (s .pre .0 .2) (s .pre .1) (a .centre) (a .minus) (now (a .taps)) (l .end) (l .inv .0) (omega (arith, h)))
 
 pub outputs-back-spec : {M : Type 1} → statement M
-outputs-back-spec = tie.close (tie.spec Inv-loop μ-loop loop-holds window-start-requires picked-requires picked-requires-2 mul-outputs-at sub-outputs-at part-outputs-at-start part-outputs-at-end outputs-at-requires mul-put-all sub-put-all part-put-all-start part-put-all-end put-all-requires loop-less loop-again slice-relend-prefix-few-outputs slice-aggregate-few-outputs few-outputs-requires same-length returns)
+outputs-back-spec = tie.close (tie.spec Inv-loop μ-loop loop-holds window-start-requires picked-requires picked-requires-2 mul-group-at sub-group-at part-group-at-start part-group-at-end group-at-requires mul-put-all sub-put-all part-put-all-start part-put-all-end put-all-requires loop-less loop-again same-length returns slice-relend-prefix-few-outputs slice-aggregate-few-outputs few-outputs-requires same-length-2 returns-2)

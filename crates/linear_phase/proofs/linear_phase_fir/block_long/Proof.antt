@@ -25,17 +25,20 @@ usable s = record { least = s .pre .0; most = s .pre .1; coeffs-long = s .pre .2
 reach-requires : tie.Need-reach-requires
 reach-requires c κs = (c .before .before .before .before .pre .0, c .before .before .before .before .pre .1)
 
-slice-relend-prefix-filter-single : tie.Need-slice-relend-prefix-filter-single
-slice-relend-prefix-filter-single c = let r = c .before .reach in lent (lent-to (c .before .before .before .before .before .before)) (usable (c .before .before .before .before .before .before)) (r .result) (r .ensures)
+slice-relend-prefix-filter-few : tie.Need-slice-relend-prefix-filter-few
+slice-relend-prefix-filter-few c = let r = c .before .reach in lent (lent-to (c .before .before .before .before .before .before)) (usable (c .before .before .before .before .before .before)) (r .result) (r .ensures)
 
-slice-aggregate-filter-single : tie.Need-slice-aggregate-filter-single
-slice-aggregate-filter-single c = let r = c .before .before .reach in sym (length-take-le _ _ (lent (lent-to (c .before .before .before .before .before .before .before)) (usable (c .before .before .before .before .before .before .before)) (r .result) (r .ensures)))
+slice-aggregate-filter-few : tie.Need-slice-aggregate-filter-few
+slice-aggregate-filter-few c = let r = c .before .before .reach in sym (length-take-le _ _ (lent (lent-to (c .before .before .before .before .before .before .before)) (usable (c .before .before .before .before .before .before .before)) (r .result) (r .ensures)))
 
-slice-aggregate-filter-single-2 : tie.Need-slice-aggregate-filter-single-2
-slice-aggregate-filter-single-2 c = sym (taps-long (lent-to (c .before .before .before .before .before .before .before .before)) (usable (c .before .before .before .before .before .before .before .before)))
+slice-aggregate-filter-few-2 : tie.Need-slice-aggregate-filter-few-2
+slice-aggregate-filter-few-2 c = sym (taps-long (lent-to (c .before .before .before .before .before .before .before .before)) (usable (c .before .before .before .before .before .before .before .before)))
 
-filter-single-requires : tie.Need-filter-single-requires
-filter-single-requires c κs = let r = c .before .before .before .before .reach in let p = ready (lent-to (c .before .before .before .before .before .before .before .before .before)) (usable (c .before .before .before .before .before .before .before .before .before)) (r .result) (r .ensures) in let e = c .before .before .before .if1 .taken in (p .0, p .1, p .2, c .before .before .before .before .before .before .before .before .before .pre .4 ∙ e, e)
+filter-few-requires : tie.Need-filter-few-requires
+filter-few-requires c κs =
+    let s = c .before .before .before .before .before .before .before .before .before in
+    let r = c .before .before .before .before .reach in
+    (ready (lent-to s) (usable s) (r .result) (r .ensures), (ap length (picked-other false (now (s .args .span)) (now (s .args .src)) refl) ∙ sym (s .pre .4), omega (arith, c .before .before .before .if1 .taken, s .pre .4)))
 
 same-length : tie.Need-same-length
 same-length c = search needs
@@ -45,40 +48,9 @@ same-length-2 c = search needs
 
 returns : tie.Need-returns
 returns c =
-    let a = c .before .before .before .before .before .before .before .before .before .before .before .before .before .before .args in
-    let d = lent-to (c .before .before .before .before .before .before .before .before .before .before .before .before .before .before) in
-    let u = usable (c .before .before .before .before .before .before .before .before .before .before .before .before .before .before) in
-    let r = c .before .before .before .before .before .before .before .before .before .reach in
-    let v = now (a .src) in
-    let o = c .before .before .before .before .filter-single in
-    (state-is d u (r .result) (r .ensures) v _ (o .ensures .0), outs-are d u (r .result) (r .ensures) v _ (o .ensures .1))
-
-slice-relend-prefix-filter-few : tie.Need-slice-relend-prefix-filter-few
-slice-relend-prefix-filter-few c = let r = c .before .before .reach in lent (lent-to (c .before .before .before .before .before .before .before)) (usable (c .before .before .before .before .before .before .before)) (r .result) (r .ensures)
-
-slice-aggregate-filter-few : tie.Need-slice-aggregate-filter-few
-slice-aggregate-filter-few c = let r = c .before .before .before .reach in sym (length-take-le _ _ (lent (lent-to (c .before .before .before .before .before .before .before .before)) (usable (c .before .before .before .before .before .before .before .before)) (r .result) (r .ensures)))
-
-slice-aggregate-filter-few-2 : tie.Need-slice-aggregate-filter-few-2
-slice-aggregate-filter-few-2 c = sym (taps-long (lent-to (c .before .before .before .before .before .before .before .before .before)) (usable (c .before .before .before .before .before .before .before .before .before)))
-
-filter-few-requires : tie.Need-filter-few-requires
-filter-few-requires c κs =
-    let s = c .before .before .before .before .before .before .before .before .before .before in
-    let r = c .before .before .before .before .before .reach in
-    (ready (lent-to s) (usable s) (r .result) (r .ensures), (ap length (picked-other false (now (s .args .span)) (now (s .args .src)) refl) ∙ sym (s .pre .4), omega (arith, c .before .before .before .if2 .taken, s .pre .4)))
-
-same-length-3 : tie.Need-same-length-3
-same-length-3 c = search needs
-
-same-length-4 : tie.Need-same-length-4
-same-length-4 c = search needs
-
-returns-2 : tie.Need-returns-2
-returns-2 c =
-    let s = c .before .before .before .before .before .before .before .before .before .before .before .before .before .before .before in
+    let s = c .before .before .before .before .before .before .before .before .before .before .before .before .before .before in
     let a = s .args in
-    let r = c .before .before .before .before .before .before .before .before .before .before .reach in
+    let r = c .before .before .before .before .before .before .before .before .before .reach in
     let v = now (a .src) in
     let f = linearPhase (a .odd) (a .antisymmetric) (phaseTaps (lent-to s)) in
     let o = c .before .before .before .before .filter-few in (
@@ -90,23 +62,23 @@ is-short-requires : tie.Need-is-short-requires
 is-short-requires c κs = search needs
 
 slice-aggregate-filter-short : tie.Need-slice-aggregate-filter-short
-slice-aggregate-filter-short c = sym (taps-long (lent-to (c .before .before .before .before .before .before .before .before .before .before .before)) (usable (c .before .before .before .before .before .before .before .before .before .before .before)))
+slice-aggregate-filter-short c = sym (taps-long (lent-to (c .before .before .before .before .before .before .before .before .before .before)) (usable (c .before .before .before .before .before .before .before .before .before .before)))
 
 filter-short-requires : tie.Need-filter-short-requires
-filter-short-requires c κs = let r = c .before .before .before .before .before .before .before .reach in let p = ready (lent-to (c .before .before .before .before .before .before .before .before .before .before .before .before)) (usable (c .before .before .before .before .before .before .before .before .before .before .before .before)) (r .result) (r .ensures) in let h = c .before .before .before .before .is-short .ensures (c .before .before .before .if3 .taken) in ((p .0, p .1, sym (length-take-le _ _ (lent (lent-to (c .before .before .before .before .before .before .before .before .before .before .before .before)) (usable (c .before .before .before .before .before .before .before .before .before .before .before .before)) (r .result) (r .ensures))) ∙ p .2, c .before .before .before .before .before .before .before .before .before .before .before .before .pre .3), (h .0, omega (arith, h .1, c .before .before .before .before .before .before .before .before .before .before .before .before .pre .4), ap length (picked-other false (now (c .before .before .before .before .before .before .before .before .before .before .before .before .args .span)) (now (c .before .before .before .before .before .before .before .before .before .before .before .before .args .src)) refl) ∙ sym (c .before .before .before .before .before .before .before .before .before .before .before .before .pre .4)))
+filter-short-requires c κs = let r = c .before .before .before .before .before .before .reach in let p = ready (lent-to (c .before .before .before .before .before .before .before .before .before .before .before)) (usable (c .before .before .before .before .before .before .before .before .before .before .before)) (r .result) (r .ensures) in let h = c .before .before .before .before .is-short .ensures (c .before .before .before .if2 .taken) in ((p .0, p .1, sym (length-take-le _ _ (lent (lent-to (c .before .before .before .before .before .before .before .before .before .before .before)) (usable (c .before .before .before .before .before .before .before .before .before .before .before)) (r .result) (r .ensures))) ∙ p .2, c .before .before .before .before .before .before .before .before .before .before .before .pre .3), (h .0, omega (arith, h .1, c .before .before .before .before .before .before .before .before .before .before .before .pre .4), ap length (picked-other false (now (c .before .before .before .before .before .before .before .before .before .before .before .args .span)) (now (c .before .before .before .before .before .before .before .before .before .before .before .args .src)) refl) ∙ sym (c .before .before .before .before .before .before .before .before .before .before .before .pre .4)))
 
-same-length-5 : tie.Need-same-length-5
-same-length-5 c = search needs
+same-length-3 : tie.Need-same-length-3
+same-length-3 c = search needs
 
-same-length-6 : tie.Need-same-length-6
-same-length-6 c = search needs
+same-length-4 : tie.Need-same-length-4
+same-length-4 c = search needs
 
-returns-3 : tie.Need-returns-3
-returns-3 c =
-    let a = c .before .before .before .before .before .before .before .before .before .before .before .before .before .before .before .before .before .args in
-    let d = lent-to (c .before .before .before .before .before .before .before .before .before .before .before .before .before .before .before .before .before) in
-    let u = usable (c .before .before .before .before .before .before .before .before .before .before .before .before .before .before .before .before .before) in
-    let r = c .before .before .before .before .before .before .before .before .before .before .before .before .reach in
+returns-2 : tie.Need-returns-2
+returns-2 c =
+    let a = c .before .before .before .before .before .before .before .before .before .before .before .before .before .before .before .before .args in
+    let d = lent-to (c .before .before .before .before .before .before .before .before .before .before .before .before .before .before .before .before) in
+    let u = usable (c .before .before .before .before .before .before .before .before .before .before .before .before .before .before .before .before) in
+    let r = c .before .before .before .before .before .before .before .before .before .before .before .reach in
     let v = now (a .src) in
     let f = linearPhase (a .odd) (a .antisymmetric) (phaseTaps d) in
     let o = c .before .before .before .before .filter-short in (
@@ -116,33 +88,33 @@ returns-3 c =
     )
 
 slice-relend-prefix-filter : tie.Need-slice-relend-prefix-filter
-slice-relend-prefix-filter c = let r = c .before .before .before .before .reach in lent (lent-to (c .before .before .before .before .before .before .before .before .before)) (usable (c .before .before .before .before .before .before .before .before .before)) (r .result) (r .ensures)
+slice-relend-prefix-filter c = let r = c .before .before .before .reach in lent (lent-to (c .before .before .before .before .before .before .before .before)) (usable (c .before .before .before .before .before .before .before .before)) (r .result) (r .ensures)
 
 slice-aggregate-filter : tie.Need-slice-aggregate-filter
-slice-aggregate-filter c = let r = c .before .before .before .before .before .reach in sym (length-take-le _ _ (lent (lent-to (c .before .before .before .before .before .before .before .before .before .before)) (usable (c .before .before .before .before .before .before .before .before .before .before)) (r .result) (r .ensures)))
+slice-aggregate-filter c = let r = c .before .before .before .before .reach in sym (length-take-le _ _ (lent (lent-to (c .before .before .before .before .before .before .before .before .before)) (usable (c .before .before .before .before .before .before .before .before .before)) (r .result) (r .ensures)))
 
 slice-aggregate-filter-2 : tie.Need-slice-aggregate-filter-2
-slice-aggregate-filter-2 c = sym (taps-long (lent-to (c .before .before .before .before .before .before .before .before .before .before .before)) (usable (c .before .before .before .before .before .before .before .before .before .before .before)))
+slice-aggregate-filter-2 c = sym (taps-long (lent-to (c .before .before .before .before .before .before .before .before .before .before)) (usable (c .before .before .before .before .before .before .before .before .before .before)))
 
 filter-requires : tie.Need-filter-requires
-filter-requires c κs = let r = c .before .before .before .before .before .before .before .reach in let p = ready (lent-to (c .before .before .before .before .before .before .before .before .before .before .before .before)) (usable (c .before .before .before .before .before .before .before .before .before .before .before .before)) (r .result) (r .ensures) in (p, ap length (picked-other false (now (c .before .before .before .before .before .before .before .before .before .before .before .before .args .span)) (now (c .before .before .before .before .before .before .before .before .before .before .before .before .args .src)) refl) ∙ sym (c .before .before .before .before .before .before .before .before .before .before .before .before .pre .4))
+filter-requires c κs = let r = c .before .before .before .before .before .before .reach in let p = ready (lent-to (c .before .before .before .before .before .before .before .before .before .before .before)) (usable (c .before .before .before .before .before .before .before .before .before .before .before)) (r .result) (r .ensures) in (p, ap length (picked-other false (now (c .before .before .before .before .before .before .before .before .before .before .before .args .span)) (now (c .before .before .before .before .before .before .before .before .before .before .before .args .src)) refl) ∙ sym (c .before .before .before .before .before .before .before .before .before .before .before .pre .4))
 
-same-length-7 : tie.Need-same-length-7
-same-length-7 c = search needs
+same-length-5 : tie.Need-same-length-5
+same-length-5 c = search needs
 
-same-length-8 : tie.Need-same-length-8
-same-length-8 c = search needs
+same-length-6 : tie.Need-same-length-6
+same-length-6 c = search needs
 
-returns-4 : tie.Need-returns-4
-returns-4 c =
-    let a = c .before .before .before .before .before .before .before .before .before .before .before .before .before .before .before .before .before .args in
-    let d = lent-to (c .before .before .before .before .before .before .before .before .before .before .before .before .before .before .before .before .before) in
-    let u = usable (c .before .before .before .before .before .before .before .before .before .before .before .before .before .before .before .before .before) in
-    let r = c .before .before .before .before .before .before .before .before .before .before .before .before .reach in
+returns-3 : tie.Need-returns-3
+returns-3 c =
+    let a = c .before .before .before .before .before .before .before .before .before .before .before .before .before .before .before .before .args in
+    let d = lent-to (c .before .before .before .before .before .before .before .before .before .before .before .before .before .before .before .before) in
+    let u = usable (c .before .before .before .before .before .before .before .before .before .before .before .before .before .before .before .before) in
+    let r = c .before .before .before .before .before .before .before .before .before .before .before .reach in
     let v = now (a .src) in
     let f = linearPhase (a .odd) (a .antisymmetric) (phaseTaps d) in
     let o = c .before .before .before .before .filter in
     (state-is d u (r .result) (r .ensures) v _ (o .ensures .0 ∙ ap (state f (take (r .result) (now (a .delay)))) (picked-other false (now (a .span)) (now (a .src)) refl)), outs-are d u (r .result) (r .ensures) v _ (o .ensures .1 ∙ ap (outs f (take (r .result) (now (a .delay)))) (picked-other false (now (a .span)) (now (a .src)) refl)))
 
 pub block-long-spec : {M : Type 1} → statement M
-block-long-spec = tie.close (tie.spec reach-requires slice-relend-prefix-filter-single slice-aggregate-filter-single slice-aggregate-filter-single-2 filter-single-requires same-length same-length-2 returns slice-relend-prefix-filter-few slice-aggregate-filter-few slice-aggregate-filter-few-2 filter-few-requires same-length-3 same-length-4 returns-2 is-short-requires slice-aggregate-filter-short filter-short-requires same-length-5 same-length-6 returns-3 slice-relend-prefix-filter slice-aggregate-filter slice-aggregate-filter-2 filter-requires same-length-7 same-length-8 returns-4)
+block-long-spec = tie.close (tie.spec reach-requires slice-relend-prefix-filter-few slice-aggregate-filter-few slice-aggregate-filter-few-2 filter-few-requires same-length same-length-2 returns is-short-requires slice-aggregate-filter-short filter-short-requires same-length-3 same-length-4 returns-2 slice-relend-prefix-filter slice-aggregate-filter slice-aggregate-filter-2 filter-requires same-length-5 same-length-6 returns-3)

@@ -1,0 +1,5 @@
+pub mod Mapping
+pub mod Batching
+pub mod Sections
+pub mod Leaving
+pub mod Running

@@ -1,0 +1,4 @@
+pub mod Chain
+pub mod Parts
+pub mod Batched
+pub mod Counting
