@@ -25,7 +25,7 @@ help: ## at once | this list
 run: ## 5 s | the bundled recording through the bundled settings, beside a line whose integrator holds
 	@examples/demo/run.sh
 
-test: ## 45 to 75 min | the whole gate; SEEDS="7 8" gives the comparison other seeds
+test: ## 45 to 80 min | the whole gate; SEEDS="7 8" gives the comparison other seeds
 	@tests/run.sh $(SEEDS)
 
 readings: ## 1 min, then 1 s | 01's readings through the proved converters, printed
