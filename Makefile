@@ -1,4 +1,4 @@
-# `make help` prints the commands. Each stands below as NAME: ## HOW LONG | WHAT IT DOES, with the archive made; times are of a machine with two cores.
+# `make help` prints the commands. Each stands below as NAME: ## HOW LONG | WHAT IT DOES, with the archive made; times are of a machine with four cores.
 .PHONY: all help run test readings host compare bench bench-instructions bench-peers bench-flat targets firmware python page install review
 .DELETE_ON_ERROR:
 
@@ -15,23 +15,23 @@ export GAUGE_TARGET := $(TARGET)
 # Scripts read text as bytes, whatever the locale.
 export LC_ALL := C
 
-all: ## 10 min, then 1 s | the proved archive and the tools, and where they are; proved again only where a source or the kit has changed
+all: ## 15 min, then 1 s | the proved archive and the tools, and where they are; proved again only where a source or the kit has changed
 	@host/build.sh
 
 help: ## at once | this list
 	@sed -n 's/^\([a-z-]*\):.*## \(.*\) | \(.*\)/\1|\2|\3/p' Makefile | awk -F '|' '{ printf "make %-20s %-18s %s\n", $$1 == "all" ? "" : $$1, $$2, $$3 }'
-	@echo "On two cores, with the archive made. TARGET=DIR builds in another folder than target/; GAUGE_ARCHIVE=FILE links another archive."
+	@echo "On four cores, with the archive made. TARGET=DIR builds in another folder than target/; GAUGE_ARCHIVE=FILE links another archive."
 
 run: ## 5 s | the bundled recording through the bundled settings, beside a line whose integrator holds
 	@examples/demo/run.sh
 
-test: ## 45 to 80 min | the whole gate; SEEDS="7 8" gives the comparison other seeds
+test: ## 1 h | the whole gate; SEEDS="7 8" gives the comparison other seeds
 	@tests/run.sh $(SEEDS)
 
 readings: ## 1 min, then 1 s | 01's readings through the proved converters, printed
 	@host/readings.sh
 
-review: ## 2 min | for a reviewer: what the archive is made of, the readings, and three edits that the prover refuses
+review: ## 5 min | for a reviewer: what the archive is made of, the readings, and three edits that the prover refuses
 	@host/review.sh
 
 host: ## 2 min | the interfaces for C, Rust and Python, the tool, the demo and the pages, checked and run

@@ -1,7 +1,8 @@
-# shellcheck shell=bash
+# shellcheck shell=bash disable=SC2034 # target is for those who source it
 # What the scripts share; each sources it first. It goes to the top of the repository and has text read as bytes.
 # GAUGE_TARGET names the folder for all that is built, else it is target/; GAUGE_ARCHIVE another archive to link, else it is the proved one. Either
 # may be relative, which means to the top of the repository whatever the caller's folder is, and empty is the same as not set.
+# What rt keeps of a proof stands in crates/NAME/out. In the checkout `rt ci` turns back links and every .rt or .antt file that is of no crate: a script that makes some makes them elsewhere.
 set -euo pipefail
 export LC_ALL=C
 cd "$(dirname "${BASH_SOURCE[0]}")/.."
@@ -39,15 +40,7 @@ shown() {
     realpath --canonicalize-missing --relative-base=. "$1"
 }
 
-# in_target WORDS: rt with these words, which writes to `target` beside crates.txt. Where $target is another folder, rt runs in one inside it that stands
-# for this one by links.
-in_target() {
-    local tree=.
-    if [[ $target != "$PWD/target" ]]; then
-        tree=$target/tree
-        mkdir -p "$tree"
-        ln -sfn "$PWD/crates" "$PWD/crates.txt" "$tree/"
-        ln -sfn .. "$tree/target"
-    fi
-    (cd "$tree" && rt "$@")
+# in_crate NAME WORDS: rt with these words, for the crate.
+in_crate() {
+    (cd "crates/$1" && rt "${@:2}")
 }

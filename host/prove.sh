@@ -5,44 +5,56 @@ set -euo pipefail
 . "$(dirname "$0")/common.sh"
 
 need_rt
-kit=$(dirname "$(dirname "$(rt doc)")")
-tools=on/$(uname -m)/toolchain
-like=$target/kit
+. host/crates.sh
 to=$target/staticlib
+log=$target/staticlib.log
+like=$(mktemp -d)
+trap 'rm -rf "$like"' EXIT
 
-# mirror FOLDER NAME: links to all that the kit has in this folder, but for NAME.
-mirror() {
+# The kit's toolchain once more, with a clang that keeps the module it is handed: so the archive is made as ever, and of this module.
+like_toolchain() {
     local one
-    mkdir -p "$like/$1"
-    for one in "$kit/$1"/*; do
-        [[ ${one##*/} == "$2" ]] || ln -s "$one" "$like/$1/"
+    mkdir "$like/bin"
+    for one in "$kit"/toolchain/*; do
+        [[ ${one##*/} == bin ]] || ln -s "$one" "$like/"
     done
-}
-
-# The kit once more, with a clang that keeps the module it is handed: so rt makes the archive as ever, and of this module.
-mirrored_kit() {
-    mirror . on
-    mirror "${tools%/*}" toolchain
-    mirror "$tools" bin
-    mirror "$tools/bin" clang
-    cat >"$like/$tools/bin/clang" <<END
+    for one in "$kit"/toolchain/bin/*; do
+        [[ ${one##*/} == clang ]] || ln -s "$one" "$like/bin/"
+    done
+    cat >"$like/bin/clang" <<END
 #!/bin/sh
 for word; do
     case \$word in *.bc) cp "\$word" "$to/module.bc" ;; esac
 done
-exec "$kit/$tools/bin/clang" "\$@"
+exec "$kit/toolchain/bin/clang" "\$@"
 END
-    chmod +x "$like/$tools/bin/clang"
+    chmod +x "$like/bin/clang"
 }
 
-[[ -x $kit/$tools/bin/clang ]] || stop "the kit has no $tools/bin/clang: targets/README.md says what it is for"
-rm -rf "$like" "$to"
+# The crate and what it stands on, over what rt kept. Behind `rt ci` the libraries stand, so that the crate alone is left, which the build proves.
+proved() {
+    if host/left_by_ci.sh below gauge_line; then
+        kept=(--jobs 1)
+    else
+        kept=(--jobs 1 --incremental out/incremental)
+        in_crate gauge_line check
+    fi
+}
+
+# The code is for every x86-64, as it always was; the kit's own default asks for a later one.
+built() {
+    words_for gauge_line
+    (cd crates/gauge_line && "$kit/bin/rattle" build "${words[@]}" "${kept[@]}" --cpu x86-64 --toolchain "$like" --backend llvm -o "$to/libgauge_line.a")
+}
+
+[[ -x $kit/toolchain/bin/clang ]] || stop "the kit has no toolchain/bin/clang: targets/README.md says what it is for"
+rm -rf "$to"
 mkdir -p "$to"
-mirrored_kit
+like_toolchain
 sources=$(host/digest.sh)
 echo "proving the archive: minutes from a fresh clone, less where crates are unchanged" >&2
-if ! RATTLE_HOME=$like in_target staticlib gauge_line 2>&1 | tee "$target/staticlib.log" | { grep --line-buffered '^rt: ' || true; } >&2; then
-    tail -n 20 "$target/staticlib.log" >&2
+if ! { proved && built; } 2>&1 | tee "$log" | { grep --line-buffered '^rt: ' || true; } >&2; then
+    tail -n 20 "$log" >&2
     exit 1
 fi
 digests=$(cd "$to" && sha256sum libgauge_line.a module.bc)

@@ -6,55 +6,29 @@ set -euo pipefail
 
 crate=integer
 edits=(integrator_holds_at_the_top moving_sums_of_holding_integrators state_changed_on_refusal)
-copy=$target/review
-log=$copy/check.log
 
-# A tree of its own over what is proved already, so that an edit touches nothing here.
-copied() {
-    rm -rf "$copy"
-    mkdir -p "$copy/target"
-    cp -r crates crates.txt "$copy/"
-    cp -r "$target/stamp" "$copy/target/"
-    ln -s "$target/rlib" "$copy/target/rlib"
-    # What an author's own checks left is checked no second time.
-    [[ ! -d $target/inc/$crate ]] || { mkdir "$copy/target/inc" && cp -r "$target/inc/$crate" "$copy/target/inc/"; }
-}
-
-# checked: the copy's crate, as its author would check it; only what an edit touches is checked anew.
-checked() {
-    (cd "$copy" && rt dev "$crate") >"$log" 2>&1
-}
-
-# with_edit FILE: makes in the copy the replacements that the edit has, and prints them.
-with_edit() {
-    local line file='' old='' content
+# changes FILE: the replacements that the edit has.
+changes() {
+    local line file=''
     while IFS= read -r line; do
         case $line in
-        'file: '*) file=$copy/crates/$crate/${line#file: } ;;
-        'old: '*) old=${line#old: } ;;
-        'new: '*)
-            content=$(<"$file")
-            [[ $content == *"$old"* ]] || stop "review: $1 does not fit $file"
-            printf '%s\n' "${content/"$old"/"${line#new: }"}" >"$file"
-            printf '    in %s\n    - %s\n    + %s\n' "${file#"$copy"/}" "$old" "${line#new: }"
-            ;;
+        'file: '*) file=crates/$crate/${line#file: } ;;
+        'old: '*) printf '    in %s\n    - %s\n' "$file" "${line#old: }" ;;
+        'new: '*) printf '    + %s\n' "${line#new: }" ;;
         esac
     done <"$1"
 }
 
-# refused NAME: the edit by this name, tried and taken back.
+# refused NAME: what the edit by this name changes, and what came of it.
 refused() {
-    local edit began=$SECONDS
-    edit=$(find "crates/$crate" -name "$1.edit")
-    [[ -f $edit ]] || stop "review: no edit $1 in crates/$crate"
+    local edit said log=$target/edits/$crate/$1.log
+    edit=$(find "crates/$crate/must-fail" "crates/$crate/edits" -name "$1.edit")
     echo "$1: $(sed -n '1s/^# //p' "$edit")"
-    with_edit "$edit"
-    ! checked || stop "review: $edit was NOT refused"
-    grep -q '^logic=not-proved' "$log" || stop "review: the prover was not reached: $(tail -n 3 "$log")"
-    echo "    refused after $((SECONDS - began)) s, $(grep -cE '^fn .*: (no proof|not proved)' "$log") functions without a proof; the first error:"
-    grep -m 1 ': error' "$log" | sed "s|$copy/||; s/^/    /" | cut -c 1-220
-    rm -rf "$copy/crates/$crate"
-    cp -r "crates/$crate" "$copy/crates/"
+    changes "$edit"
+    said=$(grep "^$crate/$1 refused" "$tried")
+    said=${said#*refused (}
+    echo "    refused after ${said%%)*}, $(grep -cE '^fn .*: (no proof|not proved)' "$log") functions without a proof; the first error:"
+    echo "    ${said#*): }"
 }
 
 archive=$(GAUGE_ARCHIVE='' host/archive.sh)
@@ -67,10 +41,11 @@ echo
 echo "2. 01's readings, by a program over the same crates:"
 host/readings.sh | sed 's/^/   /'
 echo
-echo "3. Three edits of crates/$crate, in a copy of the tree: $(shown "$copy")"
-copied
-checked || stop "review: the crate is not proved as it stands: $(shown "$log")"
-echo "   as it stands: $(grep '^logic=' "$log" | tail -n 1)"
+echo "3. Three edits of crates/$crate, each in a copy of it: $(shown "$target/edits/$crate")"
+tried=$(mktemp)
+trap 'rm -f "$tried"' EXIT
+tests/edits "$crate" "${edits[@]}" >"$tried" || stop "review: not each edit was refused: $(<"$tried")"
+echo "   as it stands: $(grep '^logic=' "$target/edits/$crate/clean.log" | tail -n 1)"
 for edit in "${edits[@]}"; do
     refused "$edit"
 done

@@ -10,10 +10,11 @@ GAUGE_ARCHIVE='' host/archive.sh >/dev/null
 rm -rf "$to"
 mkdir -p "$to/bin"
 
-# One program, which is each of these by its name.
-clang=$(dirname "$(dirname "$(rt doc)")")/on/$(uname -m)/toolchain/bin/clang
+# One program, which is each of these by its name. No links: `rt ci` wants none in target/.
+clang=$(dirname "$(rt doc)")/toolchain/bin/clang
 for tool in clang wasm-ld llvm-ar; do
-    ln -s "$clang" "$to/bin/$tool"
+    printf '#!/bin/bash\nexec -a %q %q "$@"\n' "$tool" "$clang" >"$to/bin/$tool"
+    chmod +x "$to/bin/$tool"
 done
 "$to/bin/clang" -x ir "$from/module.bc" -S -emit-llvm -O0 -Xclang -disable-llvm-passes -o "$to/module.ll"
 cp "$from/gauge_line.digest" "$to/made_of"

@@ -12,7 +12,8 @@ case $triple in
 esac
 sed -e '/^target triple /d' -e '/^target datalayout /d' -e 's/ "target-cpu"="x86-64"//' -e "$probes" "$from/module.ll" >"${object%.o}.ll"
 
-# The driver's own words for x86-64, and no fused operation: each rounds once.
+# The kit's own words for x86-64 but for those that no other machine has, and no fused operation: each rounds once.
 "$from/bin/clang" --target="$triple" -O3 -ffp-contract=off -ffunction-sections -fdata-sections \
-    -mllvm -trap-unreachable -mllvm -no-trap-after-noreturn --no-default-config -fno-crash-diagnostics \
+    -mllvm -trap-unreachable -mllvm -no-trap-after-noreturn -mllvm -disable-machine-licm -mllvm -disable-postra-machine-licm \
+    -mllvm -sink-common-insts=false --no-default-config -fno-crash-diagnostics \
     -Werror -Wno-override-module "$@" -c -x ir "${object%.o}.ll" -o "$object"

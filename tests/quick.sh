@@ -40,6 +40,25 @@ shell_scripts() {
     echo "quick: shell scripts"
 }
 
+# `rt fmt` writes; this only looks, as `rt ci` does once more.
+rattle_layout() {
+    local files
+    mapfile -t files < <(tracked 'crates/*.rt' 'crates/*.antt')
+    "$(dirname "$(rt doc)")/bin/rattle" fmt --check "${files[@]}" || stop "quick: the files named above are not in the layout: run rt fmt in their crates' folders"
+    echo "quick: layout of Rattle"
+}
+
+# What rt ci turns back before it proves anything: a source that is of no crate, a link.
+nothing_stray() {
+    local crates file
+    crates=$(sed -n -e 's/#.*//' -e 's/^ *\([A-Za-z_0-9]*\)[^:]*:.*/\1/p' crates.txt | paste -sd '|')
+    while read -r file; do
+        [[ $file =~ ^crates/($crates)/(src/.*\.rt|(specs|proofs)/.*\.antt)$ ]] || stop "quick: $file is of no crate"
+    done < <(tracked '*.rt' '*.antt')
+    file=$(git ls-files -s | sed -n 's/^120000 [^\t]*\t//p' | head -n 1)
+    [[ -z $file ]] || stop "quick: $file is a link"
+}
+
 c_layout() {
     have clang-format || return 0
     tracked '*.c' '*.h' | xargs clang-format --dry-run -Werror
@@ -73,7 +92,8 @@ need_rt
 need_cargo
 commands_told
 one_version
-rt fmt --check
+nothing_stray
+rattle_layout
 shell_scripts
 c_layout
 rust_layout

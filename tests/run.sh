@@ -3,7 +3,7 @@
 # run on another machine. What was left out is said before the last line, which is rt ci's.
 set -euo pipefail
 . "$(dirname "$0")/../host/common.sh"
-[[ $target == "$PWD/target" ]] || stop "the gate writes to target/, which rt ci removes first: run it without TARGET"
+[[ $target == "$PWD/target" ]] || stop "the gate writes to target/: run it without TARGET"
 need_rt
 need_cargo
 
@@ -16,6 +16,8 @@ trap 'wait; rm -f "$log" "$made" "$told" "$GAUGE_SKIPPED"' EXIT
 host/kit.sh 2> >(tee -a "$GAUGE_SKIPPED" >&2)
 tests/quick.sh
 rt ci 2>&1 | tee "$log"
+tests/bad_edits.sh "$log"
+host/left_by_ci.sh note
 
 # Always the archive of what was just proved. Making it keeps one core busy, so the edits are tried beside it; what it says comes after them.
 unset GAUGE_ARCHIVE
@@ -31,5 +33,9 @@ tests/host/run.sh
 tests/build/run.sh
 tests/page/run.sh
 targets/run.sh cortex_m4
+
+# What would have the next `rt ci` turn this checkout back.
+stray=$(find target \( -type l -o -name '*.rt' -o -name '*.antt' -o -name crates.txt -o -name .git \) -print -quit)
+[[ -z $stray ]] || stop "gate: $stray stands where rt ci wants nothing of its kind"
 awk '!said[$0]++' "$GAUGE_SKIPPED"
 tail -n 1 "$log"

@@ -9,22 +9,22 @@ unset GAUGE_ARCHIVE GAUGE_TARGET GAUGE_SKIPPED
 tree=$scratch/tree
 export KIT=$scratch/kit COUNT=$scratch/count
 
-# The tree has the scripts and two crates; the kit a clang and a name; bin the stand-in and what the scripts call.
+# The tree has the scripts and four crates; the kit a clang, a stand-in for its compiler and a name; bin the stand-in for rt and what the scripts call.
 set_up() {
-    local tool tools
-    tools=$KIT/on/$(uname -m)/toolchain/bin
-    mkdir -p "$tree/tests" "$tree/crates/gauge_line/src" "$tree/crates/low/proofs" "$tree/crates/low/must-fail" "$tree/crates/deep/specs" "$tree/crates/other/src" "$tools" "$KIT/docs" "$scratch/bin"
+    local tool tools=$KIT/toolchain/bin
+    mkdir -p "$tree/tests" "$tree/crates/gauge_line/src" "$tree/crates/low/proofs" "$tree/crates/low/must-fail" "$tree/crates/deep/specs" "$tree/crates/other/src" "$tools" "$KIT/bin" "$scratch/bin"
     cp -r host "$tree/"
     cp tests/kit.txt "$tree/tests/"
     cp tests/kit.txt "$KIT/KIT-ID"
     ln -s /bin/true "$tools/clang"
-    printf 'deep:\nlow: deep std\ngauge_line: low\nother: low\n' >"$tree/crates.txt"
+    cp tests/build/rattle "$KIT/bin/"
+    printf 'deep:\nlow: deep std\ngauge_line staticlib: low\nother: low\n' >"$tree/crates.txt"
     echo code >"$tree/crates/gauge_line/src/lib.rt"
     echo proof >"$tree/crates/low/proofs/Lib.antt"
     echo definition >"$tree/crates/deep/specs/Lib.antt"
-    touch "$KIT/docs/START-HERE.md" "$COUNT"
+    touch "$KIT/START-HERE.md" "$COUNT"
     cp tests/build/rt "$scratch/bin/rt"
-    for tool in env bash awk cat chmod cp dirname find grep head ln mkdir realpath rm sed sha256sum sort tail tee uname xargs; do
+    for tool in env bash sh awk cat chmod cp cut dirname find grep head ln mkdir mktemp realpath rm sed sha256sum sort tail tee xargs; do
         ln -s "$(type -P "$tool")" "$scratch/bin/$tool"
     done
 }
@@ -66,8 +66,16 @@ sed -i 's/^low: deep std/low: deep io/' "$tree/crates.txt"
 proved 7 "a crate depends on another"
 echo another >>"$tree/crates/deep/specs/Lib.antt"
 proved 8 "a crate below has changed, that only another one names"
+[[ $(tail -n 1 "$COUNT") == kept ]] || stop "build: the archive is not made over what rt kept"
+in_tree "$tree/host/left_by_ci.sh" note
+echo more >>"$tree/crates/gauge_line/src/lib.rt"
+proved 9 "the crate itself has changed"
+[[ $(tail -n 1 "$COUNT") == left ]] || stop "build: the archive is not made of what rt ci left, where it left it"
+echo yet another >>"$tree/crates/low/proofs/Lib.antt"
+proved 10 "a crate that rt ci had left has changed"
+[[ $(tail -n 1 "$COUNT") == kept ]] || stop "build: the archive is made of what rt ci left of other sources"
 echo "another kit" >"$KIT/KIT-ID"
-proved 9 "the kit has changed"
+proved 11 "the kit has changed"
 expect "this is \"another kit\", tests/kit.txt names \"$(<tests/kit.txt)\"" in_tree "$tree/host/archive.sh"
 cp "$tree/tests/kit.txt" "$KIT/KIT-ID"
 

@@ -1,7 +1,8 @@
 #!/usr/bin/env bash
-# Damages the stored list in each way that a list can be wrong, and sees `replay` say which record differs.
+# damage.sh [REPLAY]: damages the stored list in each way that a list can be wrong, and sees the program say which record differs.
 set -euo pipefail
 . "$(dirname "$0")/../../host/common.sh"
+replay=${1:-$(host/program.sh replay)}
 
 list=crates/replay/stdin
 damaged=$target/oracle/damaged
@@ -11,7 +12,7 @@ tries=0
 # replayed: what `replay` writes of the damaged list.
 replayed() {
     tries=$((tries + 1))
-    said=$("$target/bin/replay" <"$damaged")
+    said=$("$replay" <"$damaged")
 }
 
 # differs WHY RECORDS DIFFERENCES FIRST OPERATION: sees it say so.

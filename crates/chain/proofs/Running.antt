@@ -14,8 +14,8 @@ use lib.Seq.{length-take-le, take_at, take_all}
 use mir.Syntax.{w16}
 use Rattle.theory.specs.Floor.{floor_div}
 use Rattle.theory.specs.Lists.{but_last}
-use Rattle.theory.specs.Sections.{Section, onto, state, outs, each}
-use Rattle.theory.specs.Machines.{Machine, alone, before}
+use Rattle.theory.specs.Sections.{Section, onto, state, outs}
+use Rattle.theory.specs.Machines.{Machine, alone}
 use Rattle.theory.specs.Feeds.{Fed, idle, less, feed}
 use Rattle.theory.proofs.Machines.{lawful_alone}
 use Rattle.theory.proofs.Feeds.{Right, feed_right}
@@ -30,7 +30,7 @@ use Rattle.q15.specs.FirBlock.{block_fits, fir_block_state, fir_block_outs, fir_
 use Rattle.q15.specs.declared.fir_decimator.FirDecimator.{FirDecimator}
 use Rattle.q15.proofs.CutFilling.{listed_few}
 use Rattle.q15.proofs.Filling.{listed_take}
-use Rattle.q15.proofs.FirBlock.{block_fits_lem}
+use Rattle.q15.proofs.FirBlocks.{block_fits_lem}
 use Rattle.half_band.specs.HbfStream.{hbf_stream}
 use Rattle.half_band.specs.HbfStreamBlock.{stream_block_fits, stream_block_state, stream_block_outs, stream_block_made}
 use Rattle.half_band.specs.declared.hbf_stream.HbfStream.{HbfStream}

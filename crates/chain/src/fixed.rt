@@ -7,7 +7,7 @@ pub const MOST_SUMS: usize = 128;
 pub const FEW_SUMS: usize = 6;
 
 // The settings, and the gain bits that follow from them.
-#[derive(Drop)]
+#[derive(Clone, Copy)]
 pub struct Fixed {
     pub stages: usize,
     pub r: usize,

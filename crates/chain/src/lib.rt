@@ -1,4 +1,6 @@
 // 01, section 6: sections 1 to 5 over a block of samples, the list of one section handed to the next, and how many sums of section 1 a block may have.
+#![tactic(auto)]
+
 mod filter;
 pub mod fixed;
 mod levels;

@@ -2,17 +2,17 @@
 -- is demand 3 of all.
 use mathlib.Core.Path.{◌≡◌, refl, sym, ap, ap₂, ◌∙◌, subst}
 use mathlib.Core.List.{List, [], ◌∷◌, ◌++◌, append_assoc}
-use Prim.Native.Nat.{ℕ, zero, suc, ◌+◌, ◌-◌, ◌≤◌, ◌<◌, min}
+use Prim.Native.Nat.{ℕ, suc, ◌+◌, ◌-◌, ◌≤◌, ◌<◌, min}
 use native.Mathlib.Decide.{dec_le}
 use native.Mathlib.Omega.{arith}
 use lib.IntN.{ℤ}
 use lib.Ieee.{Float}
-use lib.ListN.{length, get_or, take, drop, set, length-append, length-take, length-drop, length-set, take-append-drop, drop_of_length-le}
+use lib.ListN.{length, get_or, take, drop, set, length-append, length-take, length-drop, take-append-drop, drop_of_length-le}
 use lib.Seq.{take_all, take-length, drop-length, drop-cons, take-suc-set, drop-set-lt, drop-drop, take_at, drop_at}
 use Rattle.refusal.specs.Outcome.{Outcome, Moved}
 use Rattle.line.specs.Outputs.{Opening}
 use Rattle.line.specs.Line.{feed_outcome, feed_span, opened}
-use Rattle.line.specs.Demand3.{History, none_yet, fed, line_of, taken_of, written_of, Kept, Demand3}
+use Rattle.line.specs.Demand3.{History, none_yet, line_of, taken_of, written_of, Kept, Demand3}
 use Rattle.line.specs.declared.gauge_line.Line.{Line}
 use Rattle.client.specs.FeedAll.{one, Left, left, all_left, fed_on, AllKept}
 

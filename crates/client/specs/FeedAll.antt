@@ -1,9 +1,9 @@
 -- A line fed again and again from one list of samples into one row of places: what each feed lends, what all of them leave, and demand 3 of each.
-use Rattle.std.specs.Prelude.{◌≡◌, cond, List, [], ◌∷◌, ◌++◌, ℕ, eqb, ℤ, Float, length, take, drop}
+use Rattle.std.specs.Prelude.{cond, List, [], ◌∷◌, ◌++◌, ℕ, eqb, ℤ, Float, length, take, drop}
 use Rattle.refusal.specs.Outcome.{Outcome, Moved}
 use Rattle.line.specs.Outputs.{Opening}
 use Rattle.line.specs.Line.{feed_outcome, feed_span, opened}
-use Rattle.line.specs.Demand3.{History, none_yet, fed, line_of, taken_of, written_of, Kept}
+use Rattle.line.specs.Demand3.{History, fed, line_of, taken_of, written_of, Kept}
 use Rattle.line.specs.declared.gauge_line.Line.{Line}
 
 -- A feed that is given p samples lends the next p that no feed has taken, or as many as are left; given s places, the next s that no feed was lent, or as many as

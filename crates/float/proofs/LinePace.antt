@@ -1,24 +1,21 @@
 -- In the line so many values leave a place: an output takes mu by the stride at least further and a value by 4096 back, both as rounded, so theory's pace of mu holds of the
 -- resampler; one that is off makes an output of each value.
-use Rattle.std.proofs.Common.{◌≡◌, ℕ, zero, suc, ◌-◌, ◌*◌, ◌/◌, ◌^◌, ◌<◌, ◌≤◌, min, Bool, true, false, cond, not, ◌&&◌, T, eqb, List, length, pos, sym, refl, ap, ◌∙◌, subst, true≢false, le_trans, le_of_eq, mul-le-mul_right, zero-mul, mul-one, div-mul-le_self, le_of_mul-le-mul_right, arith, eqb-true}
+use Rattle.std.proofs.Common.{◌≡◌, ℕ, zero, suc, ◌-◌, ◌*◌, ◌/◌, ◌^◌, ◌<◌, ◌≤◌, min, Bool, true, false, cond, T, eqb, List, length, pos, sym, refl, ap, ◌∙◌, subst, le_trans, le_of_eq, mul-le-mul_right, zero-mul, mul-one, div-mul-le_self, le_of_mul-le-mul_right, arith}
 use mathlib.Core.Path.{subst⁻¹}
-use mathlib.Core.Option.{none, some}
+use mathlib.Core.Option.{none}
 use native.Mathlib.Decide.{dec_le}
-use borrow.Author.Tests.{eqb-false}
 use lib.Ieee.{Float, nan, inf, fin, binary32, of_bits, up, down, round, add, mul, lt, to_unsigned}
 use lib.Ieee.Back.{round_whole}
-use lib.Ieee.Exact.{HasValue}
 use lib.Ieee.Positive.{num, den, den_pos, positive, own_value, mul_at}
 use lib.Ieee.Positive as Positive
-use Rattle.theory.specs.Machines.{Machine}
 use Rattle.theory.specs.Feeds.{feed}
 use Rattle.theory.proofs.FloatOrder.{nonneg, round_within}
-use Rattle.theory.proofs.MuInLine.{one_f, most_step, StepOk, step_positive}
+use Rattle.theory.proofs.MuInLine.{most_step, StepOk, step_positive}
 use Rattle.theory.proofs.MuPaces.{Past}
 use Rattle.theory.proofs.MuMachines.{HasMu, mu_leaves}
 use Rattle.theory.proofs.Paces.{Pace, place_by_pace, pace_off}
 use Rattle.float.specs.F32.{one32}
-use Rattle.float.specs.PolyphaseResamp.{step_in_line, is_on, consumed, passed, in_line, valid_in_line}
+use Rattle.float.specs.PolyphaseResamp.{is_on, consumed, passed, in_line, valid_in_line}
 use Rattle.float.specs.declared.polyphase_resamp.PolyphaseResampF32.{PolyphaseResampF32}
 use Rattle.float.proofs.Flags.{is, is_not}
 use Rattle.float.proofs.PolyphaseRange.{step_says, ValidOn, on_says, on_passed, on_consumed}

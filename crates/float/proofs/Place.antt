@@ -2,7 +2,7 @@
 -- the format holds; so its whole part is at most P and is read off its digits.
 use Rattle.std.proofs.Common.{◌≡◌, ℕ, zero, suc, ◌+◌, ◌-◌, ◌*◌, ◌/◌, ◌^◌, ◌<◌, ◌≤◌, Bool, true, false, cond, not, T, ltb, pos, sym, refl, ap, ◌∙◌, subst, true≢false, le_trans, le_of_eq, mul-le-mul_right, mul_comm, mul-pos, mul-one, mul_right_comm, le_of_mul-le-mul_right, mul_left_comm, arith, eqb→eq, nltb→le, ltb-true, le-ltb}
 use native.Mathlib.Nat.{div-le_of_le-mul}
-use lib.Ieee.{Float, nan, inf, fin, binary32, of_bits, up, down, odd, units, round, neg, sum, add, sub, mul, lt, eq, le, of_int, to_unsigned}
+use lib.Ieee.{Float, nan, inf, fin, binary32, of_bits, up, down, odd, units, round, neg, sum, add, sub, mul, lt, le, of_int, to_unsigned}
 use lib.Ieee.Back.{round_whole}
 use lib.Ieee.Exact.{HasValue}
 use lib.Ieee.Fits.{up_pos, down_pos, round_is, round-fits}

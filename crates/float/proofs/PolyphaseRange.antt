@@ -1,6 +1,6 @@
 -- mu stays in its range from every valid state, beside the line and in it, so that no later call is refused; and in the line 64 outputs between two
 -- values suffice. What the tests say is turned into the ranges of theory's `MuBeside` and `MuInLine`.
-use Rattle.std.proofs.Common.{◌≡◌, ℕ, zero, suc, ◌*◌, ◌<◌, Bool, true, false, cond, not, ◌&&◌, ◌||◌, T, eqb, ltb, List, refl, ap, mul-pos, zero-mul, arith, ltb→lt, lt→ltb}
+use Rattle.std.proofs.Common.{◌≡◌, ℕ, zero, suc, ◌*◌, ◌<◌, Bool, true, false, cond, not, ◌&&◌, ◌||◌, T, eqb, List, refl, ap, mul-pos, zero-mul, arith, ltb→lt, lt→ltb}
 use mathlib.Core.Bool.{false≢true}
 use lib.Ieee.{Float, nan, inf, fin, binary32, of_bits, up, down, add, lt, le, fits}
 use lib.Ieee.Fits.{up_pos}

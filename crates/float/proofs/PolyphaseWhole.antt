@@ -1,6 +1,6 @@
 -- The opened state's runs are the whole list's: mu and the values consumed so far are seen as a state whose delay is the last T of them, zeros before the
 -- start, and whose prototype is the lent one with zeros behind, which no tap reads.
-use Rattle.std.proofs.Common.{◌≡◌, ℕ, zero, suc, ◌+◌, ◌-◌, ◌*◌, ◌<◌, ◌≤◌, Bool, true, List, [], ◌∷◌, ◌++◌, length, get_or, take, replicate, sym, refl, ap, ◌∙◌, subst, ap₂, append_assoc, mul-le-mul_right, suc-mul, mul_comm, mul-le-mul, arith, take_all, take_at, drop_at, ne_eqb, le-leb}
+use Rattle.std.proofs.Common.{◌≡◌, ℕ, zero, suc, ◌+◌, ◌-◌, ◌*◌, ◌<◌, ◌≤◌, Bool, true, List, [], ◌∷◌, ◌++◌, length, get_or, take, replicate, sym, refl, ap, ◌∙◌, subst, ap₂, append_assoc, mul-le-mul, arith, take_all, take_at, drop_at, ne_eqb, le-leb}
 use mathlib.Core.Path.{subst⁻¹}
 use lib.ListN.{get_or-append}
 use lib.Seq.{take-append-le}

@@ -1,7 +1,7 @@
 -- A delay line stands on a tape from the newest sample on, and a sample goes in before it: what is read of the tape is the delay that is moved.
-use Rattle.std.proofs.Common.{◌≡◌, ℕ, zero, suc, ◌+◌, ◌-◌, ◌<◌, ◌≤◌, List, [], ◌∷◌, ◌++◌, length, get_or, take, drop, set, sym, refl, ap, ◌∙◌, append_assoc, arith, length-drop, take-append-drop, length-take-le, get_or-take, take-take, take_at, take-add, drop_at, le-ltb, le-leb}
+use Rattle.std.proofs.Common.{◌≡◌, ℕ, zero, suc, ◌+◌, ◌-◌, ◌<◌, ◌≤◌, List, ◌∷◌, ◌++◌, length, get_or, take, drop, set, sym, refl, ap, ◌∙◌, arith, length-drop, take-append-drop, length-take-le, get_or-take, take-take, take_at, drop_at, le-ltb, le-leb}
 use lib.ListN.{get_or-append}
-use lib.Seq.{set_split, take-append-add, drop-append-add, drop-append-le}
+use lib.Seq.{set_split}
 use lib.Ieee.{Float, nan}
 use Rattle.float.specs.PolyphaseResamp.{shifted_in}
 use Rattle.float.specs.Ending.{ending_in}

@@ -1,6 +1,6 @@
 -- Rust's `as usize` of an f32: from 1 to below 2^24 the 24 leading digits of the value, counted in the smallest f32, are its pattern's, and cut by the
 -- exponent they are the whole part; below 1 and of a NaN that is 0, and from 2^64 on the largest number.
-use Rattle.std.proofs.Common.{◌≡◌, ℕ, ◌+◌, ◌-◌, ◌*◌, ◌/◌, ◌%◌, ◌^◌, ◌<◌, ◌≤◌, min, true, false, not, T, eqb, ltb, ℤ, pos, sym, refl, ap, ◌∙◌, subst, true≢false, le_trans, lt_of_lt_of_le, lt_irrefl, mul-le-mul_right, mul_assoc, mul_comm, div-lt_iff_lt-mul, mul-lt-mul_of_pos_right, mul-pos, lt_of_not-le, le-div_iff_mul-le, zero-add, arith, lt→ltb, nltb→le, pow_pos, pow_mono, pow-add, shr-shr, eqb-true}
+use Rattle.std.proofs.Common.{◌≡◌, ℕ, ◌+◌, ◌-◌, ◌*◌, ◌/◌, ◌%◌, ◌^◌, ◌<◌, ◌≤◌, min, true, false, not, T, eqb, ℤ, pos, sym, refl, ap, ◌∙◌, subst, true≢false, le_trans, lt_of_lt_of_le, lt_irrefl, mul-le-mul_right, mul_assoc, mul_comm, div-lt_iff_lt-mul, mul-lt-mul_of_pos_right, mul-pos, lt_of_not-le, le-div_iff_mul-le, zero-add, arith, lt→ltb, nltb→le, pow_pos, pow_mono, pow-add, shr-shr, eqb-true}
 use native.Mathlib.Nat.{mul-div-mul_right, div-div-eq-div-mul, div-eq_of_lt}
 use mathlib.Core.Bool.{false≢true}
 use lib.Ieee.{Float, nan, inf, fin, binary32, up, down, size, lt, eq, le, is_nan, to_bits, to_unsigned}

@@ -1,4 +1,6 @@
 // 01, section 5, and of section 7 the linear converter: f32 resamplers, in 01's order of IEEE 754 operations.
+#![tactic(auto)]
+
 pub mod cast;
 pub mod level;
 pub mod polyphase_resamp;

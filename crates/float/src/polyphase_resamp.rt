@@ -37,7 +37,7 @@ const MOST_LINE_STEP: f32 = 64.0;
 
 // P and T, how the prototype is read, where the next output lies between two samples, how far it goes on with each output, the last T samples with the
 // newest first, and the prototype with tap t of phase p at t × P + p.
-#[derive(Drop)]
+#[derive(Clone, Copy)]
 pub struct PolyphaseResampF32 {
     pub phases: usize,
     pub taps: usize,

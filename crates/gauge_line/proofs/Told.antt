@@ -1,6 +1,5 @@
 -- What a half-band or linear-phase call told is the number and the values of its output beside the state, case by case.
 use mathlib.Core.Path.{◌≡◌, refl}
-use Rattle.refusal.specs.Outcome.{Outcome}
 use Rattle.half_band.specs.HbfDec.{told_dec_out, dec_none}
 use Rattle.half_band.specs.HbfInt.{told_int_out, int_none}
 use Rattle.half_band.specs.HbfStream.{told_stream_out}

@@ -1,6 +1,6 @@
 -- The states of the converters and of the line, put together from the places that a call lends, in the order in which it lends them.
 use Rattle.std.specs.Prelude.{◌≡◌, List, ℕ, ℤ, Float}
-use Rattle.std.specs.Borrow.{Bor}
+use Rattle.std.specs.Borrow.{MutBor}
 use denote.Triple.Both.{Both}
 use Rattle.integer.specs.CicDecimator.{decimator_of}
 use Rattle.integer.specs.CicInterpolator.{interpolator_of}
@@ -30,7 +30,7 @@ pub data Moment : Type 0 where
 
 -- a place that is lent to be written, and what it holds at a moment
 abbrev pub Place : Type 0 → Type 0
-Place X = Both (Bor X) (Bor X)
+Place X = Both (MutBor X) (MutBor X)
 
 abbrev pub at : {X : Type 0} → Moment → Place X → X
 at entry p = p.entry.now

@@ -23,7 +23,7 @@ pub struct HbfDecOpening {
     pub state: HbfDec,
 }
 
-#[derive(Drop)]
+#[derive(Clone, Copy)]
 pub enum HbfDecOut {
     Value(f32),
     Refused(Refusal),

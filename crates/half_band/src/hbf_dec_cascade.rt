@@ -19,7 +19,7 @@ use refusal::rows::{outside, samples_refused};
 use refusal::{Count, Opening, Refusal};
 
 // Stage k has its last 4M samples in front of the 96 delays from 96k on.
-#[derive(Drop)]
+#[derive(Clone, Copy)]
 pub struct HbfDecCascade {
     pub depth: usize,
     pub delays: [f32; DEC_CASCADE_DELAYS],

@@ -27,7 +27,7 @@ pub struct HbfIntOpening {
     pub state: HbfInt,
 }
 
-#[derive(Drop)]
+#[derive(Clone, Copy)]
 pub enum HbfIntOut {
     Values { even: f32, odd: f32 },
     Refused(Refusal),

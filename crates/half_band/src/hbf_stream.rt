@@ -13,7 +13,7 @@ use refusal::rows::outside;
 use refusal::{Opening, Refusal};
 
 // Stage k has its last 4M samples in front of the 96 delays from 96k on, and holds counts[k] samples, none or one, in held[k].
-#[derive(Drop)]
+#[derive(Clone, Copy)]
 pub struct HbfStream {
     pub depth: usize,
     pub delays: [f32; DEC_CASCADE_DELAYS],
@@ -34,7 +34,7 @@ pub enum HbfOut {
     Value(f32),
 }
 
-#[derive(Drop)]
+#[derive(Clone, Copy)]
 pub enum HbfStreamOut {
     Nothing,
     Value(f32),

@@ -87,7 +87,7 @@ pub const HBF_TAPS_98: [f32; 29] = [
 ];
 
 // The table that a cascade runs.
-#[derive(Drop)]
+#[derive(Clone, Copy)]
 pub(crate) enum HbfTable {
     Db140,
     Db98,

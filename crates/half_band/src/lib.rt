@@ -1,4 +1,6 @@
 // 01, section 4 and the half-band part of section 7: half-band decimators and interpolators and their cascades, in 01's order of IEEE 754 operations.
+#![tactic(auto)]
+
 mod half_band;
 pub mod hbf_dec;
 pub mod hbf_dec_cascade;

@@ -5,7 +5,7 @@ ghost use Rattle.half_band.specs.ResponseLength.{dec_lengths, int_lengths, lengt
 use crate::limits::{DEPTHS, MOST_STAGES};
 use refusal::Refusal;
 
-#[derive(Drop)]
+#[derive(Clone, Copy)]
 pub enum ResponseLength {
     Samples(usize),
     Refused(Refusal),

@@ -1,8 +1,8 @@
 -- The gain bits are the least b with 2^b no less than the gain, for every gain up to 2^64: the search passes only what is too small.
-use Rattle.std.proofs.Common.{◌≡◌, ℕ, zero, suc, ◌+◌, ◌-◌, ◌*◌, ◌^◌, ◌<◌, ◌≤◌, min, Bool, true, false, cond, sym, refl, ap, ◌∙◌, pow-suc, arith, pow_mono, below_more, le-leb}
+use Rattle.std.proofs.Common.{◌≡◌, ℕ, zero, suc, ◌+◌, ◌*◌, ◌^◌, ◌<◌, ◌≤◌, pow-suc, arith, pow_mono, below_more, le-leb}
 use native.Mathlib.Decide.{dec_le}
 use borrow.Author.Tests.{lt-leb}
-use Rattle.integer.specs.Gain.{held, gain_of, gain_bits, bits_from, bits_of, Least}
+use Rattle.integer.specs.Gain.{gain_of, gain_bits, bits_from, bits_of, Least}
 
 -- it is the least: whatever is below does not reach g, and it does, unless it is 64
 bits_least' : (fuel b g : ℕ) → ((k : ℕ) → k < b → 2 ^ k < g) → (k : ℕ) → k < bits_from fuel b g → 2 ^ k < g

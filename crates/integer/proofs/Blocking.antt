@@ -1,8 +1,8 @@
 -- A turn of the block's loop is many steps of a feed: the samples that complete no sum are taken at once, and the one that completes it writes a sum.
-use Rattle.std.proofs.Common.{◌≡◌, ℕ, suc, ◌+◌, ◌-◌, ◌<◌, ◌≤◌, Bool, true, false, ltb, List, [], ◌∷◌, length, get_or, take, drop, set, ℤ, pos, sym, refl, ap, ◌∙◌, subst, add-zero, arith, length-drop, drop_of_length-le, length-take-le, drop-cons, le-ltb, lt-ltb}
+use Rattle.std.proofs.Common.{◌≡◌, ℕ, suc, ◌+◌, ◌<◌, ◌≤◌, Bool, true, false, ltb, List, [], ◌∷◌, length, get_or, take, drop, set, ℤ, pos, sym, refl, ap, ◌∙◌, subst, add-zero, arith, length-drop, drop_of_length-le, length-take-le, drop-cons, le-ltb, lt-ltb}
 use mathlib.Core.Path.{subst⁻¹}
 use mathlib.Core.Option.{none, some}
-use Rattle.theory.specs.Feeds.{both, stopped, head_of, step, feed}
+use Rattle.theory.specs.Feeds.{both, stopped, head_of, step}
 use Rattle.theory.proofs.Machines.{Lawful, lawful_alone}
 use Rattle.theory.proofs.FeedLoop.{Midway, Quiet, after_quiet, after_both, after_stopped}
 use Rattle.integer.specs.Stages.{integrated, combed, ran}

@@ -1,12 +1,11 @@
 -- A fresh decimator makes the moving sums, modulo 2^32, for every number of stages, factor and list: after k outputs and j samples more its state is known
 -- in closed form, and Hogenauer's theorem says what its combs then hand on.
-use Rattle.std.proofs.Common.{◌≡◌, ℕ, zero, suc, ◌+◌, ◌-◌, ◌*◌, ◌/◌, ◌<◌, ◌≤◌, Bool, true, false, cond, ltb, ◌⊎◌, List, [], ◌∷◌, ◌++◌, length, get_or, replicate, ℤ, pos, sym, refl, ap, ◌∙◌, inl, inr, suc-mul, eq-or-lt_of_le, zero-add, zero-mul, add-one, arith, w32, le-ltb, lt-ltb}
+use Rattle.std.proofs.Common.{◌≡◌, ℕ, zero, suc, ◌+◌, ◌-◌, ◌*◌, ◌/◌, ◌<◌, ◌≤◌, ◌⊎◌, List, [], ◌∷◌, ◌++◌, length, get_or, replicate, ℤ, pos, sym, refl, ap, ◌∙◌, inl, inr, suc-mul, eq-or-lt_of_le, zero-add, zero-mul, add-one, arith, w32, le-ltb, lt-ltb}
 use mathlib.Core.Path.{fun_ext}
-use mathlib.Core.Option.{Option, none, some}
+use mathlib.Core.Option.{none, some}
 use native.Mathlib.Nat.{div-eq_of_lt, add-div_left}
 use lib.ListN.{replicate-append-replicate}
 use Rattle.theory.specs.Wrap.{wrap}
-use Rattle.theory.specs.Lists.{listed}
 use Rattle.theory.specs.Sections.{onto, outs}
 use Rattle.theory.proofs.Listed.{ascending, ascending_listed}
 use Rattle.integer.specs.Stages.{Passed, integrated, combed}

@@ -1,5 +1,5 @@
 -- The loop that fills a span from the integrators: the places before i are written, and what is left is the run from there. What stands behind the stages stays.
-use Rattle.std.proofs.Common.{◌≡◌, ℕ, zero, suc, ◌+◌, ◌-◌, ◌<◌, ◌≤◌, List, [], ◌∷◌, ◌++◌, length, take, drop, set, ℤ, pos, sym, refl, ap, ◌∙◌, append-nil, add-one, arith, length-set, take-append-drop, drop-drop, take-suc-set, drop-set-lt}
+use Rattle.std.proofs.Common.{◌≡◌, ℕ, zero, suc, ◌+◌, ◌-◌, ◌<◌, ◌≤◌, List, [], ◌++◌, length, take, drop, set, ℤ, pos, sym, refl, ap, ◌∙◌, append-nil, add-one, arith, length-set, take-append-drop, drop-drop, take-suc-set, drop-set-lt}
 use native.Mathlib.Nat.{sub-zero}
 use lib.Seq.{append_snoc}
 use Rattle.integer.specs.Stages.{integrated, sum32}

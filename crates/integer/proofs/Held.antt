@@ -1,5 +1,5 @@
 -- A product that is held stays right where one factor was held before: the factor that was held is already past the end.
-use Rattle.std.proofs.Common.{◌≡◌, ℕ, zero, suc, ◌+◌, ◌*◌, ◌^◌, ◌<◌, ◌≤◌, min, sym, refl, ap, ◌∙◌, mul-le-mul_right, pow-suc, add-one, arith}
+use Rattle.std.proofs.Common.{◌≡◌, ℕ, zero, suc, ◌+◌, ◌*◌, ◌^◌, ◌≤◌, sym, ap, ◌∙◌, mul-le-mul_right, pow-suc, add-one, arith}
 use native.Mathlib.Nat.{min-eq_left, min-eq_right}
 use native.Mathlib.Decide.{dec_le}
 use Rattle.integer.specs.Gain.{held}

@@ -1,9 +1,9 @@
 -- Hogenauer 1981, without wrapping: n integrators, every r-th value, n combs, are n moving sums of length r, of which every r-th value is taken. Moving sums
 -- commute with integrators, and a difference of prefix sums r apart is a moving sum.
-use Rattle.std.proofs.Common.{◌≡◌, ℕ, zero, suc, ◌+◌, ◌*◌, ℤ, pos, ◌+ℤ◌, ◌-ℤ◌, neg_ℤ, sym, refl, ap, ◌∙◌, subst, ap₂, suc-mul, add_comm, suc-add, zero-add, zero-mul, arith}
+use Rattle.std.proofs.Common.{◌≡◌, ℕ, zero, suc, ◌+◌, ◌*◌, ℤ, pos, ◌+ℤ◌, ◌-ℤ◌, sym, refl, ap, ◌∙◌, subst, ap₂, suc-mul, add_comm, suc-add, zero-add, zero-mul, arith}
 use mathlib.Core.Path.{fun_ext}
 use lib.IntN.{+ℤ_idl, +ℤ_idr, +ℤ_assoc, +ℤ_comm}
-use Rattle.theory.proofs.Integers.{up, dn, eq_of, add_is, sub_is_ℤ, sums}
+use Rattle.theory.proofs.Integers.{eq_of, add_is, sub_is_ℤ, sums}
 use Rattle.integer.specs.MovingSums.{Signal, delay, moving_sum, fold}
 
 -- what an integrator does: f 0 + .. + f t

@@ -1,11 +1,10 @@
 -- A fresh interpolator makes the moving sums of its samples with their zeros, modulo 2^32, for every number of stages, factor and list: after k samples its
 -- state is known in closed form, and the dual of Hogenauer's theorem says what its integrators hand on.
-use Rattle.std.proofs.Common.{◌≡◌, ℕ, zero, suc, ◌+◌, ◌-◌, ◌*◌, ◌/◌, ◌<◌, ◌≤◌, Bool, true, false, ◌&&◌, List, [], ◌∷◌, ◌++◌, length, get_or, drop, replicate, ℤ, pos, sym, refl, ap, ◌∙◌, subst, ap₂, suc-mul, zero-mul, arith, w32, SFits}
+use Rattle.std.proofs.Common.{◌≡◌, ℕ, zero, suc, ◌+◌, ◌-◌, ◌*◌, ◌<◌, ◌≤◌, true, List, [], ◌∷◌, ◌++◌, length, get_or, replicate, ℤ, pos, sym, refl, ap, ◌∙◌, suc-mul, zero-mul, arith, w32, SFits}
 use mathlib.Core.Path.{fun_ext}
 use lib.ListN.{replicate-append-replicate}
 use lib.IntN.{+ℤ_idr}
 use Rattle.theory.specs.Wrap.{wrap}
-use Rattle.theory.specs.Lists.{listed}
 use Rattle.theory.proofs.Wrap.{wrap_id}
 use Rattle.theory.proofs.Listed.{ascending, ascending_append, ascending_listed}
 use Rattle.integer.specs.Limits.{stages_ok, factor_ok}

@@ -1,5 +1,5 @@
 -- A loop over stages in a row, once for integrators and combs: those before i are done, and what is left is the row of the others.
-use Rattle.std.proofs.Common.{◌≡◌, ℕ, zero, suc, ◌+◌, ◌-◌, ◌<◌, ◌≤◌, List, [], ◌∷◌, ◌++◌, length, get_or, take, drop, set, sym, refl, ap, ◌∙◌, append-nil, add-one, arith, length-set, take-append-drop, drop_of_length-le, drop-cons, take-suc-set, drop-set-lt}
+use Rattle.std.proofs.Common.{◌≡◌, ℕ, zero, suc, ◌+◌, ◌-◌, ◌<◌, ◌≤◌, List, [], ◌∷◌, ◌++◌, length, get_or, take, drop, set, sym, refl, ap, ◌∙◌, add-one, arith, length-set, take-append-drop, drop_of_length-le, drop-cons, take-suc-set, drop-set-lt}
 use native.Mathlib.Nat.{sub-zero}
 use lib.Seq.{append_snoc}
 use Rattle.integer.specs.Stages.{Passed, row}

@@ -1,10 +1,9 @@
 -- What a fresh decimator keeps over every list of samples: validity and settings by each step, the sums by Hogenauer's theorem, the scaled sums value by value,
 -- and every cutting into blocks by the theorem on feeds.
-use Rattle.std.proofs.Common.{◌≡◌, ℕ, ◌+◌, ◌/◌, ◌^◌, ◌≤◌, Bool, true, false, cond, ◌&&◌, ltb, List, [], ◌∷◌, map, length, ℤ, pos, sym, refl, ap, ◌∙◌, lt-ltb}
+use Rattle.std.proofs.Common.{◌≡◌, ℕ, ◌+◌, ◌/◌, ◌^◌, ◌≤◌, Bool, true, false, cond, ltb, List, [], ◌∷◌, map, length, ℤ, pos, refl, ap, ◌∙◌, lt-ltb}
 use mathlib.Core.Option.{Option, none, some}
 use Rattle.theory.specs.Floor.{floor_div}
-use Rattle.theory.specs.Sections.{Section, onto, state, outs}
-use Rattle.theory.specs.Machines.{alone}
+use Rattle.theory.specs.Sections.{onto, outs}
 use Rattle.theory.proofs.Sections.{state_keeps}
 use Rattle.theory.proofs.Machines.{all_alone, lawful_alone}
 use Rattle.theory.proofs.Feeds.{promised_by}
@@ -15,7 +14,7 @@ use Rattle.integer.specs.Gain.{gain_bits}
 use Rattle.integer.specs.MovingSums.{sum_at, signal_of, sums, scaled_sums}
 use Rattle.integer.specs.CicDecimator.{decimator_of, fresh, valid_at, valid, waits, decimator, scaled_by, scaled_decimator, machine, Streams}
 use Rattle.integer.specs.declared.cic_decimator.CicDecimator.{CicDecimator}
-use Rattle.integer.proofs.Within.{stages_within, factor_within, Sound, sound}
+use Rattle.integer.proofs.Within.{stages_within, factor_within, sound}
 use Rattle.integer.proofs.Decimating.{decimates}
 
 -- settings that are in their limits, and a counter below r

@@ -1,6 +1,6 @@
 -- The dual of Hogenauer's theorem, for interpolators: n combs, r - 1 zeros after each value, n integrators, are n moving sums of length r of the values with
 -- their zeros. Both the integral of stuffed differences and the moving sum of stuffed values hold each value for r steps.
-use Rattle.std.proofs.Common.{◌≡◌, ℕ, zero, suc, ◌+◌, ◌-◌, ◌*◌, ◌/◌, ◌%◌, ◌<◌, ◌≤◌, cond, eqb, ℤ, pos, ◌+ℤ◌, ◌-ℤ◌, sym, refl, ap, ◌∙◌, subst, ap₂, mod-lt, suc-mul, add_comm, div-add-mod', arith, eq-eqb, ne_eqb}
+use Rattle.std.proofs.Common.{◌≡◌, ℕ, zero, suc, ◌+◌, ◌-◌, ◌*◌, ◌/◌, ◌%◌, ◌<◌, cond, ℤ, pos, ◌+ℤ◌, ◌-ℤ◌, sym, refl, ap, ◌∙◌, subst, ap₂, mod-lt, suc-mul, div-add-mod', arith, ne_eqb}
 use mathlib.Core.Path.{fun_ext}
 use lib.Arith.{digits_div, digits_mod}
 use lib.IntN.{+ℤ_idr, +ℤ_comm}

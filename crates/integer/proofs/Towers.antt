@@ -1,5 +1,5 @@
 -- The states of wrapped stages are the wrapped values of exact signals, for any number of stages: a wrapped summand may be left unwrapped.
-use Rattle.std.proofs.Common.{◌≡◌, ℕ, zero, suc, List, [], ◌∷◌, ◌++◌, replicate, ℤ, pos, sym, refl, ap, ◌∙◌, ap₂, w32}
+use Rattle.std.proofs.Common.{◌≡◌, ℕ, zero, suc, List, [], ◌∷◌, ◌++◌, replicate, ℤ, pos, refl, ap, ◌∙◌, ap₂, w32}
 use Rattle.theory.specs.Wrap.{wrap}
 use Rattle.theory.proofs.Wrap.{wrap_add, wrap_sub, wrap_add_left}
 use Rattle.integer.specs.MovingSums.{Signal, fold}

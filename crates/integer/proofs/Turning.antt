@@ -1,6 +1,6 @@
 -- A sum or a difference of two i32 fits an i64 and is off by at most one turn of 2^32: what `turn` asks, by linear arithmetic.
 use Rattle.std.proofs.Common.{◌^◌, ℤ, pos, ◌+ℤ◌, ◌-ℤ◌, neg_ℤ, ◌≤ℤ◌, ◌<ℤ◌, arith, w32, w64, SFits}
-use Rattle.theory.proofs.Integers.{up, dn, fits_of, fits_is, le_of, lt_of, add_is, sub_is_ℤ, neg_is}
+use Rattle.theory.proofs.Integers.{fits_of, fits_is, le_of, lt_of, add_is, sub_is_ℤ}
 
 pub record OneTurn (z : ℤ) : Type 0 where
   pub fits : SFits w64 z

@@ -37,7 +37,7 @@ pub record ExactWithin (least greatest : ℤ) (N r : ℕ) (made scaled : List �
   pub sums_exact : (w : List ℤ) → AllWithin least greatest w → made w ≡ exact_sums N r w
   pub scaled_exact : (w : List ℤ) → AllWithin least greatest w → scaled w ≡ exact_scaled_sums N r w
 
--- the range of the gain bits g = gainBits N r, "if .. g are at most 31"
+-- the range of the gain bits g = gain_bits N r, "if .. g are at most 31"
 abbrev pub ExactSums : ℕ → ℕ → (List ℤ → List ℤ) → (List ℤ → List ℤ) → Type 0
 ExactSums N r made scaled =
     gain_bits N r ≤ most_bits → ExactWithin (least_exact (gain_bits N r)) (greatest_exact (gain_bits N r)) N r made scaled

@@ -16,7 +16,7 @@ use crate::limits::{MAX_BITS, MAX_STAGES, factor_ok, least, stages_ok};
 use crate::stages::{comb, integrate, run, run_on};
 use refusal::{Counts, Opening, Refusal};
 
-#[derive(Drop)]
+#[derive(Clone, Copy)]
 pub struct CicDecimator {
     pub stages: usize,
     pub r: usize,
@@ -33,7 +33,7 @@ pub struct CicOpened {
 }
 
 // What a sample gives: nothing yet, a sum, or a refusal.
-#[derive(Drop)]
+#[derive(Clone, Copy)]
 pub enum CicOutput {
     Nothing,
     Sample(i32),

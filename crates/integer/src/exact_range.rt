@@ -8,7 +8,7 @@ use crate::limits::MAX_BITS;
 use refusal::Refusal;
 
 // What `exact_range` answers: both ends are in the range.
-#[derive(Drop)]
+#[derive(Clone, Copy)]
 pub enum ExactRange {
     Within { least: i32, greatest: i32 },
     Refused(Refusal),

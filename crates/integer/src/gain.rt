@@ -6,14 +6,14 @@ ghost use Rattle.integer.specs.Gain.{held, gain_of, bits_of};
 use refusal::Refusal;
 
 // What `gain` answers.
-#[derive(Drop)]
+#[derive(Clone, Copy)]
 pub enum Gain {
     Value(u64),
     Refused(Refusal),
 }
 
 // What `gain_bits` answers.
-#[derive(Drop)]
+#[derive(Clone, Copy)]
 pub enum GainBits {
     Value(u32),
     Refused(Refusal),

@@ -1,5 +1,5 @@
 -- What a valid line held apart says of its numbers: the counter is below r, a due output has phases and taps in their limits, and the test of validity is the definition's.
-use mathlib.Core.Path.{◌≡◌, refl, sym, ap, ◌∙◌, subst}
+use mathlib.Core.Path.{◌≡◌, refl, ap, ◌∙◌, subst}
 use mathlib.Core.Bool.{Bool, true, false, cond, ◌&&◌, not}
 use mathlib.Core.List.{List}
 use Prim.Native.Nat.{ℕ, zero, suc, ◌*◌, ◌≤◌, ◌<◌}
@@ -29,7 +29,7 @@ use Rattle.line.specs.Lent.{numbers_in, fixed_in, changing_in}
 use Rattle.line.specs.declared.gauge_line.Line.{Line}
 use Rattle.chain.specs.declared.fixed.Fixed.{Fixed}
 use Rattle.line.specs.declared.sample.Numbers.{Numbers}
-use Rattle.line.proofs.Flags.{and_left, and_right, not_says}
+use Rattle.line.proofs.Flags.{and_left, not_says}
 use Rattle.line.proofs.Lawful.{to_parts}
 
 -- row 15 of section 1, but for its gain bits

@@ -1,6 +1,6 @@
 -- An opening that is not refused: its settings are in their limits, its line is valid, and what the line makes of any list are the outputs that 01 defines for it.
 use mathlib.Core.Path.{◌≡◌, refl, sym, ap, ◌∙◌, subst, subst⁻¹}
-use mathlib.Core.Bool.{Bool, true, false, cond, ◌&&◌, not, false≢true}
+use mathlib.Core.Bool.{Bool, true, false, cond}
 use mathlib.Core.List.{List, map}
 use Prim.Native.Nat.{ℕ, zero, suc, ◌*◌, ◌≤◌}
 use native.Mathlib.Omega.{arith}
@@ -24,7 +24,7 @@ use Rattle.q15.specs.Fixed.{cut}
 use Rattle.q15.specs.FirDecimator.{fir, fir_whole, settings_number_in_line}
 use Rattle.q15.specs.FirDecimator as Q
 use Rattle.q15.proofs.FirStream.{line_streamed}
-use Rattle.q15.proofs.FirOpening as FirOpening
+use Rattle.q15.proofs.FirOpenings as FirOpening
 use Rattle.half_band.specs.HalfBand.{decimated_by}
 use Rattle.half_band.specs.HbfTaps.{stage_taps, decimation}
 use Rattle.half_band.specs.HbfStream.{hbf_stream, stream_fresh, stream_opening}
@@ -39,7 +39,6 @@ use Rattle.refusal.specs.Rows.{outside}
 use Rattle.refusal.proofs.Limits.{first_none, not_outside}
 use Rattle.line.specs.Outputs.{Opening, levels, Resampled, Outputs}
 use Rattle.line.specs.Line.{line, half_band_fine, valid, depth_number, resampler_number, number_at, opening_number_of, resampler_fresh, fresh}
-use Rattle.line.specs.declared.gauge_line.Line.{Line}
 use Rattle.line.proofs.Flags.{and_both, not_is}
 use Rattle.line.proofs.Lawful.{line_all}
 

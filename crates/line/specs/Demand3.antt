@@ -1,6 +1,6 @@
 -- Demand 3: "Let a gauge line be freshly opened and given any list of feeds, each lending any samples and an output span of any length, and each getting the line that
 -- the one before returned; nobody changes it in between." The feeds are seen as their caller sees them, through what `feed` answers and the span it leaves.
-use Rattle.std.specs.Prelude.{◌≡◌, List, [], ◌++◌, ℕ, ◌≤◌, ◌<◌, ℤ, Float, length, take, drop}
+use Rattle.std.specs.Prelude.{◌≡◌, List, [], ◌++◌, ◌≤◌, ◌<◌, ℤ, Float, length, take, drop}
 use Rattle.theory.specs.Lists.{but_last}
 use Rattle.refusal.specs.Outcome.{Outcome, Moved}
 use Rattle.line.specs.Outputs.{Opening, Outputs, held_cuts}

@@ -22,7 +22,7 @@ use refusal::{Counts, Opening, Refusal};
 
 // The parts of a line, each as its layer has it, and how many values were cut to 16 bits. A part that is off is zeros, settings too. `thinning` says which of two
 // parts thins: the integrators and combs of `cic`, or the neighbours. The numbers of `cic` are those of either: its `sample_counter` is the neighbours' place.
-#[derive(Drop)]
+#[derive(Clone, Copy)]
 pub struct Line {
     pub thinning: Thinning,
     pub cic: CicDecimator,

@@ -20,7 +20,7 @@ use q15::MOST_TAPS;
 use refusal::{Counts, Refusal};
 
 // The settings of a line, and the numbers that feeds change.
-#[derive(Drop)]
+#[derive(Clone, Copy)]
 pub struct LineNumbers {
     pub stages: usize,
     pub r: usize,
@@ -39,7 +39,7 @@ pub struct LineNumbers {
 }
 
 // What a step did: it took a sample, wrote one float sample, did both, stopped, or was refused.
-#[derive(Drop)]
+#[derive(Clone, Copy)]
 pub enum LineStep {
     Took,
     Wrote(f32),

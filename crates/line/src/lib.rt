@@ -1,4 +1,6 @@
 // 01, section 6: the gauge line, which joins the converters of the layers below.
+#![tactic(auto)]
+
 mod batches;
 mod feed;
 pub mod gauge_line;

@@ -27,7 +27,7 @@ use q15::{FirMade, MOST_TAPS, Q15, cut_q15, fir_at};
 pub const MOST_CUTS: u32 = 4294967295;
 
 // The numbers that a feed changes.
-#[derive(Drop)]
+#[derive(Clone, Copy)]
 pub struct Numbers {
     pub sample_counter: usize,
     pub wait: usize,

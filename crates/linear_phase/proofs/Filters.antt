@@ -2,7 +2,7 @@
 use mathlib.Core.Path.{◌≡◌, refl, sym, ap, ap₂, ◌∙◌}
 use mathlib.Core.Bool.{Bool, true, false, not}
 use mathlib.Core.List.{List, [], ◌∷◌, ◌++◌}
-use Prim.Native.Nat.{ℕ, ◌-◌, ◌*◌, ◌≤◌}
+use Prim.Native.Nat.{ℕ, ◌-◌, ◌≤◌}
 use native.Mathlib.Omega.{arith}
 use borrow.Author.Tests.{ne_eqb, eq-eqb}
 use lib.ListN.{length, get_or, take, drop, replicate, set}
@@ -18,7 +18,7 @@ use Rattle.half_band.proofs.Moving.{length_slid}
 use Rattle.half_band.proofs.Stored as stored
 use Rattle.linear_phase.specs.LinearPhase.{reach, phase_filtered}
 use Rattle.linear_phase.specs.Windows.{window_value, linear_phase}
-use Rattle.linear_phase.specs.LinearPhaseFir.{phase_taps, phase_delay, with_delay, phase_next, phase_out, phase_fir, phase_fresh, phase_refused, lengths_differ, block_outs, PhaseStreams}
+use Rattle.linear_phase.specs.LinearPhaseFir.{phase_taps, phase_delay, with_delay, phase_next, phase_out, phase_fir, phase_fresh, phase_refused, lengths_differ, PhaseStreams}
 use Rattle.linear_phase.specs.declared.linear_phase_fir.LinearPhaseFir.{LinearPhaseFir}
 use Rattle.linear_phase.proofs.WholeList.{reaches, from_zeros, cuts}
 

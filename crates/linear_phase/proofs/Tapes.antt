@@ -5,8 +5,8 @@ use mathlib.Core.List.{List, [], ◌∷◌, ◌++◌, append-nil, append_assoc}
 use Prim.Native.Nat.{ℕ, zero, suc, ◌+◌, ◌-◌, ◌*◌, ◌≤◌, ◌<◌, min}
 use native.Mathlib.Numerals.{add-one}
 use native.Mathlib.Omega.{arith}
-use lib.ListN.{length, get_or, take, drop, length-append, length-drop, take-append-drop}
-use lib.Seq.{length-take-le, take_at, take-add, take-take, take_all, take-append-le, take-append-add, drop_at, drop-append-le, drop-append-add, drop-drop}
+use lib.ListN.{length, get_or, take, drop, length-drop, take-append-drop}
+use lib.Seq.{length-take-le, take-add, take_all, take-append-le, take-append-add, drop-append-le, drop-append-add, drop-drop}
 use lib.Ieee.{Float, nan}
 use Rattle.theory.specs.Sections.{Section, outs, state}
 use Rattle.q15.proofs.Filling.{listed_ext, listed_take}

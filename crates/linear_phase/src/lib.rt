@@ -1,4 +1,6 @@
 // 02, §2: linear-phase FIR filters, in 02's order of IEEE 754 operations.
+#![tactic(auto)]
+
 mod brief;
 mod few;
 mod filter;

@@ -36,7 +36,7 @@ pub struct LinearPhaseOpening {
     pub state: LinearPhaseFir,
 }
 
-#[derive(Drop)]
+#[derive(Clone, Copy)]
 pub enum LinearPhaseOut {
     Value(f32),
     Refused(Refusal),

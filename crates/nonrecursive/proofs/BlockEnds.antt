@@ -9,7 +9,7 @@ use borrow.Author.Tests.{le-ltb}
 use lib.Dec.{ltb}
 use lib.IntN.{ℤ, pos}
 use lib.ListN.{length, drop, drop_of_length-le}
-use Rattle.theory.specs.Feeds.{stopped, head_of, step, feed}
+use Rattle.theory.specs.Feeds.{stopped, head_of, step}
 use Rattle.theory.proofs.Machines.{Lawful, lawful_alone}
 use Rattle.theory.proofs.FeedLoop.{Midway, after_stopped}
 use Rattle.refusal.specs.Outcome.{Outcome, Moved}

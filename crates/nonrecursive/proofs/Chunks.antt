@@ -1,6 +1,6 @@
 -- A chunk of whole frames from the place 0: what the halvings make of it one after the other is what the samples make one by one, and the feed goes on behind it.
 use mathlib.Core.Path.{◌≡◌, refl, sym, ap, ◌∙◌, subst}
-use mathlib.Core.Bool.{Bool, true}
+use mathlib.Core.Bool.{true}
 use mathlib.Core.List.{List, [], ◌∷◌, map}
 use Prim.Native.Nat.{ℕ, suc, ◌+◌, ◌-◌, ◌*◌, ◌%◌, ◌^◌, ◌≤◌, ◌<◌}
 use native.Mathlib.Nat.{mod-eq_of_lt, mul-le-mul, mul-le-mul_right}
@@ -16,7 +16,7 @@ use Rattle.theory.specs.Sections.{state, outs}
 use Rattle.theory.proofs.Machines.{Lawful}
 use Rattle.theory.proofs.FeedLoop.{Midway}
 use Rattle.integer.proofs.Within.{stages_within, factor_within}
-use Rattle.nonrecursive.specs.NonrecursiveDecimator.{halvings, nonrecursive_of, settings_number, valid_at, valid, nonrecursive, machine}
+use Rattle.nonrecursive.specs.NonrecursiveDecimator.{halvings, nonrecursive_of, valid_at, valid, nonrecursive, machine}
 use Rattle.nonrecursive.specs.Tape.{lined, put_all}
 use Rattle.nonrecursive.specs.declared.nonrecursive_decimator.NonrecursiveDecimator.{NonrecursiveDecimator}
 use Rattle.nonrecursive.proofs.Halvings.{power_is, few_halvings}

@@ -1,7 +1,7 @@
 -- A chunk of samples is many steps of a feed: where a place is left before each of them, the feed takes them all and writes what they make. Whole frames have a
 -- place for each sum before the sample that completes it.
 use mathlib.Core.Path.{◌≡◌, refl, sym, ap, ◌∙◌, subst}
-use mathlib.Core.Bool.{Bool, true, false, cond}
+use mathlib.Core.Bool.{Bool, true, cond}
 use mathlib.Core.List.{List, [], ◌∷◌, map}
 use mathlib.Core.Option.{Option, none, some}
 use Prim.Native.Nat.{ℕ, zero, suc, ◌+◌, ◌-◌, ◌*◌, ◌^◌, ◌≤◌, ◌<◌, pred}
@@ -11,13 +11,13 @@ use native.Mathlib.Omega.{arith}
 use borrow.Author.Tests.{lt-ltb, le-ltb}
 use lib.Dec.{ltb}
 use lib.IntN.{ℤ, pos}
-use lib.ListN.{length, take, drop, set}
+use lib.ListN.{length, take, drop}
 use lib.Seq.{drop-drop}
 use mir.Syntax.{w32}
 use Rattle.theory.specs.Wrap.{wrap}
 use Rattle.theory.specs.Sections.{Section, onto, state, outs}
 use Rattle.theory.specs.Machines.{Machine, alone}
-use Rattle.theory.specs.Feeds.{Event, took, both, Stepped, head_of, tail_of, taking, less, step}
+use Rattle.theory.specs.Feeds.{took, both, Stepped, head_of, tail_of, taking, less, step}
 use Rattle.theory.proofs.Machines.{Lawful}
 use Rattle.theory.proofs.Feeds.{step_not}
 use Rattle.theory.proofs.FeedLoop.{Midway, after_took, after_both}

@@ -1,4 +1,6 @@
 // 02, §13: the CIC decimator's sums without integrators, for a factor that is a power of two.
+#![tactic(auto)]
+
 pub mod block;
 pub mod nonrecursive_decimator;
 pub mod thinning;

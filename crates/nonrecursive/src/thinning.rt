@@ -11,7 +11,7 @@ use integer::limits::MAX_STAGES;
 use refusal::Counts;
 
 // The CIC decimator, or sums of neighbours.
-#[derive(Drop)]
+#[derive(Clone, Copy)]
 pub enum Thinning {
     Integrators,
     Neighbours,

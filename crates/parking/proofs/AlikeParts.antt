@@ -1,17 +1,17 @@
 -- Section by section: what a sample makes, and what it leaves in the places that the settings use, depends on these places alone.
 use mathlib.Core.Path.{◌≡◌, refl, sym, ap, ap₂, ◌∙◌, subst}
-use mathlib.Core.Bool.{Bool, true, false, cond, ◌&&◌, not, false≢true}
-use mathlib.Core.List.{List, [], ◌∷◌, ◌++◌}
+use mathlib.Core.Bool.{Bool, true, false, cond, ◌&&◌, false≢true}
+use mathlib.Core.List.{List, ◌∷◌, ◌++◌}
 use mathlib.Core.Option.{Option, none, some}
 use Prim.Native.Nat.{ℕ, zero, suc, ◌+◌, ◌*◌, ◌-◌, ◌≤◌, ◌<◌, min}
 use native.Mathlib.Omega.{arith}
 use native.Mathlib.Decide.{dec_lt}
-use borrow.Author.Tests.{eq-eqb, ne_eqb, eqb-true, eqb-false}
+use borrow.Author.Tests.{eq-eqb}
 use lib.Dec.{leb, ltb, eqb}
 use lib.IntN.{ℤ, pos, ◌+ℤ◌}
-use lib.Ieee.{Float, nan, binary32, add, sub, lt}
-use lib.ListN.{length, get_or, take, drop, set, length-drop, length-append}
-use lib.Seq.{take-nil, take_at, take-append-add, take-take, take-set-lt, get_or-take, length-take-le}
+use lib.Ieee.{Float, nan, lt}
+use lib.ListN.{length, take, drop, set, length-drop}
+use lib.Seq.{take_at, take-append-add, take-take, take-set-lt, length-take-le}
 use Rattle.integer.specs.Stages.{integrated, combed}
 use Rattle.integer.specs.CicDecimator.{decimator_of, decimator, scaled_by}
 use Rattle.integer.specs.Gain.{gain_bits}
@@ -28,17 +28,16 @@ use Rattle.q15.specs.PolyphaseDecimate.{window_sum, filtered}
 use Rattle.q15.specs.FirDecimator.{most_taps, fir_state, stored, moved, fir_next, fir_out, fir_sum_out, fir}
 use Rattle.q15.specs.FirDecimator as Q
 use Rattle.q15.specs.declared.fir_decimator.FirDecimator.{FirDecimator}
-use Rattle.q15.proofs.FirSteps.{On, valid_on, line_valid}
+use Rattle.q15.proofs.FirSteps.{valid_on, line_valid}
 use Rattle.half_band.specs.HbfTaps.{stage_taps, decimation}
 use Rattle.half_band.specs.HbfStream.{Half, through, stream, hbf_stream}
 use Rattle.half_band.specs.declared.hbf_stream.HbfStream.{HbfStream}
 use Rattle.half_band.proofs.StageTables.{dec_stages}
-use Rattle.half_band.proofs.Stages.{Sized, stage, stages_from, sized_through, out_through, stages_through}
+use Rattle.half_band.proofs.Stages.{Sized, stage, stages_from, out_through, stages_through}
 use Rattle.half_band.proofs.Streaming.{depth_next, sized_next}
 use Rattle.theory.specs.Cascades.{cascade_next, cascade_out}
 use Rattle.float.specs.F32.{one32}
-use Rattle.float.specs.PolyphaseOutput.{output}
-use Rattle.float.specs.PolyphaseResamp.{shifted_in, consumed, passed, output_of, is_on, in_line, valid_in_line}
+use Rattle.float.specs.PolyphaseResamp.{shifted_in, consumed, passed, output_of, is_on, in_line}
 use Rattle.float.specs.declared.polyphase_resamp.PolyphaseResampF32.{PolyphaseResampF32}
 use Rattle.float.proofs.PolyphaseOutput.{outputs_alike}
 use Rattle.line.proofs.Flags.{and_left}

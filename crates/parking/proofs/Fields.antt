@@ -6,7 +6,7 @@ use Prim.Native.Nat.{ℕ, zero, suc, ◌+◌, ◌*◌, ◌%◌, ◌/◌, ◌<◌
 use native.Mathlib.Nat.{add-zero}
 use native.Mathlib.Omega.{arith}
 use borrow.Author.Tests.{eq-eqb}
-use lib.Ieee.{Float, binary32, fits, to_bits, of_bits}
+use lib.Ieee.{Float, binary32, to_bits, of_bits}
 use lib.Ieee.Bits.{of_bits-to_bits, to_bits-lt}
 use lib.ListN.{length, get_or, take, drop, set, replicate, length-append}
 use lib.Seq.{drop_at, drop-drop, get_or-drop}

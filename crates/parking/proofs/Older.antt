@@ -2,14 +2,14 @@
 -- left, which takes more at 128 than at 64. The mark is one bit of the count, over which an older panel refuses, and without it the former rule is in force.
 use mathlib.Core.Path.{◌≡◌, refl, sym, ap, ◌∙◌, subst}
 use mathlib.Core.Bool.{Bool, true, false, cond, ◌&&◌, true≢false}
-use mathlib.Core.List.{List, []}
+use mathlib.Core.List.{List}
 use Prim.Native.Nat.{ℕ, ◌≤◌, ◌<◌}
 use native.Mathlib.Omega.{arith}
 use native.Mathlib.Decide.{dec_lt}
 use borrow.Author.Tests.{ne_eqb, le-leb, lt-leb, leb-true}
 use lib.Dec.{leb, eqb}
 use lib.IntN.{ℤ}
-use lib.ListN.{length, get_or, take}
+use lib.ListN.{length, take}
 use lib.Seq.{take-take}
 use Rattle.refusal.specs.Outcome.{Answer, Opened}
 use Rattle.integer.specs.declared.cic_decimator.CicDecimator.{CicDecimator}
@@ -27,7 +27,7 @@ use Rattle.line.proofs.Lawful.{to_parts}
 use Rattle.sheet.specs.Sheet.{Rule, former, present, le16, mark, marked, sum}
 use Rattle.sheet.proofs.Rules.{count_same}
 use Rattle.parking.specs.Fields.{IsFloat, joined, i16_bytes}
-use Rattle.parking.specs.Parked.{Panel, at6, at7, at9, panel, Settings, settings_of, sizes, thin_sizes, flat, lengths_of, parked, entries_of as entries_in, shaped, take_up_number}
+use Rattle.parking.specs.Parked.{Panel, at6, at7, at9, panel, Settings, settings_of, sizes, thin_sizes, flat, lengths_of, parked, entries_of as entries_in, shaped}
 use Rattle.parking.specs.Entries.{fir_on, resampler_on, settings_in, tap_bytes, delay_bytes, entries_of, thin_entries, entries_by, line_entries, entry_of, line_from, written, fine}
 use Rattle.parking.specs.Parking.{parked_line, park_number, park_answer, park_span, taken_up, taken_up_number}
 use Rattle.parking.specs.Between.{sheet_in}

@@ -11,7 +11,7 @@ use lib.Seq.{take-append_seam, drop-append-add, ext_get_or, get_or_at}
 use Rattle.theory.specs.Lists.{listed}
 use Rattle.theory.proofs.Listed.{length_listed}
 use Rattle.refusal.proofs.Limits.{first_none}
-use Rattle.sheet.specs.Sheet.{Rule, former, present, le16, le32, mark, count_of, most_entries, data_from, sheet_number, reader_number, entry_number, entry, part_at, bytes32, sum, written, marked, laid_entry, ReadsBack}
+use Rattle.sheet.specs.Sheet.{Rule, former, present, le16, le32, mark, count_of, most_entries, data_from, sheet_number, reader_number, entry_number, part_at, bytes32, sum, written, marked, laid_entry, ReadsBack}
 use Rattle.sheet.proofs.Answering.{entry_part}
 use Rattle.sheet.proofs.Writing.{Laid}
 use Rattle.sheet.proofs.RoundTrip.{found_at, reads_back}

@@ -2,12 +2,12 @@
 use mathlib.Core.Path.{◌≡◌, refl, sym, ap, ◌∙◌, subst}
 use mathlib.Core.Bool.{Bool, true, false, cond, ◌&&◌}
 use mathlib.Core.List.{List}
-use Prim.Native.Nat.{ℕ, zero, suc, ◌+◌, ◌*◌, ◌-◌, ◌^◌, ◌≤◌, ◌<◌, min}
+use Prim.Native.Nat.{ℕ, ◌+◌, ◌*◌, ◌≤◌, ◌<◌, min}
 use native.Mathlib.Nat.{mul-le-mul}
 use native.Mathlib.Omega.{arith}
 use native.Mathlib.Decide.{dec_lt}
-use borrow.Author.Tests.{eq-eqb, ne_eqb, eqb-true, eqb-false, le-leb}
-use lib.Dec.{leb, ltb, eqb}
+use borrow.Author.Tests.{eq-eqb, eqb-true, eqb-false, le-leb}
+use lib.Dec.{leb, eqb}
 use lib.IntN.{ℤ}
 use lib.Ieee.{binary32, to_bits, of_bits}
 use lib.Ieee.Bits.{of_bits-to_bits}
@@ -29,12 +29,12 @@ use Rattle.float.specs.PolyphaseResamp.{valid_in_line}
 use Rattle.float.specs.PolyphaseResamp as R
 use Rattle.float.specs.declared.polyphase_resamp.PolyphaseResampF32.{PolyphaseResampF32}
 use Rattle.line.specs.Outputs.{Opening}
-use Rattle.line.specs.Line.{thinner_of, half_band_fine, valid, zeros, opened, feed_outcome, feed_span, reset}
+use Rattle.line.specs.Line.{thinner_of, half_band_fine, opened, feed_outcome, feed_span, reset}
 use Rattle.line.specs.Demand3 as D
 use Rattle.line.specs.declared.gauge_line.Line.{Line}
-use Rattle.line.proofs.Flags.{and_left, and_both, not_says}
+use Rattle.line.proofs.Flags.{and_both, not_says}
 use Rattle.line.proofs.Lawful.{to_parts}
-use Rattle.sheet.specs.Sheet.{le16, le32, sum, data_from, most_entries}
+use Rattle.sheet.specs.Sheet.{le16, le32, sum}
 use Rattle.parking.specs.Parked.{Panel, Settings, settings_bytes, settings_of, half_band_bytes, neighbour_count, sizes, thin_sizes, flat, lengths_of, parked, shaped, take_up_number}
 use Rattle.parking.specs.Fields.{is_float, floats_at, joined, i16_bytes}
 use Rattle.parking.specs.Entries.{fir_on, resampler_on, settings_in, tap_bytes, delay_bytes, stages_bytes, prototype_bytes, resampler_bytes, entries_of, thin_entries, entries_by, line_entries, entry_of, line_with, line_from, half_band_from, fir_written, resampler_written, stages_written, written, fine}

@@ -1,14 +1,14 @@
 -- A valid line with zeros in the places that no parking writes is sound, parks to the entries of the line, and is the same as far as any section looks. So it is what is
 -- taken up of the line's sheet, and goes on as the line.
 use mathlib.Core.Path.{◌≡◌, refl, sym, ap, ap₂, ◌∙◌, subst}
-use mathlib.Core.Bool.{Bool, true, false, cond, not}
-use mathlib.Core.List.{List, [], ◌∷◌, ◌++◌}
+use mathlib.Core.Bool.{Bool, true, false, cond}
+use mathlib.Core.List.{List, ◌∷◌, ◌++◌}
 use mathlib.Core.Option.{Option, none, some}
 use Prim.Native.Nat.{ℕ, zero, suc, ◌+◌, ◌*◌, ◌-◌, ◌≤◌, ◌<◌, min}
 use native.Mathlib.Nat.{mul-le-mul}
 use native.Mathlib.Omega.{arith}
 use native.Mathlib.Decide.{dec_lt}
-use borrow.Author.Tests.{eq-eqb, eqb-true, eqb-false}
+use borrow.Author.Tests.{eqb-true, eqb-false}
 use lib.Dec.{eqb}
 use lib.IntN.{ℤ, pos}
 use lib.Ieee.{Float, nan}
@@ -21,7 +21,6 @@ use Rattle.theory.specs.Machines.{before}
 use Rattle.theory.specs.Tally.{held_sum}
 use Rattle.theory.specs.Feeds as F
 use Rattle.theory.proofs.FeedRules.{feed_keeps}
-use Rattle.refusal.specs.Outcome.{Opened}
 use Rattle.integer.specs.CicDecimator.{decimator_of}
 use Rattle.integer.specs.declared.cic_decimator.CicDecimator.{CicDecimator}
 use Rattle.nonrecursive.specs.NonrecursiveDecimator.{most_neighbours}
@@ -55,7 +54,7 @@ use Rattle.line.proofs.Lawful.{to_parts, of_parts, line_lawful}
 use Rattle.line.proofs.Demanded.{outcome_is}
 use Rattle.parking.specs.Alike.{LineTyped, fed_on, GoesOnAlike}
 use Rattle.parking.specs.Entries.{fir_on, resampler_on, settings_in, cic_bytes, tap_bytes, delay_bytes, window_of, stage_bytes, stages_bytes, prototype_bytes, resampler_bytes, entries_of, neighbours_bytes, thin_entries, entries_by, line_entries}
-use Rattle.parking.specs.Fields.{All, IsFloat, f32_bytes, joined}
+use Rattle.parking.specs.Fields.{All, IsFloat}
 use Rattle.parking.specs.Parked.{Panel, neighbour_count, parked}
 use Rattle.parking.specs.Parking.{parked_line, park_number, taken_up}
 use Rattle.parking.proofs.Loops.{get_d_any}
@@ -63,8 +62,8 @@ use Rattle.parking.proofs.Fields.{all_take, all_append, all_replicate}
 use Rattle.parking.proofs.Behind.{stage_long}
 use Rattle.parking.proofs.Thinned.{few_neighbours}
 use Rattle.parking.proofs.Whole.{Used, CicWhole, ThinWholeBy, ThinNumbers, thin_numbers, FirWhole}
-use Rattle.parking.proofs.WholeFloats.{HalfUsed, HalfTyped, ResamplerWhole, stage_typed, with_used, window_is}
-use Rattle.parking.proofs.WholeLine.{LineWhole, Sound, half_depth, resampler_taps, half_fresh, zeros_whole, resampler_off, zero_i32, zero_i16, zero_f32}
+use Rattle.parking.proofs.WholeFloats.{HalfUsed, ResamplerWhole, stage_typed, with_used, window_is}
+use Rattle.parking.proofs.WholeLine.{LineWhole, half_depth, resampler_taps, half_fresh, zeros_whole, resampler_off, zero_i32, zero_i16, zero_f32}
 use Rattle.parking.proofs.Taken.{fir_on_is, resampler_on_is, taken_back}
 use Rattle.parking.proofs.Alike.{Alike, alike_before, AlikeSection, SameFed, feed_same}
 use Rattle.parking.proofs.AlikeParts.{CicSame, ThinSameBy, ThinSame, thin_alike, FirSame, fir_both, fir_alike, HalfSame, half_alike, ResamplerSame, resampler_alike}

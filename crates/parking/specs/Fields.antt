@@ -1,5 +1,5 @@
 -- 02, request 6: the fields of an entry. Numbers and floats stand in it one behind the other, each as the little-endian bytes of its bits; "Floats go by their bits".
-use Rattle.std.specs.Prelude.{Bool, true, ◌&&◌, List, [], ◌∷◌, ◌++◌, ℕ, zero, suc, ◌+◌, ◌*◌, T, eqb, ℤ, Float}
+use Rattle.std.specs.Prelude.{Bool, List, [], ◌∷◌, ◌++◌, ℕ, zero, suc, ◌+◌, ◌*◌, T, eqb, ℤ, Float}
 use Rattle.std.specs.Float.{binary32}
 use Rattle.std.specs.Float.Ieee.{fits, to_bits, of_bits}
 use Rattle.std.specs.Int.{w16, w32}

@@ -1,5 +1,5 @@
 -- The numbers of a line that may be parked, and the lengths of its arrays, which are their types'.
-use Rattle.std.specs.Prelude.{◌≡◌, ℕ, ◌≤◌, length}
+use Rattle.std.specs.Prelude.{◌≡◌, ◌≤◌, length}
 use Rattle.integer.specs.declared.cic_decimator.CicDecimator.{CicDecimator}
 use Rattle.q15.specs.FirDecimator.{most_taps}
 use Rattle.q15.specs.declared.fir_decimator.FirDecimator.{FirDecimator}

@@ -1,6 +1,6 @@
 -- 02, request 6, with what requests 7, 9 and 13 ask of it: a parked line as entries of a tap sheet, and the number with which a panel answers it. A panel is a parameter:
 -- an older one is the same definition at other limits.
-use Rattle.std.specs.Prelude.{Bool, true, false, cond, ◌&&◌, List, [], ◌∷◌, ◌++◌, map, ℕ, ◌+◌, ◌*◌, min, eqb, length, get_or}
+use Rattle.std.specs.Prelude.{Bool, true, false, cond, ◌&&◌, List, [], ◌∷◌, ◌++◌, ℕ, ◌+◌, ◌*◌, min, eqb, length, get_or}
 use Rattle.theory.specs.Lists.{listed}
 use Rattle.nonrecursive.specs.NonrecursiveDecimator.{halvings}
 use Rattle.sheet.specs.Sheet.{Rule, former, present, le16, le32, count_of, sheet_number, part_at, bytes16, bytes32, written}

@@ -1,5 +1,5 @@
 -- 02, request 6: parking a line and taking it up, as a panel does it.
-use Rattle.std.specs.Prelude.{Bool, cond, List, ◌++◌, ℕ, leb, eqb, length, drop}
+use Rattle.std.specs.Prelude.{cond, List, ◌++◌, ℕ, leb, eqb, length, drop}
 use Rattle.refusal.specs.Outcome.{Answer, Opened}
 use Rattle.line.specs.Line as L
 use Rattle.line.specs.declared.gauge_line.Line.{Line}

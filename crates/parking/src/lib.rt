@@ -1,4 +1,6 @@
 // 02, request 6: a line parked as a tap sheet.
+#![tactic(auto)]
+
 mod entries;
 mod off;
 mod put;

@@ -11,7 +11,7 @@ use integer::CicDecimator;
 use q15::FirDecimator;
 use words::bits_of_f32;
 
-#[derive(Drop)]
+#[derive(Clone, Copy)]
 pub struct ParkedSettings {
     pub stages: usize,
     pub r: usize,

@@ -14,7 +14,7 @@ use lib.Ieee.{Float, nan}
 use Rattle.theory.specs.Lists.{listed}
 use Rattle.theory.proofs.Listed.{length_listed}
 use Rattle.float.proofs.Flags.{both_true}
-use Rattle.phase_rows.specs.PhaseRows.{place, by_phase, by_tap, InRows, Reordered, Rearranges, lengths_fit}
+use Rattle.phase_rows.specs.PhaseRows.{place, by_phase, InRows, Reordered, Rearranges, lengths_fit}
 
 -- ---- lists by index
 get_d_listed : {A : Type 0} (n : ℕ) (g : ℕ → A) (i : ℕ) (d : A) → i < n → get_or (listed n g) i d ≡ g i

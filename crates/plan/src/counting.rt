@@ -9,7 +9,7 @@ ghost use Rattle.plan.specs.Ticking as K;
 
 use line::Settings;
 
-#[derive(Drop)]
+#[derive(Clone, Copy)]
 pub struct Clock {
     // Samples up to and with the one whose value reaches the resampler next.
     pub left: usize,

@@ -1,4 +1,6 @@
 // 02, request 10: what the calls of a feeding plan would take and write, before a line is opened.
+#![tactic(auto)]
+
 mod counting;
 mod feeding;
 mod lists;

@@ -8,6 +8,6 @@ mod Between
 mod Windows
 pub mod FirSteps
 pub mod FirStream
-pub mod FirOpening
-pub mod FirBlock
+pub mod FirOpenings
+pub mod FirBlocks
 pub mod Readings

@@ -17,7 +17,7 @@ pub const MOST_TAPS: usize = 128;
 
 // A FIR decimator between two samples. The window of the next output stands at the front of the delay; wait counts the samples up to and with the one
 // that makes it. No taps: in the line off, beside it a state that no opening gives.
-#[derive(Drop)]
+#[derive(Clone, Copy)]
 pub struct FirDecimator {
     pub taps: [i16; MOST_TAPS],
     pub tap_count: usize,
@@ -42,7 +42,7 @@ pub struct FirAt {
 }
 
 // What comes of a sample, or why it was turned back.
-#[derive(Drop)]
+#[derive(Clone, Copy)]
 pub enum FirOutput {
     Nothing,
     Value(Q15),

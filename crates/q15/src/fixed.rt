@@ -5,7 +5,7 @@ ghost use Rattle.q15.specs.Fixed.{floored_product, cut, is_cut};
 ghost use Rattle.refusal.specs.Rows.{most_block};
 
 // A signed 16-bit number of 1/32768ths, for a value passed singly; lent slices stay i16.
-#[derive(Drop)]
+#[derive(Clone, Copy)]
 pub struct Q15(pub i16);
 
 // What the cut to 16 bits makes of a number, and whether it cut.

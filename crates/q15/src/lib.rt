@@ -1,4 +1,6 @@
 // 01, sections 2 and 3 and the Q15 part of section 7: 16-bit numbers of 1/32768ths and their rate converters.
+#![tactic(auto)]
+
 pub mod block;
 pub mod fir_block;
 pub mod fir_decimator;

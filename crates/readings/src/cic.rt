@@ -3,14 +3,16 @@ use crate::print::{number, signed, words};
 use integer::CicDecimator;
 use integer::cic_decimator::{CicOutput, CicStep};
 use integer::gain::GainBits;
+use std::io;
+use std::io::Write;
 
-fn shown(output: CicOutput) {
+fn shown<W: Write>(out: &mut W, output: CicOutput) -> io::Result<()> {
     match output {
-        CicOutput::Nothing => {}
-        CicOutput::Sample(y) => signed(y),
+        CicOutput::Nothing => Ok(()),
+        CicOutput::Sample(y) => signed(out, y),
         CicOutput::Refused(q) => {
-            words(b" refused");
-            number(q.number() as u64);
+            words(out, " refused")?;
+            number(out, u64::from(q.number()))
         }
     }
 }
@@ -23,46 +25,56 @@ fn step(d: CicDecimator, x: i32, scaled: bool) -> CicStep {
 }
 
 // The sums of the samples, from a fresh decimator.
-fn sums(name: &[u8], stages: usize, r: usize, scaled: bool, samples: &[i32]) {
-    words(name);
+fn sums<W: Write>(
+    out: &mut W,
+    name: &str,
+    stages: usize,
+    r: usize,
+    scaled: bool,
+    samples: &[i32],
+) -> io::Result<()> {
+    words(out, name)?;
     let mut d = CicDecimator::new(stages, r).state;
-    let mut i = 0;
-    while i < samples.len() {
-        let made = step(d, samples[i], scaled);
-        let output = made.output;
-        let next = made.state;
-        d = next;
-        shown(output);
-        i += 1;
+    for x in samples {
+        let made = step(d, *x, scaled);
+        d = made.state;
+        shown(out, made.output)?;
     }
-    words(b"\n");
+    words(out, "\n")
 }
 
-fn bits(name: &[u8], stages: usize, r: usize) {
-    words(name);
+fn bits<W: Write>(out: &mut W, name: &str, stages: usize, r: usize) -> io::Result<()> {
+    words(out, name)?;
     let d = CicDecimator::new(stages, r).state;
-    let answer = d.gain_bits();
-    match answer {
-        GainBits::Value(g) => number(g as u64),
-        GainBits::Refused(_) => words(b" refused"),
+    match d.gain_bits() {
+        GainBits::Value(g) => number(out, u64::from(g))?,
+        GainBits::Refused(_) => words(out, " refused")?,
     }
-    words(b"\n");
+    words(out, "\n")
 }
 
-pub(crate) fn readings() {
-    sums(b"N=1 r=4, 1 to 8:", 1, 4, false, &[1, 2, 3, 4, 5, 6, 7, 8]);
-    sums(b"N=2 r=2, 1 to 4:", 2, 2, false, &[1, 2, 3, 4]);
+pub(crate) fn readings<W: Write>(out: &mut W) -> io::Result<()> {
     sums(
-        b"N=1 r=2, past the end of the range:",
+        out,
+        "N=1 r=4, 1 to 8:",
+        1,
+        4,
+        false,
+        &[1, 2, 3, 4, 5, 6, 7, 8],
+    )?;
+    sums(out, "N=2 r=2, 1 to 4:", 2, 2, false, &[1, 2, 3, 4])?;
+    sums(
+        out,
+        "N=1 r=2, past the end of the range:",
         1,
         2,
         false,
         &[2147483647, 1, 0, 0],
-    );
-    bits(b"N=3 r=5, gain bits:", 3, 5);
-    bits(b"N=8 r=14, gain bits:", 8, 14);
-    bits(b"N=8 r=15, gain bits:", 8, 15);
-    sums(b"N=8 r=15, scaled:", 8, 15, true, &[1]);
-    sums(b"N=1 r=3, scaled 3, 3, 3:", 1, 3, true, &[3, 3, 3]);
-    sums(b"N=1 r=2, scaled -1, 0:", 1, 2, true, &[-1, 0]);
+    )?;
+    bits(out, "N=3 r=5, gain bits:", 3, 5)?;
+    bits(out, "N=8 r=14, gain bits:", 8, 14)?;
+    bits(out, "N=8 r=15, gain bits:", 8, 15)?;
+    sums(out, "N=8 r=15, scaled:", 8, 15, true, &[1])?;
+    sums(out, "N=1 r=3, scaled 3, 3, 3:", 1, 3, true, &[3, 3, 3])?;
+    sums(out, "N=1 r=2, scaled -1, 0:", 1, 2, true, &[-1, 0])
 }

@@ -3,38 +3,39 @@ use crate::print::{hundredths, number, words};
 use line::{Line, Settings, next_piece};
 use nonrecursive::Thinning;
 use refusal::Counts;
+use std::io;
+use std::io::Write;
 
 // The first so many levels of a span.
-fn levels(span: &[f32], written: usize) {
-    let mut i = 0;
-    while i < span.len() {
+fn levels<W: Write>(out: &mut W, span: &[f32], written: usize) -> io::Result<()> {
+    for (i, level) in span.iter().enumerate() {
         if i < written {
-            hundredths(span[i]);
+            hundredths(out, *level)?;
         }
-        i += 1;
     }
+    Ok(())
 }
 
 // Prints what a feed did, and answers how many samples it took.
-fn shown(counts: Counts, span: &[f32]) -> usize {
+fn shown<W: Write>(out: &mut W, counts: Counts, span: &[f32]) -> io::Result<usize> {
     match counts {
         Counts::Refused(q) => {
-            words(b" refused");
-            number(q.number() as u64);
-            0
+            words(out, " refused")?;
+            number(out, u64::from(q.number()))?;
+            Ok(0)
         }
         Counts::Moved { taken, written } => {
-            words(b" took");
-            number(taken as u64);
-            words(b", wrote");
-            levels(span, written);
-            taken
+            words(out, " took")?;
+            number(out, taken as u64)?;
+            words(out, ", wrote")?;
+            levels(out, span, written)?;
+            Ok(taken)
         }
     }
 }
 
-pub(crate) fn readings() {
-    words(b"Line N=1 r=1, P=2 T=1, step 0.5, samples 16384, 0:");
+pub(crate) fn readings<W: Write>(out: &mut W) -> io::Result<()> {
+    words(out, "Line N=1 r=1, P=2 T=1, step 0.5, samples 16384, 0:")?;
     let thinning = Thinning::Integrators;
     let settings = Settings {
         stages: 1,
@@ -53,12 +54,12 @@ pub(crate) fn readings() {
     let first = opened.line.feed(&samples, &mut one);
     let counts = first.counts;
     let line = first.line;
-    let taken = shown(counts, &one);
-    words(b";");
+    let taken = shown(out, counts, &one)?;
+    words(out, ";")?;
     let rest = next_piece(&samples, taken, &[]);
     let mut three = [0.0f32; 3];
     let second = line.feed(rest, &mut three);
     let counts = second.counts;
-    shown(counts, &three);
-    words(b"\n");
+    shown(out, counts, &three)?;
+    words(out, "\n")
 }

@@ -1,40 +1,50 @@
-// Numbers and words on standard output.
-use float::f32_to_usize_saturating;
-use libc::STDOUT_FILENO;
+// Words and numbers, onto a writer.
+ghost use Rattle.std.specs.Prelude.{◌/◌, ◌%◌, ◌++◌, OnOk, codes, decimal};
+ghost use Rattle.std.specs.Fmt.{signed_decimal};
+ghost use Rattle.std.specs.Io.KnownBytes.{Appends};
 
-pub(crate) fn words(text: &[u8]) {
-    io::write_all(STDOUT_FILENO, text);
+use float::f32_to_usize_saturating;
+use std::io;
+use std::io::Write;
+
+pub(crate) fn words<W: Write>(out: &mut W, text: &str) -> io::Result<()>
+    ensures { OnOk result (Appends (W.contents out.old) (W.contents out.new) text.now) }
+{
+    out.write_all(text.as_bytes())
 }
 
 // A space and a signed number.
-pub(crate) fn signed(x: i32) {
-    let wide = x as i64;
-    if wide < 0 {
-        words(b" -");
-        io::print_decimal(STDOUT_FILENO, (0 - wide) as u64);
-        return;
-    }
-    words(b" ");
-    io::print_decimal(STDOUT_FILENO, wide as u64);
+pub(crate) fn signed<W: Write>(out: &mut W, x: i32) -> io::Result<()>
+    ensures { OnOk result (Appends (W.contents out.old) (W.contents out.new) (codes " " ++ signed_decimal x)) }
+{
+    write!(out, " {x}")
 }
 
 // A space and a number.
-pub(crate) fn number(n: u64) {
-    words(b" ");
-    io::print_decimal(STDOUT_FILENO, n);
+pub(crate) fn number<W: Write>(out: &mut W, n: u64) -> io::Result<()>
+    ensures { OnOk result (Appends (W.contents out.old) (W.contents out.new) (codes " " ++ decimal n)) }
+{
+    write!(out, " {n}")
+}
+
+// A number of hundredths, to two places.
+fn places<W: Write>(out: &mut W, n: u64) -> io::Result<()>
+    ensures { OnOk result (Appends (W.contents out.old) (W.contents out.new)
+        (decimal (n / 100) ++ codes "." ++ decimal (n / 10 % 10) ++ decimal (n % 10))) }
+{
+    let whole = n / 100;
+    let tenths = n / 10 % 10;
+    let hundredths = n % 10;
+    write!(out, "{whole}.{tenths}{hundredths}")
 }
 
 // A space and a level to two places.
-pub(crate) fn hundredths(x: f32) {
-    words(b" ");
+pub(crate) fn hundredths<W: Write>(out: &mut W, x: f32) -> io::Result<()> {
+    words(out, " ")?;
     let mut size = x;
     if x < 0.0 {
-        words(b"-");
+        words(out, "-")?;
         size = 0.0 - x;
     }
-    let n = f32_to_usize_saturating(size * 100.0);
-    io::print_decimal(STDOUT_FILENO, (n / 100) as u64);
-    words(b".");
-    io::print_decimal(STDOUT_FILENO, (n / 10 % 10) as u64);
-    io::print_decimal(STDOUT_FILENO, (n % 10) as u64);
+    places(out, f32_to_usize_saturating(size * 100.0) as u64)
 }

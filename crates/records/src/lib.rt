@@ -1,4 +1,6 @@
 // Records of what the Rust answered: their words, the slices that they lend, and the comparison of answers with them. tests/oracle/README.md has the format.
+#![tactic(auto)]
+
 pub mod answers;
 pub mod slices;
 pub mod words;

@@ -1,11 +1,13 @@
 // The refusals of 01's table, and the answers that carry no more than a refusal or a count.
+#![tactic(auto)]
+
 ghost use Rattle.std.specs.Prelude.{◌≡◌};
 ghost use Rattle.refusal.specs.Table.{number_of};
 
 pub mod rows;
 
 // Why a call is turned back: one case for each number of 01's table, and of 02's requests that join it.
-#[derive(Drop)]
+#[derive(Clone, Copy)]
 pub enum Refusal {
     Stages,
     Factor,
@@ -33,21 +35,21 @@ pub enum Refusal {
 }
 
 // What an opening or a reset answers.
-#[derive(Drop)]
+#[derive(Clone, Copy)]
 pub enum Opening {
     Opened,
     Refused(Refusal),
 }
 
 // What a block answers: how many outputs stand in front of the span.
-#[derive(Drop)]
+#[derive(Clone, Copy)]
 pub enum Count {
     Written(usize),
     Refused(Refusal),
 }
 
 // What a feed or a feeding block answers: how many samples it took and how many outputs it wrote.
-#[derive(Drop)]
+#[derive(Clone, Copy)]
 pub enum Counts {
     Moved { taken: usize, written: usize },
     Refused(Refusal),

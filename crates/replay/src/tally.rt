@@ -1,5 +1,10 @@
 // How many records were compared, and how many differ.
-use libc::STDOUT_FILENO;
+ghost use Rattle.std.specs.Prelude.{◌≡◌, ◌+◌, ◌%◌, ◌^◌, ◌<◌, ◌++◌, IsTrue, IsFalse, OnOk, codes};
+ghost use Rattle.std.specs.Io.KnownBytes.{Appends};
+ghost use Rattle.replay.specs.Report.{eight_digits, count_text, difference_text};
+
+use std::io;
+use std::io::Write;
 
 #[derive(Drop)]
 pub(crate) struct Tally {
@@ -11,7 +16,10 @@ pub(crate) struct Tally {
 }
 
 impl Tally {
-    pub(crate) fn none() -> Tally {
+    pub(crate) fn none() -> Tally
+        ensures records { result.records ≡ 0 }
+        ensures differences { result.differences ≡ 0 }
+    {
         Tally {
             records: 0,
             differences: 0,
@@ -20,8 +28,16 @@ impl Tally {
         }
     }
 
-    pub(crate) fn counted(mut self, operation: u32, same: bool) -> Tally {
-        self.records = std::num::wrapping_add_u64(self.records, 1);
+    pub(crate) fn counted(mut self, operation: u32, same: bool) -> Tally
+        ensures records { result.records ≡ (self.records + 1) % 2 ^ 64 }
+        ensures agrees { IsTrue same → result.differences ≡ self.differences }
+        ensures differs { IsFalse same → result.differences ≡ (self.differences + 1) % 2 ^ 64 }
+        ensures first { IsFalse same → self.differences ≡ 0 → result.first ≡ result.records }
+        ensures first_operation { IsFalse same → self.differences ≡ 0 → result.operation ≡ operation }
+        ensures kept_first { 0 < self.differences → result.first ≡ self.first }
+        ensures kept_operation { 0 < self.differences → result.operation ≡ self.operation }
+    {
+        self.records = self.records.wrapping_add(1);
         if same {
             return self;
         }
@@ -29,21 +45,53 @@ impl Tally {
             self.first = self.records;
             self.operation = operation;
         }
-        self.differences = std::num::wrapping_add_u64(self.differences, 1);
+        self.differences = self.differences.wrapping_add(1);
         self
     }
 
-    pub(crate) fn report(self) {
-        io::print_decimal(STDOUT_FILENO, self.records);
-        io::write_all(STDOUT_FILENO, b" records, ");
-        io::print_decimal(STDOUT_FILENO, self.differences);
-        io::write_all(STDOUT_FILENO, b" differences\n");
+    // How many records there were, and how many differ.
+    fn count<W: Write>(&self, out: &mut W) -> io::Result<()>
+        ensures { OnOk result (Appends (W.contents out.old) (W.contents out.new)
+            (count_text self.now.records self.now.differences)) }
+    {
+        let Tally {
+            records,
+            differences,
+            ..
+        } = self;
+        writeln!(out, "{records} records, {differences} differences")
+    }
+
+    // An operation's code and the line's end.
+    fn code<W: Write>(out: &mut W, operation: u32) -> io::Result<()>
+        ensures { OnOk result (Appends (W.contents out.old) (W.contents out.new) (eight_digits operation ++ codes "\n")) }
+    {
+        writeln!(out, "{operation:08x}")
+    }
+
+    fn difference<W: Write>(&self, out: &mut W) -> io::Result<()>
+        ensures { OnOk result (Appends (W.contents out.old) (W.contents out.new)
+            (difference_text self.now.first self.now.operation)) }
+    {
+        let Tally {
+            first,
+            operation,
+            ..
+        } = self;
+        write!(out, "first difference: record {first}, operation ")?;
+        Tally::code(out, *operation)
+    }
+
+    pub(crate) fn report<W: Write>(self, out: &mut W) -> io::Result<()>
+        ensures same { self.differences ≡ 0 → OnOk result (Appends (W.contents out.old) (W.contents out.new)
+            (count_text self.records 0)) }
+        ensures differs { 0 < self.differences → OnOk result (Appends (W.contents out.old) (W.contents out.new)
+            (count_text self.records self.differences ++ difference_text self.first self.operation)) }
+    {
+        self.count(out)?;
         if self.differences > 0 {
-            io::write_all(STDOUT_FILENO, b"first difference: record ");
-            io::print_decimal(STDOUT_FILENO, self.first);
-            io::write_all(STDOUT_FILENO, b", operation ");
-            io::print_hex(STDOUT_FILENO, self.operation as u64, 8);
-            io::write_all(STDOUT_FILENO, b"\n");
+            return self.difference(out);
         }
+        Ok(())
     }
 }

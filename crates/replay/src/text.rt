@@ -1,7 +1,12 @@
-// Reading a record from standard input: each word is eight hexadecimal digits and one byte, a blank or, after the last, the line's end.
-ghost use Rattle.std.specs.Prelude.{◌<◌};
+// Reading a record: each word is eight hexadecimal digits and one byte, a blank or, after the last, the line's end.
+ghost use Rattle.std.specs.Prelude.{◌≡◌, ℕ, ◌*◌, ◌/◌, ◌<◌, ◌≤◌, false, length, take, IfOk, IsTrue};
+ghost use Rattle.std.specs.Fmt.{digit_glyph};
+ghost use Rattle.std.specs.Io.{ReadsAtMost};
+ghost use Rattle.std.specs.Io.KnownBytes.{Consumes, IsAtEnd, ReadConsumes};
+ghost use Rattle.replay.specs.Text.{IfOf, IfRecord, record_text, separator_of, word_text, words_text};
 
-use libc::STDIN_FILENO;
+use std::io;
+use std::io::ErrorKind;
 
 // Bytes of a word.
 const WIDTH: usize = 9;
@@ -27,16 +32,21 @@ enum Word {
 }
 
 // The value of a digit, 16 for another byte.
-fn digit(b: u8) -> u32 {
+fn digit(b: u8) -> u32
+    ensures spelled { result < 16 → b ≡ digit_glyph false result }
+    ensures value { (d : ℕ) → d < 16 → b ≡ digit_glyph false d → result ≡ d }
+{
     match b {
-        48..=57 => (b - 48) as u32,
-        97..=102 => (b - 87) as u32,
+        48..=57 => u32::from(b - 48),
+        97..=102 => u32::from(b - 87),
         _ => 16,
     }
 }
 
 // The word at the front, if the byte behind it is `separator`.
-fn parse_word(text: &[u8], separator: u8) -> Word {
+fn parse_word(text: &[u8], separator: u8) -> Word
+    ensures { IfOf result (λ x. take 9 text.now ≡ word_text x separator) }
+{
     if text.len() < WIDTH {
         return Word::Broken;
     }
@@ -44,29 +54,29 @@ fn parse_word(text: &[u8], separator: u8) -> Word {
         return Word::Broken;
     }
     let mut value: u32 = 0;
-    let mut i = 0;
-    while i < 8 {
+    for i in 0..8 {
         let d = digit(text[i]);
         if d > 15 {
             return Word::Broken;
         }
         value = value % 268435456 * 16 + d;
-        i += 1;
     }
     Word::Of(value)
 }
 
 fn separator(i: usize, count: usize) -> u8
     requires { i < count }
+    ensures { result ≡ separator_of i count }
 {
     if i + 1 < count { BLANK } else { LINE_END }
 }
 
 // Fills `words` from a text that has exactly so many.
-fn parse(text: &[u8], words: &mut [u32]) -> bool {
+fn parse(text: &[u8], words: &mut [u32]) -> bool
+    ensures { IsTrue result → take (length words.new * 9) text.now ≡ words_text (length text.now / 9) (length words.new) words.new }
+{
     let count = text.len() / WIDTH;
-    let mut i = 0;
-    while i < words.len() {
+    for i in 0..words.len() {
         if count <= i {
             return false;
         }
@@ -75,34 +85,75 @@ fn parse(text: &[u8], words: &mut [u32]) -> bool {
             return false;
         };
         words[i] = x;
-        i += 1;
     }
     true
 }
 
+// One read, tried again where a signal interrupts it.
+fn read_some<R: io::Read>(source: &mut R, buf: &mut [u8]) -> io::Result<usize>
+    ensures bound { ReadsAtMost result buf.new }
+    ensures bytes { ReadConsumes (R.remaining source.old) (R.remaining source.new) result buf.new }
+{
+    for _ in 0..u64::MAX {
+        match source.read(buf) {
+            Err(e) if e.kind() == ErrorKind::Interrupted => {}
+            answer => return answer,
+        }
+    }
+    source.read(buf)
+}
+
+// Reads until `buf` is full or the input ends, and answers how many bytes it put at the front of it.
+fn read_full<R: io::Read>(source: &mut R, buf: &mut [u8]) -> io::Result<usize>
+    ensures within { IfOk result (λ n. n ≤ length buf.new) }
+    ensures consumed { IfOk result (λ n. Consumes (R.remaining source.old) (R.remaining source.new) (take n buf.new)) }
+    ensures ended { IfOk result (λ n. n < length buf.new → IsAtEnd (R.remaining source.new)) }
+{
+    let mut done = 0;
+    for _ in 0..buf.len() {
+        if done >= buf.len() {
+            return Ok(done);
+        }
+        let got = read_some(source, &mut buf[done..])?;
+        if got == 0 {
+            return Ok(done);
+        }
+        done += got;
+    }
+    Ok(done)
+}
+
 // The next record's words, by way of `bytes`.
-pub(crate) fn read_record(bytes: &mut [u8], words: &mut [u32]) -> Read {
+pub(crate) fn read_record<R: io::Read>(
+    source: &mut R,
+    bytes: &mut [u8],
+    words: &mut [u32],
+) -> io::Result<Read>
+    ensures room { IfOk result (λ found. IfRecord found (λ count. count ≤ length words.new)) }
+    ensures spelled { IfOk result (λ found. IfRecord found (λ count. Consumes (R.remaining source.old) (R.remaining source.new) (record_text count words.new))) }
+    ensures end { IfOk result (λ found. found ≡ Read.End → IsAtEnd (R.remaining source.old)) }
+{
     let mut header = [0u8; WIDTH];
-    let got = io::read_full(STDIN_FILENO, &mut header);
+    let got = read_full(source, &mut header)?;
     if got == 0 {
-        return Read::End;
+        return Ok(Read::End);
     }
     let Word::Of(n) = parse_word(&header[..got], BLANK) else {
-        return Read::Broken;
+        return Ok(Read::Broken);
     };
     let count = n as usize;
     if words.len() < count {
-        return Read::Broken;
+        return Ok(Read::Broken);
     }
     if bytes.len() / WIDTH < count {
-        return Read::Broken;
+        return Ok(Read::Broken);
     }
     let text = &mut bytes[0..count * WIDTH];
-    if io::read_full(STDIN_FILENO, text) < text.len() {
-        return Read::Broken;
+    if read_full(source, text)? < text.len() {
+        return Ok(Read::Broken);
     }
     if parse(text, &mut words[0..count]) {
-        return Read::Record(count);
+        return Ok(Read::Record(count));
     }
-    Read::Broken
+    Ok(Read::Broken)
 }

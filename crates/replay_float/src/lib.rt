@@ -1,4 +1,6 @@
 // The float layer's operations, compared with records of what the Rust answered.
+#![tactic(auto)]
+
 mod answers;
 mod blocks;
 mod hbf_dec;

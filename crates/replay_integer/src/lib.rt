@@ -1,4 +1,6 @@
 // The integer layer's operations, compared with records of what the Rust answered.
+#![tactic(auto)]
+
 mod cic_decimator;
 mod cic_interpolator;
 mod gain;

@@ -1,4 +1,6 @@
 // The gauge line's operations, compared with records of what the Rust's converters answered.
+#![tactic(auto)]
+
 mod gauge_line;
 pub mod operations;
 

@@ -1,4 +1,6 @@
 // Tap sheets, compared with records of what 02 answers.
+#![tactic(auto)]
+
 pub mod operations;
 mod tap_sheet;
 

@@ -11,14 +11,14 @@ use refusal::{Opening, Refusal};
 pub const MOST_ENTRIES: usize = 32;
 
 // How many entries a sheet has, or why it is refused.
-#[derive(Drop)]
+#[derive(Clone, Copy)]
 pub enum SheetCount {
     Entries(usize),
     Refused(Refusal),
 }
 
 // How many bytes an entry has, or why it is refused.
-#[derive(Drop)]
+#[derive(Clone, Copy)]
 pub enum EntrySize {
     Bytes(usize),
     Refused(Refusal),

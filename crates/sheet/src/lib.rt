@@ -1,4 +1,6 @@
 // 02, request 1: tap sheets. A reader over a sheet's bytes, and a writer.
+#![tactic(auto)]
+
 pub mod check;
 pub mod fields;
 pub mod tap_sheet;

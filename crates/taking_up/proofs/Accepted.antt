@@ -1,10 +1,10 @@
 -- What is taken up is what some parking writes: the line that was read is valid, and its entries are those that it was read from.
-use mathlib.Core.Path.{◌≡◌, refl, sym, ap, ap₂, ◌∙◌, subst}
+use mathlib.Core.Path.{◌≡◌, refl, sym, ap, ap₂, ◌∙◌}
 use mathlib.Core.Bool.{Bool, true, false, cond, ◌&&◌, true≢false}
 use mathlib.Core.List.{List, [], ◌∷◌}
-use Prim.Native.Nat.{ℕ, zero, suc, ◌+◌, ◌*◌, ◌≤◌, ◌<◌, min}
+use Prim.Native.Nat.{ℕ, zero, suc, ◌+◌, ◌*◌, ◌≤◌, min}
 use native.Mathlib.Omega.{arith}
-use borrow.Author.Tests.{eq-eqb, eqb-true, leb-true}
+use borrow.Author.Tests.{eqb-true, leb-true}
 use lib.Dec.{eqb, leb, eqb-suc-zero}
 use lib.IntN.{pos}
 use lib.Ieee.{binary32, to_bits, of_bits}
@@ -20,11 +20,10 @@ use Rattle.theory.specs.Lists.{listed}
 use Rattle.refusal.specs.Outcome.{Opened}
 use Rattle.line.specs.declared.gauge_line.Line.{Line}
 use Rattle.sheet.specs.Sheet.{present, le16, le32, count_of, sheet_number, offset, size, part_at}
-use Rattle.sheet.specs.Laid.{laid}
 use Rattle.sheet.proofs.Laying.{laid_none}
-use Rattle.parking.specs.Fields.{is_float, floats_at, values_at, i16_at, f32_at, All}
-use Rattle.parking.specs.Parked.{Settings, panel, settings_bytes, settings_of, sizes, thin_sizes, neighbour_count, same, lengths_of, half_band_bytes, entries_of, shaped, take_up_number}
-use Rattle.parking.specs.Entries.{fir_on, resampler_on, settings_in, cic_bytes, tap_bytes, delay_bytes, stages_bytes, prototype_bytes, resampler_bytes, entries_of as entries_in, thin_entries, entries_by, line_entries, cic_from, place_from, fir_from, half_band_from, counts_from, held_from, delays_from, resampler_from, stages_written, fir_written, resampler_written, written, fine, line_with, line_from}
+use Rattle.parking.specs.Fields.{is_float, floats_at, values_at, All}
+use Rattle.parking.specs.Parked.{Settings, panel, settings_of, sizes, thin_sizes, neighbour_count, same, lengths_of, half_band_bytes, entries_of, shaped, take_up_number}
+use Rattle.parking.specs.Entries.{fir_on, resampler_on, settings_in, stages_bytes, entries_of as entries_in, thin_entries, entries_by, line_entries, cic_from, place_from, fir_from, half_band_from, resampler_from, stages_written, fir_written, resampler_written, written, fine, line_with, line_from}
 use Rattle.parking.specs.Parking.{taken_up, taken_up_number}
 use Rattle.parking.proofs.Fields.{all_take, all_drop, all_append}
 use Rattle.parking.proofs.WholeLine.{half_depth}

@@ -1,19 +1,17 @@
 -- What is read from an entry of the right length is written as it stood: words of any width by one law, then each part of a line.
 use mathlib.Core.Path.{◌≡◌, refl, sym, ap, ap₂, ◌∙◌, subst}
-use mathlib.Core.Bool.{Bool, true, false, cond, ◌&&◌}
+use mathlib.Core.Bool.{Bool, true}
 use mathlib.Core.List.{List, [], ◌∷◌, ◌++◌, append_assoc, append-nil}
 use Prim.Native.Nat.{ℕ, zero, suc, ◌+◌, ◌*◌, ◌-◌, ◌%◌, ◌/◌, ◌≤◌, ◌<◌}
 use native.Mathlib.Numerals.{add-one}
 use native.Mathlib.Omega.{arith}
 use native.Mathlib.Decide.{dec_lt}
-use borrow.Author.Tests.{eq-eqb, ne_eqb, eqb-true}
-use lib.Dec.{eqb, leb}
-use lib.IntN.{ℤ, pos}
-use lib.Ieee.{Float, binary32, to_bits, of_bits}
-use lib.ListN.{length, get_or, set, take, drop, replicate, length-append, length-drop, length-set, length-replicate, drop_of_length-le}
-use lib.Seq.{drop-cons, drop-drop, drop_at, take_at, take-append-le, drop-append-le, get_or-set_same, get_or-set_other, length-take-le, take-append_seam}
+use borrow.Author.Tests.{eqb-true}
+use lib.IntN.{pos}
+use lib.Ieee.{binary32, to_bits, of_bits}
+use lib.ListN.{length, get_or, set, take, drop, replicate, length-drop, length-set, drop_of_length-le}
+use lib.Seq.{drop-cons, drop_at, take_at, take-append-le, drop-append-le, get_or-set_same, get_or-set_other, length-take-le}
 use mir.Syntax.{w16, w32}
-use mir.Val.{to_z, of_z}
 use mir.Facts.{of_z-to_z}
 use Rattle.nonrecursive.specs.NonrecursiveDecimator.{most_neighbours}
 use Rattle.q15.specs.FirDecimator.{most_taps}
@@ -23,7 +21,7 @@ use Rattle.sheet.specs.Laid.{laid}
 use Rattle.sheet.proofs.Laying.{laid_front, laid_length}
 use Rattle.parking.specs.Fields.{i16_bytes, i32_bytes, f32_bytes, joined, i16_at, i32_at, f32_at, values_at, is_float, floats_at, All}
 use Rattle.parking.specs.Parked.{Settings, settings_bytes, settings_of, half_band_bytes, neighbour_count}
-use Rattle.parking.specs.Entries.{cic_bytes, neighbours_bytes, tap_bytes, delay_bytes, window_of, stage_bytes, stages_bytes, prototype_bytes, resampler_bytes, cic_from, place_from, neighbours_from, fir_from, counts_from, held_from, delays_from, half_band_from, resampler_from, stages_written}
+use Rattle.parking.specs.Entries.{cic_bytes, neighbours_bytes, tap_bytes, delay_bytes, window_of, stage_bytes, stages_bytes, prototype_bytes, resampler_bytes, cic_from, place_from, neighbours_from, fir_from, counts_from, held_from, delays_from, resampler_from, stages_written}
 use Rattle.parking.proofs.Fields.{all_get_d, values_length}
 use Rattle.parking.proofs.Back.{bytes_more}
 use Rattle.parking.proofs.WholeFloats.{window_most}

@@ -1,4 +1,6 @@
 // 02, request 6: a parked line taken up again.
+#![tactic(auto)]
+
 mod get;
 mod reading;
 mod taking;

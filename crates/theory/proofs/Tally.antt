@@ -2,14 +2,13 @@
 use mathlib.Core.Path.{◌≡◌, refl, sym, ap, ap₂, ◌∙◌}
 use mathlib.Core.Bool.{Bool, true, false}
 use mathlib.Core.List.{List, [], ◌∷◌, ◌++◌}
-use mathlib.Core.Option.{Option, none, some}
-use Prim.Native.Nat.{ℕ, zero, suc, ◌+◌, ◌-◌, min}
+use Prim.Native.Nat.{ℕ, zero, suc, ◌+◌}
 use native.Mathlib.Omega.{arith}
 use native.Mathlib.Nat.{add_assoc}
 use lib.ListN.{length, take}
 use Rattle.theory.specs.Sections.{Section, state}
 use Rattle.theory.specs.Machines.{Machine}
-use Rattle.theory.specs.Feeds.{Fed, idle, wrote_then, took_then, less, steps, feed, History, opened, fed, line_of, taken_of}
+use Rattle.theory.specs.Feeds.{less, steps, feed, History, opened, fed, line_of, taken_of}
 use Rattle.theory.specs.Tally.{held_sum, tallied}
 use Rattle.theory.proofs.Sections.{state_append}
 use Rattle.theory.proofs.Machines.{dry, dry_true, dry_false, all, Lawful, all_seen}

@@ -147,15 +147,29 @@ impl Scope<'_> {
     }
 }
 
-// The parts between the signs that stand in no parentheses.
+// The parts between the signs that stand in no parentheses or braces.
 fn apart(value: &str, sign: char) -> Vec<&str> {
     let mut depth = 0;
     value
         .split(|c| {
-            depth += i32::from(c == '(') - i32::from(c == ')');
+            depth += i32::from("({".contains(c)) - i32::from(")}".contains(c));
             c == sign && depth == 0
         })
         .collect()
+}
+
+// The paths of a `use`: `q15::{A, b::{B as C}}` is `q15::A` and `q15::b::B as C`.
+fn paths(tree: &str) -> Vec<String> {
+    let Some((front, group)) = tree.split_once('{') else {
+        return vec![tree.trim().to_string()];
+    };
+    let group = group.trim_end().trim_end_matches(',');
+    let group = group.strip_suffix('}').unwrap_or(group);
+    let inner = apart(group, ',')
+        .into_iter()
+        .filter(|one| !one.trim().is_empty());
+    let inner = inner.flat_map(paths);
+    inner.map(|path| front.trim().to_string() + &path).collect()
 }
 
 // `pub const NAME: usize = 8`, behind whatever ended before it.
@@ -166,15 +180,21 @@ fn declaration(statement: &str) -> Option<(&str, &str, &str)> {
     text::is_name(name.trim()).then_some((name.trim(), number.trim(), value.trim()))
 }
 
-// `use q15::fir_decimator::MOST_TAPS`, and the same with `as`.
+// `use q15::fir_decimator::MOST_TAPS`, the same with `as`, and several in braces.
 fn file_of(crate_name: &str, code: &str) -> File {
     let mut file = File {
         crate_name: crate_name.to_string(),
         used: BTreeMap::new(),
     };
+    let lines = code.lines().filter(|line| !line.starts_with("#!["));
+    let code = lines.collect::<Vec<&str>>().join("\n");
     let statements = code.split(';').map(str::trim);
-    for path in statements.filter_map(|statement| statement.strip_prefix("use ")) {
-        let (path, alias) = path.split_once(" as ").unwrap_or((path, ""));
+    let trees = statements.filter_map(|statement| {
+        let statement = statement.strip_prefix("pub ").unwrap_or(statement);
+        statement.strip_prefix("use ")
+    });
+    for path in trees.flat_map(paths) {
+        let (path, alias) = path.split_once(" as ").unwrap_or((&path, ""));
         let Some((from, name)) = path.split_once("::") else {
             continue;
         };
@@ -190,6 +210,16 @@ fn file_of(crate_name: &str, code: &str) -> File {
 #[cfg(test)]
 mod tests {
     use super::*;
+
+    #[test]
+    fn paths_in_braces_are_each_their_own() {
+        let found = paths("q15::{\n    A, b::{B as C, D},\n}");
+        assert_eq!(found, ["q15::A", "q15::b::B as C", "q15::b::D"]);
+        let file = file_of("any", "#![tactic(auto)]\n\npub use q15::{A, B as C};");
+        let meant = |name: &str| ("q15".to_string(), name.to_string());
+        assert_eq!(file.used["A"], meant("A"));
+        assert_eq!(file.used["C"], meant("B"));
+    }
 
     #[test]
     fn signs_in_parentheses_keep_their_parts_together() {

@@ -26,7 +26,7 @@ pub struct Refusals {
 impl Refusals {
     pub fn read(root: &Path, limits: &Limits) -> Result<Refusals, String> {
         let names = numbered(&root.join(CODE), "Refusal::", "=>")?;
-        let table = numbered(&root.join(TABLE), "numberOf ", "=")?;
+        let table = numbered(&root.join(TABLE), "number_of ", "=")?;
         if names != table {
             return Err(format!(
                 "{CODE} and {TABLE} number the refusals differently"

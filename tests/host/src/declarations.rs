@@ -1,8 +1,9 @@
 //! The tracked bindings are what host/bindings prints from the crates, and it finds what it should: each edit below, made to a copy of the tree, must be said to differ, where it was made.
 
-use crate::support::{command, printed, read, root, scratch};
-use std::fs;
+use crate::support::{command, files, printed, read, root};
+use std::ops::Deref;
 use std::path::{Path, PathBuf};
+use std::{env, fs, process};
 
 #[test]
 fn the_bindings_are_as_printed() {
@@ -11,11 +12,29 @@ fn the_bindings_are_as_printed() {
     }
 }
 
-// A copy of what the program reads and prints.
-fn copy(name: &str) -> PathBuf {
-    let tree = scratch(name);
+// A copy of what the program reads and prints. It has sources of Rattle, which `rt ci` wants nowhere else in the checkout, so it stands elsewhere, as long as the test runs.
+struct Tree(PathBuf);
+
+impl Deref for Tree {
+    type Target = Path;
+
+    fn deref(&self) -> &Path {
+        &self.0
+    }
+}
+
+impl Drop for Tree {
+    fn drop(&mut self) {
+        // What is left of it is in no one's way.
+        let _ = fs::remove_dir_all(&self.0);
+    }
+}
+
+fn copy(name: &str) -> Tree {
+    let tree = env::temp_dir().join(format!("gauge-{}-{name}", process::id()));
+    fs::create_dir_all(&tree).expect("a folder can be made");
     let paths = [
-        "crates",
+        "crates/refusal/specs",
         "include",
         "host/gauge-line/src",
         "python/gauge_line",
@@ -23,13 +42,17 @@ fn copy(name: &str) -> PathBuf {
         "host/bindings/refusals.txt",
         "host/bindings/limits.txt",
     ];
+    let sources = files("crates", "")
+        .into_iter()
+        .map(|folder| folder.join("src"));
     printed(
         command("cp")
             .args(["-r", "--parents"])
             .args(paths)
+            .args(sources)
             .arg(&tree),
     );
-    tree
+    Tree(tree)
 }
 
 // The file with one text in place of another, which it must have.
@@ -302,11 +325,11 @@ fn a_new_refusal_is_printed() {
         "crates/refusal/specs/Table.antt",
     );
     let words = "host/bindings/refusals.txt";
-    let number = read(table).matches("\nnumberOf ").count() + 1;
+    let number = read(table).matches("\nnumber_of ").count() + 1;
     let arm = format!("Refusal::NewRow => {number},\nRefusal::State => ");
     edit(&tree, code, "Refusal::State => ", &arm);
-    let row = format!("numberOf NewRow = {number}\nnumberOf State = ");
-    edit(&tree, table, "numberOf State = ", &row);
+    let row = format!("number_of NewRow = {number}\nnumber_of State = ");
+    edit(&tree, table, "number_of State = ", &row);
     edit(
         &tree,
         words,

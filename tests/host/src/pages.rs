@@ -214,7 +214,7 @@ fn by_hand(example: &Example, name: &str, edit: &str) {
     );
     let changed = printed(command("bash").args(["-c", &change.replacen(" -i ", " ", 1)]));
     same(change, &edited(name, edit), &changed);
-    let shown = check.strip_prefix(&format!("rt dev {name} 2>&1 | "));
+    let shown = check.strip_prefix(&format!("(cd crates/{name} && rt check) 2>&1 | "));
     let shown = shown.unwrap_or_else(|| panic!("{check} is no check of {name}"));
     let (_, log) = edit_and_log(name, edit);
     if !log.exists() {
@@ -230,23 +230,17 @@ fn by_hand(example: &Example, name: &str, edit: &str) {
     );
 }
 
-// An edit and the log of its try: of must-fail/, which rt tries, or of edits/, which tests/edits does.
+// An edit, of must-fail/ or of edits/, and the log of its try by tests/edits.
 fn edit_and_log(name: &str, edit: &str) -> (PathBuf, PathBuf) {
     let folder = root().join("crates").join(name);
-    let by_rt = folder.join("must-fail").join(format!("{edit}.edit"));
-    if by_rt.exists() {
-        let log = target()
-            .join("must-fail")
-            .join(name)
-            .join(edit)
-            .join(".log");
-        return (by_rt, log);
-    }
-    let log = target()
-        .join("edits")
-        .join(name)
-        .join(format!("{edit}.log"));
-    (folder.join("edits").join(format!("{edit}.edit")), log)
+    let places = ["must-fail", "edits"].map(|place| folder.join(place).join(edit));
+    let file = places.map(|place| place.with_extension("edit"));
+    let file = file.into_iter().find(|file| file.exists());
+    let log = target().join("edits").join(name).join(edit);
+    (
+        file.unwrap_or_else(|| panic!("{name} has no edit {edit}")),
+        log.with_extension("log"),
+    )
 }
 
 // The file that an edit changes, as the edit makes it.

@@ -11,11 +11,11 @@ fn read(path: &str) -> String {
     fs::read_to_string(top.join(path)).unwrap_or_else(|why| panic!("{path}: {why}"))
 }
 
-/// The numbers of `numberOf`, one a line: `numberOf Stages = 1`.
+/// The numbers of `number_of`, one a line: `number_of Stages = 1`.
 fn defined(specs: &str) -> BTreeSet<u32> {
     let equations = specs
         .lines()
-        .filter(|line| line.starts_with("numberOf ") && !line.contains(':'));
+        .filter(|line| line.starts_with("number_of ") && !line.contains(':'));
     let numbers = equations.filter_map(|line| line.split_once(" = "));
     numbers
         .map(|(_, number)| number.parse().expect("a number"))

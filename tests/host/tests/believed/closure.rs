@@ -26,7 +26,7 @@ fn contract(source: &str, call: &str) -> Option<String> {
 }
 
 fn mentions(text: &str, name: &str) -> bool {
-    let no_name = |c: char| c.is_whitespace() || "(){},.;:⌜⌝".contains(c);
+    let no_name = |c: char| c.is_whitespace() || "(){},.;:".contains(c);
     text.split(no_name).any(|word| word == name)
 }
 

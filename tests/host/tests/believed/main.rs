@@ -21,12 +21,12 @@ const REACHED: [(&str, &str, &str); 3] = [
     (
         "The count of cut values, by definitions",
         "line/Outputs",
-        "heldCuts",
+        "held_cuts",
     ),
     (
         "The openings, by definitions",
         "line/Line",
-        "openingNumberOf",
+        "opening_number_of",
     ),
 ];
 
@@ -86,7 +86,7 @@ fn a_missing_row_is_found() {
     for name in [
         "`theory/Wrap`",
         "`line/src/settings.rt`",
-        "`lib.Ieee`",
+        "`Rattle.std.specs.Float`",
         "`theory/Kept`",
     ] {
         let is_row = |line: &&str| !line.starts_with(&format!("| {name} |"));
@@ -97,16 +97,17 @@ fn a_missing_row_is_found() {
             "{name}"
         );
     }
-    let without = page.replace("`movingSum`", "movingSum");
+    let without = page.replace("`moving_sum`", "moving_sum");
     assert!(!wrong_definitions(&top(), &without).is_empty());
 }
 
 #[test]
 fn modules_are_read() {
     let specs = Module::Specs("line/Outputs".to_string());
-    assert_eq!(module("Rattle·line·specs.specs.Outputs"), specs);
-    assert_eq!(module("lib.Ieee"), Module::Kit("lib.Ieee".to_string()));
+    assert_eq!(module("Rattle.line.specs.Outputs"), specs);
+    let kit = "Rattle.std.specs.Int";
+    assert_eq!(module(kit), Module::Kit(kit.to_string()));
     let declared = Module::Declared("refusal/src/lib.rt".to_string(), "Count".to_string());
-    let path = "Rattle·refusal.specs.declared.Count.the-variants";
+    let path = "Rattle.refusal.specs.declared.Count.TheVariants";
     assert_eq!(module(path), declared);
 }

@@ -16,6 +16,8 @@ struct Definition {
 struct File {
     definitions: BTreeMap<String, Definition>,
     brought: BTreeMap<String, String>,
+    /// Modules, by the names that they have here.
+    modules: BTreeMap<String, String>,
 }
 
 fn indent(line: &str) -> usize {
@@ -61,15 +63,21 @@ fn definitions(text: &str) -> BTreeMap<String, Definition> {
 
 fn file(top: &Path, name: &str) -> File {
     let text = specs(top, name);
-    let mut brought = BTreeMap::new();
+    let (mut brought, mut modules) = (BTreeMap::new(), BTreeMap::new());
     for each in text.lines().filter_map(use_of) {
         if let Module::Specs(from) = module(&each.module) {
-            brought.extend(each.known_as.into_iter().map(|known| (known, from.clone())));
+            let known = each.known_as.into_iter().map(|known| (known, from.clone()));
+            if each.whole {
+                modules.extend(known);
+            } else {
+                brought.extend(known);
+            }
         }
     }
     File {
         definitions: definitions(&text),
         brought,
+        modules,
     }
 }
 
@@ -91,16 +99,18 @@ impl File {
             .map(|(name, _)| name.clone())
     }
 
-    /// What a word of a definition in the file `own` names: file and name.
+    /// What a word of a definition in the file `own` names: file and name. Behind a name its fields may stand.
     fn named(&self, own: &str, word: &str) -> Option<(String, String)> {
-        if self.definitions.contains_key(word) {
-            return Some((own.to_string(), word.to_string()));
+        let mut parts = word.split('.');
+        let first = parts.next()?;
+        if let Some(from) = self.modules.get(first) {
+            return Some((from.clone(), parts.next()?.to_string()));
         }
-        if let Some(from) = self.brought.get(word) {
-            return Some((from.clone(), word.to_string()));
+        if self.definitions.contains_key(first) {
+            return Some((own.to_string(), first.to_string()));
         }
-        let (alias, name) = word.split_once('.')?;
-        Some((self.brought.get(alias)?.clone(), name.to_string()))
+        let from = self.brought.get(first)?;
+        Some((from.clone(), first.to_string()))
     }
 }
 
@@ -126,6 +136,28 @@ pub fn reached(top: &Path, from: &str, name: &str) -> BTreeSet<String> {
         }
     }
     all
+}
+
+#[test]
+fn a_field_is_behind_its_name() {
+    let text = "abbrev pub f : A → B\nf a = g a\n";
+    let maps = |known: &str| BTreeMap::from([(known.to_string(), "line/Line".to_string())]);
+    let file = File {
+        definitions: definitions(text),
+        brought: maps("opened"),
+        modules: maps("L"),
+    };
+    let named = |word: &str| {
+        file.named("own/File", word)
+            .map(|(from, name)| from + " " + &name)
+    };
+    assert_eq!(named("f.first").as_deref(), Some("own/File f"));
+    assert_eq!(
+        named("opened.number.x").as_deref(),
+        Some("line/Line opened")
+    );
+    assert_eq!(named("L.valid.x").as_deref(), Some("line/Line valid"));
+    assert_eq!(named("a.b"), None);
 }
 
 #[test]

@@ -20,92 +20,92 @@ use Rattle.chain.proofs.resample.resample.Tie as tie
 abbrev lent : tie.Start → PolyphaseResampF32
 lent s = let a = s.args in resampler_of a.f a.mu a.delay.now a.prototype.now
 
-sub-if2 : tie.Need-overflow-sub-if2
+sub-if2 : tie.Need-overflow_sub-out
 sub-if2 c = search rules
 
-returns : tie.Need-returns
+returns : tie.Need-returns-then-out-from
 returns c =
     let s = c.before.before.before.before.before in
-    (s.requires, λ v whole. let r = off_room (lent s) s.args.levels.now _ (is_off (lent s) c.before.if1.true) v whole in absurd (omega (arith, r, c.if2.true)))
+    (c.requires, λ v whole. let r = off_room (lent s) c.args.levels.now _ (is_off (lent s) c.if-f-eq0.true) v whole in absurd (omega (arith, r, c.if-out-from.true)))
 
-add-past : tie.Need-overflow-add-past
+add-past : tie.Need-overflow_add-past
 add-past c = search rules
 
-mul-put-at-end : tie.Need-overflow-mul-put-at-end
+mul-put-at-end : tie.Need-offset_bounds-out-from
 mul-put-at-end c = search rules
 
-sub-put-at-end : tie.Need-overflow-sub-put-at-end
+sub-put-at-end : tie.Need-slice_bounds-put_at_end-count
 sub-put-at-end c = search rules
 
-part-put-at-end-start : tie.Need-slice-bounds-put-at-end-start
+part-put-at-end-start : tie.Need-slice_bounds-put_at_end-start
 part-put-at-end-start c = search rules
 
-part-put-at-end-end : tie.Need-slice-bounds-put-at-end-end
+part-put-at-end-end : tie.Need-slice_bounds-put_at_end-end
 part-put-at-end-end c = search rules
 
-put-at-end-requires : tie.Need-put-at-end-requires
+put-at-end-requires : tie.Need-put_at_end-requires
 put-at-end-requires c κs = tt
 
-same_length : tie.Need-same-length
+same_length : tie.Need-shape_of-out-then-f-eq0
 same_length c = search rules
 
-returns-2 : tie.Need-returns-2
+returns-2 : tie.Need-returns-then-f-eq0
 returns-2 c =
     let s = c.before.before.before.before.before.before.before.before.before in
-    let a = s.args in
-    let fits : length a.levels.now ≤ length a.out.now - a.from = c.before.before.before.before.if2.false in (
-      omega (arith, fits, s.requires),
+    let a = c.args in
+    let fits : length a.levels.now ≤ length a.out.now - a.from = c.if-out-from.false in (
+      omega (arith, fits, c.requires),
       λ v whole. subst⁻¹ (λ (l : List Float). Batched from5 (lent s) a.levels.now a.from a.out.now l (lent s) (a.from + length a.levels.now))
-          (off_span a.levels.now a.out.now _ a.from fits c.before.before.put-at-end.ensures)
-          (batched_off (lent s) a.levels.now a.from a.out.now (is_off (lent s) c.before.before.before.before.before.if1.true) whole),
+          (off_span a.levels.now a.out.now _ a.from fits c.put_at_end.ensures)
+          (batched_off (lent s) a.levels.now a.from a.out.now (is_off (lent s) c.if-f-eq0.true) whole),
     )
 
-mul-block-at : tie.Need-overflow-mul-block-at
+mul-block-at : tie.Need-offset_bounds-out-from-2
 mul-block-at c = search rules
 
-sub-block-at : tie.Need-overflow-sub-block-at
+sub-block-at : tie.Need-slice_bounds-block_at-count
 sub-block-at c = search rules
 
-part-block-at-start : tie.Need-slice-bounds-block-at-start
+part-block-at-start : tie.Need-slice_bounds-block_at-start
 part-block-at-start c = search rules
 
-part-block-at-end : tie.Need-slice-bounds-block-at-end
+part-block-at-end : tie.Need-slice_bounds-block_at-end
 part-block-at-end c = search rules
 
-block-at-requires : tie.Need-block-at-requires
+block-at-requires : tie.Need-block_at-moved-requires
 block-at-requires c κs = tt
 
-written-of-requires : tie.Need-written-of-requires
+written-of-requires : tie.Need-written_of-requires
 written-of-requires c κs = tt
 
-module _ (c : tie.After-written-of) where
+module _ (c : tie.After-written_of) where
   abbrev start : tie.Start
   start = c.before.before.before.before.before.before.before.before.before.before
 
-  wrote : c.written_of_lem.result ≡ (block_outcome (lent start) start.args.levels.now (rest (lent start) start.args.levels.now start.args.out.now start.args.from start.pre)).value.written
-  wrote = c.written_of_lem.ensures ∙ ap (λ (t : Outcome Counts PolyphaseResampF32). t.value.written) c.before.before.before.block_at.ensures.0
+  wrote : c.written_of.result ≡ (block_outcome (lent start) start.args.levels.now (rest (lent start) start.args.levels.now start.args.out.now start.args.from start.requires)).value.written
+  wrote = c.written_of.ensures ∙ ap (λ (t : Outcome Counts PolyphaseResampF32). t.value.written) c.block_at-moved.ensures.0
 
-  within : start.args.from + c.written_of_lem.result ≤ length start.args.out.now
-  within = written_within (lent start) start.args.levels.now start.args.out.now start.args.from start.pre _ wrote
+  within : start.args.from + c.written_of.result ≤ length start.args.out.now
+  within = written_within (lent start) start.args.levels.now start.args.out.now start.args.from start.requires _ wrote
 
-add-t23 : tie.Need-overflow-add-t23
+add-t23 : tie.Need-overflow_add-result
 add-t23 c = search (rules, within c)
 
-same-length-2 : tie.Need-same-length-2
+same-length-2 : tie.Need-shape_of-out
 same-length-2 c = search rules
 
-returns-3 : tie.Need-returns-3
+returns-3 : tie.Need-returns
 returns-3 c =
     let a = (start c).args in
     let r = lent (start c) in
-    let told = c.before.before.before.block_at.ensures in (
+    let told = c.block_at-moved.ensures in (
       within c,
-      λ v whole. batched_on r a.levels.now a.out.now a.from (start c).requires _ _ _ (is_on_lem r c.before.before.before.before.before.before.if1.false) v (wrote c)
+      λ v whole. batched_on r a.levels.now a.out.now a.from (start c).requires _ _ _ (is_on_lem r c.if-f-eq0.false) v (wrote c)
           (ap (λ (t : Outcome Counts PolyphaseResampF32). t.state) told.0) told.1,
     )
 
-pub resample-spec : {M : Type 1} → statement M
-resample-spec =
+pub resample_spec : {M : Type 1} → statement M
+resample_spec =
     tie.close
     (tie.spec
     sub-if2

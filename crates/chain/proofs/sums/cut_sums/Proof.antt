@@ -16,98 +16,98 @@ use Rattle.chain.proofs.Mapping.{listed_map}
 use Rattle.chain.proofs.sums.cut_sums.Statement.{statement}
 use Rattle.chain.proofs.sums.cut_sums.Tie as tie
 
-abbrev invariant-loop : tie.invariant-loop
+abbrev invariant-loop : tie.invariant-loop-i
 invariant-loop bits sums dst₀ i₀ cuts₀ dst i cuts = CutFilled (λ k. floor_div (at sums k) (2 ^ bits)) dst₀ (length sums) dst i cuts
 
-abbrev decreases-loop : tie.decreases-loop
+abbrev decreases-loop : tie.decreases-loop-i
 decreases-loop bits sums dst₀ i₀ cuts₀ dst i cuts = length sums - i
 
-loop-holds : tie.Need-loop-init invariant-loop decreases-loop
+loop-holds : tie.Need-loop-i-init invariant-loop decreases-loop
 loop-holds c = none_cut _ _ _
 
-mul-scaled : tie.Need-overflow-mul-scaled invariant-loop decreases-loop
+mul-scaled : tie.Need-offset_bounds-sums-i invariant-loop decreases-loop
 mul-scaled c = search rules
 
-shared-slice-copy-out-scaled : tie.Need-shared-slice-copy-out-scaled invariant-loop decreases-loop
+shared-slice-copy-out-scaled : tie.Need-bounds-sums-i invariant-loop decreases-loop
 shared-slice-copy-out-scaled c = search rules
 
-scaled-requires : tie.Need-scaled-requires invariant-loop decreases-loop
+scaled-requires : tie.Need-scaled-y-requires invariant-loop decreases-loop
 scaled-requires c κs = tt
 
-cast-cut-q15 : tie.Need-overflow-cast-cut-q15 invariant-loop decreases-loop
+cast-cut-q15 : tie.Need-overflow_cast-y invariant-loop decreases-loop
 cast-cut-q15 c =
-    let f : SFits w32 c.scaled.result = record { sfits = c.scaled.type-inv } in
+    let f : SFits w32 c.scaled-y.result = record { sfits = c.scaled-y.type_inv } in
     rw (to_z-of_z f) (sfits_widen tt f)
 
-cut-q15-requires : tie.Need-cut-q15-requires invariant-loop decreases-loop
+cut-q15-requires : tie.Need-cut_q15-made-requires invariant-loop decreases-loop
 cut-q15-requires c κs = tt
 
-mul-q : tie.Need-overflow-mul-q invariant-loop decreases-loop
+mul-q : tie.Need-offset_bounds-dst-i invariant-loop decreases-loop
 mul-q c = search rules
 
-slice-set-from-q : tie.Need-slice-set-from-q invariant-loop decreases-loop
+slice-set-from-q : tie.Need-bounds-dst-i invariant-loop decreases-loop
 slice-set-from-q c = search rules
 
-one-requires : tie.Need-one-requires invariant-loop decreases-loop
+one-requires : tie.Need-one-cuts-requires invariant-loop decreases-loop
 one-requires c κs = tt
 
-module _ (c : tie.After-one invariant-loop decreases-loop) where
-  abbrev turn : tie.In-loop invariant-loop decreases-loop
+module _ (c : tie.After-one-cuts invariant-loop decreases-loop) where
+  abbrev turn : tie.In-loop-i invariant-loop decreases-loop
   turn = c.before.before.before.before.before.before
 
-  abbrev loop : tie.At-loop invariant-loop decreases-loop
+  abbrev loop : tie.At-loop-i invariant-loop decreases-loop
   loop = turn.before
 
   abbrev start : tie.Start invariant-loop decreases-loop
   start = loop.before
 
-  sum : to_z w64 (of_z w64 (to_z w32 (of_z w32 c.before.before.before.before.scaled.result))) ≡ floor_div (at start.args.sums.now loop.loop.i) (2 ^ start.args.bits)
+  sum : to_z w64 (of_z w64 (to_z w32 (of_z w32 c.scaled-y.result))) ≡ floor_div (at start.args.sums.now loop.loop-i.i) (2 ^ start.args.bits)
   sum =
-      let r = c.before.before.before.before.scaled in
-      let f : SFits w32 r.result = record { sfits = r.type-inv } in
-      let g : SFits w32 (at start.args.sums.now loop.loop.i) = record { sfits = c.before.before.before.before.before.scaled-arg.given } in
+      let r = c.scaled-y in
+      let f : SFits w32 r.result = record { sfits = r.type_inv } in
+      let g : SFits w32 (at start.args.sums.now loop.loop-i.i) = record { sfits = c.scaled-arg-1.given } in
       rw (to_z-of_z f, to_z-of_z (sfits_widen {w' = w64} tt f)) (r.ensures ∙ ap (λ (z : ℤ). floor_div z (2 ^ start.args.bits)) (to_z-of_z g))
 
-  bits : to_z w16 (of_z w16 c.before.before.before.cut-q15.result.value.0) ≡ c.before.before.before.cut-q15.result.value.0
+  bits : to_z w16 (of_z w16 c.cut_q15-made.result.value.0) ≡ c.cut_q15-made.result.value.0
   bits = search rules
 
-  value : to_z w16 (of_z w16 c.before.before.before.cut-q15.result.value.0) ≡ cut w16 (floor_div (at start.args.sums.now loop.loop.i) (2 ^ start.args.bits))
-  value = bits ∙ c.before.before.before.cut-q15.ensures.0 ∙ ap (cut w16) sum
+  value : to_z w16 (of_z w16 c.cut_q15-made.result.value.0) ≡ cut w16 (floor_div (at start.args.sums.now loop.loop-i.i) (2 ^ start.args.bits))
+  value = bits ∙ c.cut_q15-made.ensures.0 ∙ ap (cut w16) sum
 
-add-cuts : tie.Need-overflow-add-cuts invariant-loop decreases-loop
+add-cuts : tie.Need-overflow_add-cuts invariant-loop decreases-loop
 add-cuts c =
-    let few = few_cut _ _ _ _ _ _ (loop c).loop.invariant in
-    let b = c.one.ensures.1 in
-    search (rules, few, b, (turn c).loop-test.true, (start c).requires.1)
+    let few = few_cut _ _ _ _ _ _ (loop c).loop-i.invariant in
+    let b = c.one-cuts.ensures.1 in
+    search (rules, few, b, (turn c).loop-i-test.true, (start c).requires.1)
 
-add-i : tie.Need-overflow-add-i invariant-loop decreases-loop
+add-i : tie.Need-overflow_add-i invariant-loop decreases-loop
 add-i c = search rules
 
-loop-less : tie.Need-loop-smaller invariant-loop decreases-loop
+loop-less : tie.Need-loop-i-smaller invariant-loop decreases-loop
 loop-less c = search rules
 
-loop-again : tie.Need-loop-preserved invariant-loop decreases-loop
+loop-again : tie.Need-loop-i-preserved invariant-loop decreases-loop
 loop-again c =
     let a = (start c).args in
-    let v = (loop c).loop in
+    let v = (loop c).loop-i in
     next_cut (λ k. floor_div (at a.sums.now k) (2 ^ a.bits)) a.dst.now (length a.sums.now) v.dst v.i v.cuts _ _ _
-    (turn c).loop-test.true (start c).requires.0 (value c) (c.before.before.before.cut-q15.ensures.1 ∙ ap (is_cut w16) (sum c)) (ap (λ (n : ℕ). v.cuts + n) c.one.ensures.0) v.inv
+    (turn c).loop-i-test.true (start c).requires.0 (value c) (c.cut_q15-made.ensures.1 ∙ ap (is_cut w16) (sum c)) (ap (λ (n : ℕ). v.cuts + n) c.one-cuts.ensures.0) v.invariant
 
-same_length : tie.Need-same-length invariant-loop decreases-loop
-same_length c = c.before.loop.invariant.filled.long
+same_length : tie.Need-shape_of-dst invariant-loop decreases-loop
+same_length c = c.loop-i.invariant.filled.long
 
 returns : tie.Need-returns invariant-loop decreases-loop
 returns c =
-    let a = c.before.before.args in
-    let done = all_cut _ _ _ _ _ _ c.loop-test.false c.before.loop.invariant in
+    let a = c.args in
+    let done = all_cut _ _ _ _ _ _ c.loop-i-test.false c.loop-i.invariant in
     let g : ℤ → ℤ = (λ y. floor_div y (2 ^ a.bits)) in (
       done.0
           ∙ ap (λ (l : List ℤ). l ++ drop (length a.sums.now) a.dst.now) (sym (map_listed (cut w16) (length a.sums.now) (λ k. g (at a.sums.now k))) ∙ ap (map (cut w16)) (listed_map g (pos 0) a.sums.now)),
       done.1 ∙ ap (cut_count w16) (listed_map g (pos 0) a.sums.now),
     )
 
-pub cut-sums-spec : {M : Type 1} → statement M
-cut-sums-spec =
+pub cut_sums_spec : {M : Type 1} → statement M
+cut_sums_spec =
     tie.close
     (tie.spec
     invariant-loop

@@ -1,7 +1,7 @@
 -- `sums::take_batch` meets its contract: the sums of section 1 in front of an array, scaled and cut in front of another, and these into the FIR.
 use mathlib.Core.Path.{◌≡◌, sym, ◌∙◌}
 use mathlib.Core.List.{List, ◌++◌}
-use Prim.Native.Nat.{ℕ, ◌-◌, ◌≤◌, min}
+use Prim.Native.Nat.{ℕ, ◌≤◌, min}
 use native.Mathlib.Omega.{arith}
 use borrow.Author.Rules.{rules}
 use lib.IntN.{ℤ, pos}
@@ -22,36 +22,36 @@ zeros = replicate 128 (pos 0)
 zeros_long : length zeros ≡ 128
 zeros_long = length-replicate 128 (pos 0)
 
-least-requires : tie.Need-least-requires
+least-requires : tie.Need-least-most-requires
 least-requires c κs = tt
 
-least-requires-2 : tie.Need-least-requires-2
+least-requires-2 : tie.Need-least-at-requires
 least-requires-2 c κs = tt
 
-array-borrow-prefix-sums : tie.Need-array-borrow-prefix-sums
+array-borrow-prefix-sums : tie.Need-slice_bounds-sums-end
 array-borrow-prefix-sums c = search rules
 
 few : (n m : ℕ) → n ≡ min m 128 → n ≤ 128
 few n m e = omega arith
 
-slice-aggregate-thin-block-at : tie.Need-slice-aggregate-thin-block-at
+slice-aggregate-thin-block-at : tie.Need-slice_bounds-thin_block_at-end
 slice-aggregate-thin-block-at c =
-    let l = c.before.before.before.before.before.least in
+    let l = c.least-most in
     sym (length-take-le l.result zeros (few l.result _ l.ensures))
 
-thin-block-at-requires : tie.Need-thin-block-at-requires
+thin-block-at-requires : tie.Need-thin_block_at-moved-requires
 thin-block-at-requires c κs = tt
 
 -- the sums
-module _ (c : tie.After-thin-block-at) where
+module _ (c : tie.After-thin_block_at-moved) where
   abbrev start : tie.Start
   start = c.before.before.before.before.before.before.before.before
 
   abbrev most : ℕ
-  most = c.before.before.before.before.before.before.least.result
+  most = c.least-most.result
 
   abbrev thinner : Thinner
-  thinner = let a = start.args in thinner_of a.thinning a.f a.sample-counter a.integrators.now a.combs.now a.neighbours.now
+  thinner = let a = start.args in thinner_of a.thinning a.f a.sample_counter a.integrators.now a.combs.now a.neighbours.now
 
   abbrev fir : FirDecimator
   fir = let a = start.args in fir_of a.f a.wait a.taps.now a.fir_delay.now
@@ -63,41 +63,41 @@ module _ (c : tie.After-thin-block-at) where
   resampler = let a = start.args in resampler_of a.f a.mu a.delay.now a.prototype.now
 
   lent_long : length (take most zeros) ≡ most
-  lent_long = length-take-le most zeros (few most _ c.before.before.before.before.before.before.least.ensures)
+  lent_long = length-take-le most zeros (few most _ c.least-most.ensures)
 
   -- the array that they stand in front of
   abbrev sums : List ℤ
-  sums = c.thin-block-at.new.1.1.1.1.1.1.1.1.0 ++ drop most zeros
+  sums = c.thin_block_at-moved.new.dst ++ drop most zeros
 
   abbrev made : ℕ
-  made = c.thin-block-at.result.made
+  made = c.thin_block_at-moved.result.made
 
   abbrev written : List ℤ
   written = (thin_fed thinner start.args.samples.now (length (take most zeros))).written
 
   front : take made sums ≡ written
-  front = let e = c.thin-block-at.ensures in sums_front written (take most zeros) _ (drop most zeros) made e.0.1 e.1.1
+  front = let e = c.thin_block_at-moved.ensures in sums_front written (take most zeros) _ (drop most zeros) made e.0.1 e.1.1
 
   made_in : made ≤ length sums
-  made_in = let e = c.thin-block-at.ensures in sums_within written (take most zeros) _ (drop most zeros) made e.0.1 e.1.1
+  made_in = let e = c.thin_block_at-moved.ensures in sums_within written (take most zeros) _ (drop most zeros) made e.0.1 e.1.1
 
   few_made : made ≤ 128
   few_made =
-      let e = c.thin-block-at.ensures.0.1 in
+      let e = c.thin_block_at-moved.ensures.0.1 in
       let w = (thin_within thinner start.args.samples.now (length (take most zeros))).1 in
-      let m = few most _ c.before.before.before.before.before.before.least.ensures in
+      let m = few most _ c.least-most.ensures in
       omega (arith, e, w, m, lent_long)
 
-array-share-prefix-sums : tie.Need-array-share-prefix-sums
+array-share-prefix-sums : tie.Need-slice_bounds-sums-end-2
 array-share-prefix-sums c = made_in c.before
 
-slice-aggregate-cut-sums : tie.Need-slice-aggregate-cut-sums
+slice-aggregate-cut-sums : tie.Need-slice_bounds-cut_sums-end
 slice-aggregate-cut-sums c = let e = c.before.before in sym (length-take-le (made e) (sums e) (made_in e))
 
-slice-aggregate-cut-sums-2 : tie.Need-slice-aggregate-cut-sums-2
+slice-aggregate-cut-sums-2 : tie.Need-slice_bounds-cut_sums-end-2
 slice-aggregate-cut-sums-2 c = search rules
 
-cut-sums-requires : tie.Need-cut-sums-requires
+cut-sums-requires : tie.Need-cut_sums-cuts-requires
 cut-sums-requires c κs =
     let e = c.before.before.before in
     let l = length-take-le (made e) (sums e) (made_in e) in
@@ -105,38 +105,38 @@ cut-sums-requires c κs =
     (omega (arith, l, m), omega (arith, l, m))
 
 -- scaled and cut
-module _ (c : tie.After-cut-sums) where
-  abbrev before : tie.After-thin-block-at
+module _ (c : tie.After-cut_sums-cuts) where
+  abbrev before : tie.After-thin_block_at-moved
   before = c.before.before.before.before
 
   abbrev values : List ℤ
-  values = c.cut_sums.new.1.1.0
+  values = c.cut_sums-cuts.new.dst
 
   values_in : made before ≤ length values
-  values_in = values_within (sums before) values zeros (start before).args.f.bits (made before) (made_in before) c.cut_sums.ensures.0
+  values_in = values_within (sums before) values zeros (start before).args.f.bits (made before) (made_in before) c.cut_sums-cuts.ensures.0
 
-array-share-prefix-values : tie.Need-array-share-prefix-values
+array-share-prefix-values : tie.Need-slice_bounds-values-end
 array-share-prefix-values c = values_in c.before.before.before.before.before.before
 
-slice-aggregate-filter : tie.Need-slice-aggregate-filter
+slice-aggregate-filter : tie.Need-slice_bounds-filter-end
 slice-aggregate-filter c = let e = c.before.before.before.before.before.before.before in sym (length-take-le (made (before e)) (values e) (values_in e))
 
-filter-requires : tie.Need-filter-requires
+filter-requires : tie.Need-filter-on-requires
 filter-requires c κs =
     let e = c.before.before.before.before.before.before.before.before in
     let l = length-take-le (made (before e)) (values e) (values_in e) in
-    let a = c.before.before.before.before.before.before.before.before.before.before.before.before.before.before.before.before.before.least2.ensures in
+    let a = c.least-at.ensures in
     (omega (arith, a), omega (arith, l, few_made (before e)))
 
-add-t28 : tie.Need-overflow-add-t28
+add-t28 : tie.Need-overflow_add-result
 add-t28 c =
     let e = c.before.before.before.before.before.before.before.before.before.before.before.before in
-    let k = cuts_within (sums (before e)) (values e) zeros (start (before e)).args.f.bits (made (before e)) (made_in (before e)) e.cut_sums.ensures.0 _ e.cut_sums.ensures.1 in
+    let k = cuts_within (sums (before e)) (values e) zeros (start (before e)).args.f.bits (made (before e)) (made_in (before e)) c.cut_sums-cuts.ensures.0 _ c.cut_sums-cuts.ensures.1 in
     let m = few_made (before e) in
-    let n = c.before.before.before.filter.ensures.0.1 in
+    let n = c.filter-on.ensures.0.1 in
     search (rules, k, m, n)
 
-same_length : tie.Need-same-length
+same_length : tie.Need-shape_of-out
 same_length c = search rules
 
 returns : tie.Need-returns
@@ -145,23 +145,23 @@ returns c =
     let b = before e in
     let s = start b in
     let a = s.args in
-    let told = b.thin-block-at.ensures in
-    let on = c.before.before.before.filter.ensures in
-    let k = cuts_within (sums b) (values e) zeros a.f.bits (made b) (made_in b) e.cut_sums.ensures.0 _ e.cut_sums.ensures.1 in
+    let told = b.thin_block_at-moved.ensures in
+    let on = c.filter-on.ensures in
+    let k = cuts_within (sums b) (values e) zeros a.f.bits (made b) (made_in b) c.cut_sums-cuts.ensures.0 _ c.cut_sums-cuts.ensures.1 in
     let m = few_made b in
     let n = on.0.1 in
     let w = (thin_within (thinner b) a.samples.now (length (take (most b) zeros))).0 in (
       (omega (arith, told.0.0, w), omega (arith, k, m, n)),
       λ eb fine v room c₁ c₂ some leaves.
-          let at : c.before.before.before.before.before.before.before.before.before.before.before.before.before.before.before.before.before.before.before.before.before.least2.result ≡ a.from = let q = c.before.before.before.before.before.before.before.before.before.before.before.before.before.before.before.before.before.before.before.before.before.least2.ensures in omega (arith, q, room) in
-          let count : length (take (most b) zeros) ≡ a.count = let q = c.before.before.before.before.before.before.before.before.before.before.before.before.before.before.before.before.before.before.before.before.before.before.least.ensures in lent_long b ∙ omega (arith, q, c₂) in
+          let at : c.least-at.result ≡ a.from = let q = c.least-at.ensures in omega (arith, q, room) in
+          let count : length (take (most b) zeros) ≡ a.count = let q = c.least-most.ensures in lent_long b ∙ omega (arith, q, c₂) in
           took_batch_at (thinner b) _ (fir b) _ (half_band b) _ (resampler b) _ a.samples.now (sums b) (values e) _ (made b) a.f.bits (length (take (most b) zeros)) _ _ _ _ a.out.now _ a.from a.count
           at count eb fine told.0.0 told.1.0 (front b)
-          (values_front (sums b) (values e) zeros a.f.bits (made b) (made_in b) e.cut_sums.ensures.0) e.cut_sums.ensures.1 on.1.1 on.1.0 v c₁ some leaves,
+          (values_front (sums b) (values e) zeros a.f.bits (made b) (made_in b) c.cut_sums-cuts.ensures.0) c.cut_sums-cuts.ensures.1 on.1.1 on.1.0 v c₁ some leaves,
     )
 
-pub take-batch-spec : {M : Type 1} → statement M
-take-batch-spec =
+pub take_batch_spec : {M : Type 1} → statement M
+take_batch_spec =
     tie.close
     (tie.spec
     least-requires

@@ -7,33 +7,40 @@ use Rattle.float.proofs.cast.whole_part.Statement.{statement}
 use Rattle.float.proofs.cast.whole_part.Tie as tie
 
 -- x is from 1.0 to below 2^24
-shifts : (c : tie.Then1) → Shifted c.before.args.x (to_bits binary32 c.before.args.x)
+shifts : (c : tie.Then-x) → Shifted c.args.x (to_bits binary32 c.args.x)
 unfolding of_bits
-shifts c = shifted c.before.args.x c.if1.true c.before.requires
+shifts c = shifted c.args.x c.if-x.true c.requires
 
-float-to-bits-bits : tie.Need-float-to-bits-bits
+float-to-bits-bits : tie.Need-float_to_bits-bits
 float-to-bits-bits c = (shifts c).number
 
-add-digits : tie.Need-overflow-add-digits
+add-digits : tie.Need-overflow_add-digits
 add-digits c = search rules
 
-sub-result : tie.Need-overflow-sub-result
+sub-result : tie.Need-overflow_sub-result
 sub-result c = (shifts c).exponent
 
-shr-result : tie.Need-overflow-shr-result
+shr-result : tie.Need-overflow_shr-result
 shr-result c = (shifts c).by
 
-cast-result : tie.Need-overflow-cast-result
-cast-result c = record { fits = rw (shifts c).whole (to_unsigned-lt 64 c.before.args.x) }
+cast-result : tie.Need-overflow_cast-result
+cast-result c = record { fits = rw (shifts c).whole (to_unsigned-lt 64 c.args.x) }
 
-returns : tie.Need-returns
+returns : tie.Need-returns-then-x
 returns c = (shifts c).whole
 
-returns-2 : tie.Need-returns-2
+returns-2 : tie.Need-returns
 unfolding of_bits
-returns-2 c = sym (below_one c.before.args.x c.if1.false)
+returns-2 c = sym (below_one c.args.x c.if-x.false)
 
-pub whole-part-spec : {M : Type 1} → statement M
-whole-part-spec =
+pub whole_part_spec : {M : Type 1} → statement M
+whole_part_spec =
     tie.close
-    (tie.spec float-to-bits-bits add-digits sub-result shr-result cast-result returns returns-2)
+    (tie.spec
+    float-to-bits-bits
+    add-digits
+    sub-result
+    shr-result
+    cast-result
+    returns
+    returns-2)

@@ -7,15 +7,15 @@ use Rattle.float.proofs.Levels.{exact}
 use Rattle.float.proofs.level.q15_to_f32.Statement.{statement}
 use Rattle.float.proofs.level.q15_to_f32.Tie as tie
 
-int-to-float-result : tie.Need-int-to-float-result
+int-to-float-result : tie.Need-int_to_float-result
 int-to-float-result c = search rules
 
 returns : tie.Need-returns
 unfolding level
-returns c = let z : ℤ = c.before.before.args.q.0 in
-    let h : SFits w16 c.before.before.args.q.0 = search rules in
+returns c = let z : ℤ = c.args.q.0 in
+    let h : SFits w16 c.args.q.0 = search rules in
     let e : to_z w16 (of_z w16 z) ≡ z = to_z-of_z w16 z h in
     (ap level e, subst (λ (x : Float). IsLevel z x) (sym (ap level e)) (exact z h.sfits))
 
-pub q15-to-f32-spec : {M : Type 1} → statement M
-q15-to-f32-spec = tie.close (tie.spec int-to-float-result returns)
+pub q15_to_f32_spec : {M : Type 1} → statement M
+q15_to_f32_spec = tie.close (tie.spec int-to-float-result returns)

@@ -9,80 +9,80 @@ use Rattle.float.proofs.PolyphaseOutput.{output_cut}
 use Rattle.float.proofs.polyphase_resamp.due_within.Statement.{statement}
 use Rattle.float.proofs.polyphase_resamp.due_within.Tie as tie
 
-abbrev invariant-loop : tie.invariant-loop
+abbrev invariant-loop : tie.invariant-loop-written
 invariant-loop prototype delay straight phases taps step mu dst₀ from next₀ written₀ dst next written =
     (length dst ≡ length dst₀)
     × (emitted straight phases taps step delay prototype (length dst₀ - from) mu from dst₀ ≡ emitted straight phases taps step delay prototype (length dst - written) next written dst)
 
-abbrev decreases-loop : tie.decreases-loop
+abbrev decreases-loop : tie.decreases-loop-written
 decreases-loop prototype delay straight phases taps step mu dst₀ from next₀ written₀ dst next written = length dst₀ - written
 
-loop-holds : tie.Need-loop-init invariant-loop decreases-loop
+loop-holds : tie.Need-loop-written-init invariant-loop decreases-loop
 loop-holds c = (refl, refl)
 
-cut-below-requires : tie.Need-cut-below-requires invariant-loop decreases-loop
-cut-below-requires c κs = c.if1.true
+cut-below-requires : tie.Need-cut_below-cut-requires invariant-loop decreases-loop
+cut-below-requires c κs = c.if-next.true
 
-interpolate-within-requires : tie.Need-interpolate-within-requires invariant-loop decreases-loop
+interpolate-within-requires : tie.Need-interpolate_within-requires invariant-loop decreases-loop
 interpolate-within-requires c κs =
-    let p = c.before.before.before.before.before.before.requires in
-    let e = c.cut_below.ensures in
-    (p.0, p.1, e ∙ cut_cut c.before.before.before.loop.next ∙ ap cut_unit (sym e))
+    let p = c.requires in
+    let e = c.cut_below-cut.ensures in
+    (p.0, p.1, e ∙ cut_cut c.loop-written.next ∙ ap cut_unit (sym e))
 
-mul-dst : tie.Need-overflow-mul-dst invariant-loop decreases-loop
+mul-dst : tie.Need-offset_bounds-dst-written invariant-loop decreases-loop
 mul-dst c = search rules
 
-slice-write-dst : tie.Need-slice-write-dst invariant-loop decreases-loop
+slice-write-dst : tie.Need-bounds-dst-written invariant-loop decreases-loop
 slice-write-dst c = search rules
 
-add-written : tie.Need-overflow-add-written invariant-loop decreases-loop
+add-written : tie.Need-overflow_add-written invariant-loop decreases-loop
 add-written c = search rules
 
-loop-less : tie.Need-loop-smaller invariant-loop decreases-loop
-loop-less c = let l = c.before.before.before.before.loop in omega (arith, l.invariant.0, c.before.before.before.loop-test.true)
+loop-less : tie.Need-loop-written-smaller invariant-loop decreases-loop
+loop-less c = let l = c.loop-written in omega (arith, l.invariant.0, c.loop-written-test.true)
 
-loop-again : tie.Need-loop-preserved invariant-loop decreases-loop
+loop-again : tie.Need-loop-written-preserved invariant-loop decreases-loop
 loop-again c =
-    let l = c.before.before.before.before.loop in
-    let a = c.before.before.before.before.before.before.before.args in
+    let l = c.loop-written in
+    let a = c.args in
     let y = output a.straight a.phases a.taps l.next a.delay.now a.prototype.now in
     let same : length (set l.dst l.written y) ≡ length l.dst = length-set l.dst l.written y in
-    let left : length l.dst - l.written ≡ suc (length (set l.dst l.written y) - (l.written + 1)) = omega (arith, c.before.before.before.loop-test.true) in
-    let made : c.interpolate-within.result ≡ output a.straight a.phases a.taps l.next a.delay.now a.prototype.now =
-    c.interpolate-within.ensures
-    ∙ ap (λ (x : Float). output a.straight a.phases a.taps x a.delay.now a.prototype.now) c.before.cut_below.ensures
+    let left : length l.dst - l.written ≡ suc (length (set l.dst l.written y) - (l.written + 1)) = omega (arith, c.loop-written-test.true) in
+    let made : c.interpolate_within.result ≡ output a.straight a.phases a.taps l.next a.delay.now a.prototype.now =
+    c.interpolate_within.ensures
+    ∙ ap (λ (x : Float). output a.straight a.phases a.taps x a.delay.now a.prototype.now) c.cut_below-cut.ensures
     ∙ output_cut _ _ _ l.next _ _ in
     rw made (
       same ∙ l.invariant.0,
       l.invariant.1
           ∙ ap (λ (n : ℕ). emitted a.straight a.phases a.taps a.step a.delay.now a.prototype.now n l.next l.written l.dst) left
-          ∙ one_due a.straight a.phases a.taps a.step a.delay.now a.prototype.now _ l.next l.written l.dst c.before.before.if1.true,
+          ∙ one_due a.straight a.phases a.taps a.step a.delay.now a.prototype.now _ l.next l.written l.dst c.if-next.true,
     )
 
-same_length : tie.Need-same-length invariant-loop decreases-loop
-same_length c = c.before.loop.invariant.0
+same_length : tie.Need-shape_of-dst-after-loop-written invariant-loop decreases-loop
+same_length c = c.loop-written.invariant.0
 
-returns : tie.Need-returns invariant-loop decreases-loop
+returns : tie.Need-returns-after-loop-written invariant-loop decreases-loop
 returns c =
-    let l = c.before.loop in
-    let a = c.before.before.before.before.args in
-    let full : length l.dst - l.written ≡ 0 = omega (arith, c.loop-test.false) in
+    let l = c.loop-written in
+    let a = c.args in
+    let full : length l.dst - l.written ≡ 0 = omega (arith, c.loop-written-test.false) in
     sym
     (l.invariant.1
     ∙ ap (λ (n : ℕ). emitted a.straight a.phases a.taps a.step a.delay.now a.prototype.now n l.next l.written l.dst) full
     ∙ no_place a.straight a.phases a.taps a.step a.delay.now a.prototype.now l.next l.written l.dst)
 
-same-length-2 : tie.Need-same-length-2 invariant-loop decreases-loop
-same-length-2 c = c.before.before.loop.invariant.0
+same-length-2 : tie.Need-shape_of-dst-else-next invariant-loop decreases-loop
+same-length-2 c = c.loop-written.invariant.0
 
-returns-2 : tie.Need-returns-2 invariant-loop decreases-loop
+returns-2 : tie.Need-returns-else-next invariant-loop decreases-loop
 returns-2 c =
-    let l = c.before.before.loop in
-    let a = c.before.before.before.before.before.args in
-    sym (l.invariant.1 ∙ none_due a.straight a.phases a.taps a.step a.delay.now a.prototype.now _ l.next l.written l.dst c.if1.false)
+    let l = c.loop-written in
+    let a = c.args in
+    sym (l.invariant.1 ∙ none_due a.straight a.phases a.taps a.step a.delay.now a.prototype.now _ l.next l.written l.dst c.if-next.false)
 
-pub due-within-spec : {M : Type 1} → statement M
-due-within-spec =
+pub due_within_spec : {M : Type 1} → statement M
+due_within_spec =
     tie.close
     (tie.spec
     invariant-loop

@@ -7,16 +7,20 @@ use Rattle.float.proofs.polyphase_resamp.in_limits.Tie as tie
 within-requires : tie.Need-within-requires
 within-requires c κs = search rules
 
-within-requires-2 : tie.Need-within-requires-2
+within-requires-2 : tie.Need-within-requires-then-within
 within-requires-2 c κs = search rules
 
-returns : tie.Need-returns
+returns : tie.Need-returns-then-within
 unfolding in_limits
-returns c = rw (← c.before.before.within.ensures, c.before.if1.true) c.within2.ensures
+returns c = rw (← c.within.ensures, c.if-within.true) c.within-then-within.ensures
 
-returns-2 : tie.Need-returns-2
+returns-2 : tie.Need-returns-else-within
 unfolding in_limits
-returns-2 c = rw (← c.before.within.ensures, c.if1.false)
+returns-2 c = rw (← c.within.ensures, c.if-within.false)
 
-pub in-limits-spec : {M : Type 1} → statement M
-in-limits-spec = tie.close (tie.spec within-requires within-requires-2 returns returns-2)
+pub in_limits_spec : {M : Type 1} → statement M
+in_limits_spec = tie.close (tie.spec
+    within-requires
+    within-requires-2
+    returns
+    returns-2)

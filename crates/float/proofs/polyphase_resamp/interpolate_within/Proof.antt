@@ -11,72 +11,72 @@ use Rattle.float.proofs.polyphase_resamp.interpolate_within.Tie as tie
 limits : (c : tie.Start) → Limits c.args.phases c.args.taps
 limits c = limits_say _ _ c.requires.0
 
-int-to-float-q : tie.Need-int-to-float-q
+int-to-float-q : tie.Need-int_to_float-q
 int-to-float-q c = exact _ 64 (limits c.before.before).few_phases tt
 
 -- q is from 0 to P
-placed : (c : tie.After-row-known) → UpTo c.before.before.args.phases (mul binary32 (sub binary32 one32 c.before.before.args.mu) (of_int binary32 (pos c.before.before.args.phases)))
+placed : (c : tie.After-row_known-1) → UpTo c.args.phases (mul binary32 (sub binary32 one32 c.args.mu) (of_int binary32 (pos c.args.phases)))
 unfolding place
 placed c =
     let s = c.before.before in
     subst (λ (x : Float). UpTo s.args.phases (mul binary32 (sub binary32 one32 x) (of_int binary32 (pos s.args.phases)))) (sym s.requires.2) (place_up_to _ s.args.mu (limits s).few_phases)
 
-first-place-requires : tie.Need-first-place-requires
+first-place-requires : tie.Need-first_place-p-requires
 first-place-requires c κs =
     let l = limits c.before.before in
     (omega arith, l.few_phases, below_all_whole _ _ l.few_phases (placed c), whole_up_to _ _ (placed c))
 
 -- the first place is at most P
-at_most : (c : tie.After-first-place) → c.first-place.result ≤ c.before.before.before.args.phases
+at_most : (c : tie.After-first_place-p) → c.first_place-p.result ≤ c.args.phases
 at_most c =
     let s = c.before.before.before in
-    rw c.first-place.ensures (first_up_to s.args.straight _ _ (let l = limits s in omega arith) (whole_up_to _ _ (placed c.before)))
+    rw c.first_place-p.ensures (first_up_to s.args.straight _ _ (let l = limits s in omega arith) (whole_up_to _ _ (placed c.before)))
 
-int-to-float-f : tie.Need-int-to-float-f
+int-to-float-f : tie.Need-int_to_float-f
 int-to-float-f c = exact _ 64 (le_trans (at_most c.before) (limits c.before.before.before.before).few_phases) tt
 
-add-if1 : tie.Need-overflow-add-if1
+add-if1 : tie.Need-overflow_add-p
 add-if1 c = record { fits = omega (arith, at_most c.before, (limits c.before.before.before.before).few_phases) }
 
-add-blended : tie.Need-overflow-add-blended
+add-blended : tie.Need-overflow_add-p-then-p-phases
 add-blended c = search rules
 
 blended-requires : tie.Need-blended-requires
 blended-requires c κs =
     let s = c.before.before.before.before.before in
-    (s.requires.0, s.requires.1, omega (arith, c.if1.true), c.if1.true)
+    (s.requires.0, s.requires.1, omega (arith, c.if-p-phases.true), c.if-p-phases.true)
 
-returns : tie.Need-returns
+returns : tie.Need-returns-then-p-phases
 returns c =
     let p = c.before.before.before in
-    whole_before _ _ _ _ _ _ _ _ _ p.before.before.before.requires.2 p.first-place.ensures c.before.if1.true c.blended.ensures
+    whole_before _ _ _ _ _ _ _ _ _ p.requires.2 p.first_place-p.ensures c.if-p-phases.true c.blended.ensures
 
-blended-at-the-end-requires : tie.Need-blended-at-the-end-requires
+blended-at-the-end-requires : tie.Need-blended_at_the_end-requires
 blended-at-the-end-requires c κs =
     let p = c.before.before.before in
     let s = p.before.before.before in
     (s.requires.0, s.requires.1, at_most p)
 
-returns-2 : tie.Need-returns-2
+returns-2 : tie.Need-returns-then-straight
 returns-2 c =
     let p = c.before.before.before.before in
-    whole_straight _ _ _ _ _ _ _ _ _ p.before.before.before.requires.2 p.first-place.ensures c.before.if2.true c.blended-at-the-end.ensures
+    whole_straight _ _ _ _ _ _ _ _ _ p.requires.2 p.first_place-p.ensures c.if-straight.true c.blended_at_the_end.ensures
 
 blended-requires-2 : tie.Need-blended-requires-2
 blended-requires-2 c κs =
     let p = c.before.before.before in
     let s = p.before.before.before in
     let some : 0 < s.args.phases = omega (arith, (limits s).some_phases) in
-    (s.requires.0, s.requires.1, rw (p.first-place.ensures, c.if2.false) (first_below _ _ some), some)
+    (s.requires.0, s.requires.1, rw (p.first_place-p.ensures, c.if-straight.false) (first_below _ _ some), some)
 
-returns-3 : tie.Need-returns-3
+returns-3 : tie.Need-returns
 returns-3 c =
     let p = c.before.before.before.before in
     let s = p.before.before.before in
-    whole_last _ _ _ _ _ _ _ _ _ s.requires.2 p.first-place.ensures (omega (arith, (limits s).some_phases)) c.before.before.if1.false c.before.if2.false c.blended2.ensures
+    whole_last _ _ _ _ _ _ _ _ _ s.requires.2 p.first_place-p.ensures (omega (arith, (limits s).some_phases)) c.if-p-phases.false c.if-straight.false c.blended-2.ensures
 
-pub interpolate-within-spec : {M : Type 1} → statement M
-interpolate-within-spec =
+pub interpolate_within_spec : {M : Type 1} → statement M
+interpolate_within_spec =
     tie.close
     (tie.spec
     int-to-float-q

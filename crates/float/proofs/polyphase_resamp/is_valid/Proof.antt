@@ -5,28 +5,34 @@ use Rattle.std.proofs.Common.{rules}
 use Rattle.float.proofs.polyphase_resamp.is_valid.Statement.{statement}
 use Rattle.float.proofs.polyphase_resamp.is_valid.Tie as tie
 
-in-limits-requires : tie.Need-in-limits-requires
+in-limits-requires : tie.Need-in_limits-requires
 in-limits-requires c κs = search rules
 
-returns : tie.Need-returns
+returns : tie.Need-returns-then-not-in_limits
 unfolding valid_at
-returns c = rw (← c.before.in_limits_lem.ensures, not-true c.before.in_limits_lem.result c.if1.true)
+returns c = rw (← c.in_limits.ensures, not-true c.in_limits.result c.if-not-in_limits.true-raw)
 
-above-zero-requires : tie.Need-above-zero-requires
+above-zero-requires : tie.Need-above_zero-requires
 above-zero-requires c κs = search rules
 
-mu-from-requires : tie.Need-mu-from-requires
+mu-from-requires : tie.Need-mu_from-requires
 mu-from-requires c κs = search rules
 
-returns-2 : tie.Need-returns-2
+returns-2 : tie.Need-returns-then-above_zero
 unfolding valid_at
-returns-2 c = rw (← c.before.before.before.before.in_limits_lem.ensures, not-false c.before.before.before.before.in_limits_lem.result c.before.before.before.if1.false, ← c.before.before.above_zero.ensures, c.before.if2.true) c.mu-from.ensures
+returns-2 c = rw (← c.in_limits.ensures, not-false c.in_limits.result c.if-not-in_limits.false-raw, ← c.above_zero.ensures, c.if-above_zero.true) c.mu_from.ensures
 
-returns-3 : tie.Need-returns-3
+returns-3 : tie.Need-returns-else-above_zero
 unfolding valid_at
-returns-3 c = rw (← c.before.before.before.in_limits_lem.ensures, not-false c.before.before.before.in_limits_lem.result c.before.before.if1.false, ← c.before.above_zero.ensures, c.if2.false)
+returns-3 c = rw (← c.in_limits.ensures, not-false c.in_limits.result c.if-not-in_limits.false-raw, ← c.above_zero.ensures, c.if-above_zero.false)
 
-pub is-valid-spec : {M : Type 1} → statement M
-is-valid-spec =
+pub is_valid_spec : {M : Type 1} → statement M
+is_valid_spec =
     tie.close
-    (tie.spec in-limits-requires returns above-zero-requires mu-from-requires returns-2 returns-3)
+    (tie.spec
+    in-limits-requires
+    returns
+    above-zero-requires
+    mu-from-requires
+    returns-2
+    returns-3)

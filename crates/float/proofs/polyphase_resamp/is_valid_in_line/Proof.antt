@@ -5,33 +5,33 @@ use Rattle.float.specs.PolyphaseResamp.{valid_in_line_at}
 use Rattle.float.proofs.polyphase_resamp.is_valid_in_line.Statement.{statement}
 use Rattle.float.proofs.polyphase_resamp.is_valid_in_line.Tie as tie
 
-returns : tie.Need-returns
+returns : tie.Need-returns-then-phases-eq0
 unfolding valid_in_line_at
-returns c = rw (eq-eqb _ _ c.if1.true)
+returns c = rw (eq-eqb _ _ c.if-phases-eq0.true)
 
-in-limits-requires : tie.Need-in-limits-requires
+in-limits-requires : tie.Need-in_limits-requires
 in-limits-requires c κs = search rules
 
-returns-2 : tie.Need-returns-2
+returns-2 : tie.Need-returns-then-not-in_limits
 unfolding valid_in_line_at
-returns-2 c = rw (ne_eqb _ _ c.before.before.if1.false, ← c.before.in_limits_lem.ensures, not-true c.before.in_limits_lem.result c.if2.true)
+returns-2 c = rw (ne_eqb _ _ c.if-phases-eq0.false, ← c.in_limits.ensures, not-true c.in_limits.result c.if-not-in_limits.true-raw)
 
-step-in-line-requires : tie.Need-step-in-line-requires
+step-in-line-requires : tie.Need-step_in_line-requires
 step-in-line-requires c κs = search rules
 
-mu-from-requires : tie.Need-mu-from-requires
+mu-from-requires : tie.Need-mu_from-requires
 mu-from-requires c κs = search rules
 
-returns-3 : tie.Need-returns-3
+returns-3 : tie.Need-returns-then-step_in_line
 unfolding valid_in_line_at
-returns-3 c = rw (ne_eqb _ _ c.before.before.before.before.before.if1.false, ← c.before.before.before.before.in_limits_lem.ensures, not-false c.before.before.before.before.in_limits_lem.result c.before.before.before.if2.false, ← c.before.before.step-in-line.ensures, c.before.if3.true) c.mu-from.ensures
+returns-3 c = rw (ne_eqb _ _ c.if-phases-eq0.false, ← c.in_limits.ensures, not-false c.in_limits.result c.if-not-in_limits.false-raw, ← c.step_in_line.ensures, c.if-step_in_line.true) c.mu_from.ensures
 
-returns-4 : tie.Need-returns-4
+returns-4 : tie.Need-returns-else-step_in_line
 unfolding valid_in_line_at
-returns-4 c = rw (ne_eqb _ _ c.before.before.before.before.if1.false, ← c.before.before.before.in_limits_lem.ensures, not-false c.before.before.before.in_limits_lem.result c.before.before.if2.false, ← c.before.step-in-line.ensures, c.if3.false)
+returns-4 c = rw (ne_eqb _ _ c.if-phases-eq0.false, ← c.in_limits.ensures, not-false c.in_limits.result c.if-not-in_limits.false-raw, ← c.step_in_line.ensures, c.if-step_in_line.false)
 
-pub is-valid-in-line-spec : {M : Type 1} → statement M
-is-valid-in-line-spec =
+pub is_valid_in_line_spec : {M : Type 1} → statement M
+is_valid_in_line_spec =
     tie.close
     (tie.spec
     returns

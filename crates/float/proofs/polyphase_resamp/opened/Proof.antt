@@ -10,71 +10,71 @@ use Rattle.float.proofs.PolyphaseCalls.{opening_answer}
 use Rattle.float.proofs.polyphase_resamp.opened.Statement.{statement}
 use Rattle.float.proofs.polyphase_resamp.opened.Tie as tie
 
-in-limits-requires : tie.Need-in-limits-requires
+in-limits-requires : tie.Need-in_limits-requires
 in-limits-requires c κs = search rules
 
-refused-opening-requires : tie.Need-refused-opening-requires
+refused-opening-requires : tie.Need-refused_opening-requires
 refused-opening-requires c κs = search rules
 
-returns : tie.Need-returns
+returns : tie.Need-returns-then-not-in_limits
 unfolding opening
 returns c =
-    let a = c.before.before.before.before.args in
-    let l : in_limits a.phases a.taps ≡ false = sym c.before.before.in_limits_lem.ensures ∙ not-true c.before.before.in_limits_lem.result c.before.if1.true in
-    opening_answer (c.refused-opening.ensures ∙ rw l)
+    let a = c.args in
+    let l : in_limits a.phases a.taps ≡ false = sym c.in_limits.ensures ∙ not-true c.in_limits.result c.if-not-in_limits.true-raw in
+    opening_answer (c.refused_opening.ensures ∙ rw l)
 
 -- P and T are inside their limits, so the product fits
-within_limits : (c : tie.Else1) → in_limits c.before.before.before.args.phases c.before.before.before.args.taps ≡ true
-within_limits c = sym c.before.in_limits_lem.ensures ∙ not-false c.before.in_limits_lem.result c.if1.false
+within_limits : (c : tie.Else-not-in_limits) → in_limits c.args.phases c.args.taps ≡ true
+within_limits c = sym c.in_limits.ensures ∙ not-false c.in_limits.result c.if-not-in_limits.false-raw
 
-cells : (c : tie.Else1) → c.before.before.before.args.phases * c.before.before.before.args.taps ≤ 64 * 16
+cells : (c : tie.Else-not-in_limits) → c.args.phases * c.args.taps ≤ 64 * 16
 cells c = let l = limits_say _ _ (within_limits c) in mul-le-mul l.few_phases l.few_taps
 
-mul-if2 : tie.Need-overflow-mul-if2
+mul-if2 : tie.Need-overflow_mul-phases
 mul-if2 c = record { fits = omega (arith, cells c) }
 
-refused-opening-requires-2 : tie.Need-refused-opening-requires-2
+refused-opening-requires-2 : tie.Need-refused_opening-requires-then-prototype-phases
 refused-opening-requires-2 c κs = search rules
 
-returns-2 : tie.Need-returns-2
+returns-2 : tie.Need-returns-then-prototype-phases
 unfolding opening
 returns-2 c =
-    let a = c.before.before.before.before.before.args in
-    opening_answer (c.refused-opening2.ensures ∙ rw (within_limits c.before.before, ne_eqb (length a.prototype.now) (a.phases * a.taps) c.before.if2.true))
+    let a = c.args in
+    opening_answer (c.refused_opening-then-prototype-phases.ensures ∙ rw (within_limits c.before.before, ne_eqb (length a.prototype.now) (a.phases * a.taps) c.if-prototype-phases.true))
 
 -- the prototype is as long as it has to be
-long : (c : tie.Else2) →
-    let a = c.before.before.before.before.args in
+long : (c : tie.Else-prototype-phases) →
+    let a = c.args in
     eqb (length a.prototype.now) (a.phases * a.taps) ≡ true
-long c = eq-eqb _ _ c.if2.false
+long c = eq-eqb _ _ c.if-prototype-phases.false
 
-above-zero-requires : tie.Need-above-zero-requires
+above-zero-requires : tie.Need-above_zero-requires
 above-zero-requires c κs = search rules
 
-refused-opening-requires-3 : tie.Need-refused-opening-requires-3
+refused-opening-requires-3 : tie.Need-refused_opening-requires-then-not-above_zero
 refused-opening-requires-3 c κs = search rules
 
-returns-3 : tie.Need-returns-3
+returns-3 : tie.Need-returns-then-not-above_zero
 unfolding opening
 returns-3 c =
-    let a = c.before.before.before.before.before.before.before.args in
-    let z : above_zero a.step ≡ false = sym c.before.before.above_zero.ensures ∙ not-true c.before.before.above_zero.result c.before.if3.true in
-    opening_answer (c.refused-opening3.ensures ∙ rw (within_limits c.before.before.before.before, long c.before.before.before, z))
+    let a = c.args in
+    let z : above_zero a.step ≡ false = sym c.above_zero.ensures ∙ not-true c.above_zero.result c.if-not-above_zero.true-raw in
+    opening_answer (c.refused_opening-then-not-above_zero.ensures ∙ rw (within_limits c.before.before.before.before, long c.before.before.before, z))
 
 fresh-requires : tie.Need-fresh-requires
 fresh-requires c κs = search rules
 
-returns-4 : tie.Need-returns-4
+returns-4 : tie.Need-returns
 unfolding opening
 returns-4 c =
-    let a = c.before.before.before.before.before.before.before.args in
-    let z : above_zero a.step ≡ true = sym c.before.before.above_zero.ensures ∙ not-false c.before.before.above_zero.result c.before.if3.false in
+    let a = c.args in
+    let z : above_zero a.step ≡ true = sym c.above_zero.ensures ∙ not-false c.above_zero.result c.if-not-above_zero.false-raw in
     opening_answer
     (ap {B = Opened PolyphaseResampF32} (λ (s : PolyphaseResampF32). record { number = 0; state = s }) c.fresh.ensures
     ∙ rw (within_limits c.before.before.before.before, long c.before.before.before, z))
 
-pub opened-spec : {M : Type 1} → statement M
-opened-spec =
+pub opened_spec : {M : Type 1} → statement M
+opened_spec =
     tie.close
     (tie.spec
     in-limits-requires

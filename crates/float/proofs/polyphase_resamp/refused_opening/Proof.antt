@@ -1,5 +1,4 @@
 -- `refused_opening` meets its contract: its state is that of `zeros`.
-use Rattle.float.specs.PolyphaseResamp.{zeros}
 use Rattle.std.proofs.Common.{rules}
 use Rattle.float.proofs.polyphase_resamp.refused_opening.Statement.{statement}
 use Rattle.float.proofs.polyphase_resamp.refused_opening.Tie as tie
@@ -10,5 +9,5 @@ zeros-requires c κs = search rules
 returns : tie.Need-returns
 returns c = rw c.zeros.ensures
 
-pub refused-opening-spec : {M : Type 1} → statement M
-refused-opening-spec = tie.close (tie.spec zeros-requires returns)
+pub refused_opening_spec : {M : Type 1} → statement M
+refused_opening_spec = tie.close (tie.spec zeros-requires returns)

@@ -3,13 +3,13 @@ use Rattle.float.specs.PolyphaseResamp.{step_in_line}
 use Rattle.float.proofs.polyphase_resamp.step_in_line.Statement.{statement}
 use Rattle.float.proofs.polyphase_resamp.step_in_line.Tie as tie
 
-returns : tie.Need-returns
+returns : tie.Need-returns-then-step
 unfolding step_in_line
-returns c = rw c.if1.true
+returns c = rw c.if-step.true
 
-returns-2 : tie.Need-returns-2
+returns-2 : tie.Need-returns-else-step
 unfolding step_in_line
-returns-2 c = rw c.if1.false
+returns-2 c = rw c.if-step.false
 
-pub step-in-line-spec : {M : Type 1} → statement M
-step-in-line-spec = tie.close (tie.spec returns returns-2)
+pub step_in_line_spec : {M : Type 1} → statement M
+step_in_line_spec = tie.close (tie.spec returns returns-2)

@@ -5,13 +5,13 @@ use Rattle.float.specs.PolyphaseResamp.{within}
 use Rattle.float.proofs.polyphase_resamp.within.Statement.{statement}
 use Rattle.float.proofs.polyphase_resamp.within.Tie as tie
 
-returns : tie.Need-returns
+returns : tie.Need-returns-then-least-n
 unfolding within
-returns c = rw (le-leb _ _ c.if1.true)
+returns c = rw (le-leb _ _ c.if-least-n.true)
 
-returns-2 : tie.Need-returns-2
+returns-2 : tie.Need-returns-else-least-n
 unfolding within
-returns-2 c = rw (lt-leb _ _ c.if1.false)
+returns-2 c = rw (lt-leb _ _ c.if-least-n.false)
 
-pub within-spec : {M : Type 1} → statement M
-within-spec = tie.close (tie.spec returns returns-2)
+pub within_spec : {M : Type 1} → statement M
+within_spec = tie.close (tie.spec returns returns-2)

@@ -3,12 +3,12 @@ use borrow.Author.Rules.{rules}
 use Rattle.gauge_line.proofs.answers.entries_number.Statement.{statement}
 use Rattle.gauge_line.proofs.answers.entries_number.Tie as tie
 
-pub entries-number-spec : {M : Type 1} → statement M
-entries-number-spec =
+pub entries_number_spec : {M : Type 1} → statement M
+entries_number_spec =
     tie.close
     (tie.spec
     (λ c. search rules)
     (λ c. search rules)
     (λ c κs. search rules)
     (λ c. search rules)
-    (λ c. rw c.before.before.c.given.1 c.refusal-number.ensures))
+    (λ c. rw c.in-Refused.is c.refusal_number.ensures))

@@ -3,8 +3,8 @@ use borrow.Author.Rules.{rules}
 use Rattle.gauge_line.proofs.answers.fir_number.Statement.{statement}
 use Rattle.gauge_line.proofs.answers.fir_number.Tie as tie
 
-pub fir-number-spec : {M : Type 1} → statement M
-fir-number-spec =
+pub fir_number_spec : {M : Type 1} → statement M
+fir_number_spec =
     tie.close
     (tie.spec
     (λ c. search rules)
@@ -13,4 +13,4 @@ fir-number-spec =
     (λ c κs. search rules)
     (λ c. search rules)
     (λ c. search rules)
-    (λ c. rw c.before.before.o.given.1 c.refusal-number.ensures))
+    (λ c. rw c.in-Refused.is c.refusal_number.ensures))

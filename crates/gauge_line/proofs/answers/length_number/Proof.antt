@@ -3,12 +3,12 @@ use borrow.Author.Rules.{rules}
 use Rattle.gauge_line.proofs.answers.length_number.Statement.{statement}
 use Rattle.gauge_line.proofs.answers.length_number.Tie as tie
 
-pub length-number-spec : {M : Type 1} → statement M
-length-number-spec =
+pub length_number_spec : {M : Type 1} → statement M
+length_number_spec =
     tie.close
     (tie.spec
     (λ c. search rules)
     (λ c. search rules)
     (λ c κs. search rules)
     (λ c. search rules)
-    (λ c. rw c.before.before.l.given.1 c.refusal-number.ensures))
+    (λ c. rw c.in-Refused.is c.refusal_number.ensures))

@@ -3,12 +3,12 @@ use borrow.Author.Rules.{rules}
 use Rattle.gauge_line.proofs.answers.size_number.Statement.{statement}
 use Rattle.gauge_line.proofs.answers.size_number.Tie as tie
 
-pub size-number-spec : {M : Type 1} → statement M
-size-number-spec =
+pub size_number_spec : {M : Type 1} → statement M
+size_number_spec =
     tie.close
     (tie.spec
     (λ c. search rules)
     (λ c. search rules)
     (λ c κs. search rules)
     (λ c. search rules)
-    (λ c. rw c.before.before.c.given.1 c.refusal-number.ensures))
+    (λ c. rw c.in-Refused.is c.refusal_number.ensures))

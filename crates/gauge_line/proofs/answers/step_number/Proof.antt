@@ -3,8 +3,8 @@ use borrow.Author.Rules.{rules}
 use Rattle.gauge_line.proofs.answers.step_number.Statement.{statement}
 use Rattle.gauge_line.proofs.answers.step_number.Tie as tie
 
-pub step-number-spec : {M : Type 1} → statement M
-step-number-spec =
+pub step_number_spec : {M : Type 1} → statement M
+step_number_spec =
     tie.close
     (tie.spec
     (λ c. search rules)
@@ -17,4 +17,4 @@ step-number-spec =
     (λ c. search rules)
     (λ c. search rules)
     (λ c. search rules)
-    (λ c. rw c.before.before.s.given.1 c.refusal-number.ensures))
+    (λ c. rw c.in-Refused.is c.refusal_number.ensures))

@@ -3,8 +3,8 @@ use borrow.Author.Rules.{rules}
 use Rattle.gauge_line.proofs.answers.stream_number.Statement.{statement}
 use Rattle.gauge_line.proofs.answers.stream_number.Tie as tie
 
-pub stream-number-spec : {M : Type 1} → statement M
-stream-number-spec =
+pub stream_number_spec : {M : Type 1} → statement M
+stream_number_spec =
     tie.close
     (tie.spec
     (λ c. search rules)
@@ -13,4 +13,4 @@ stream-number-spec =
     (λ c κs. search rules)
     (λ c. search rules)
     (λ c. search rules)
-    (λ c. rw c.before.before.o.given.1 c.refusal-number.ensures))
+    (λ c. rw c.in-Refused.is c.refusal_number.ensures))

@@ -3,8 +3,8 @@ use borrow.Author.Rules.{rules}
 use Rattle.gauge_line.proofs.answers.sum_number.Statement.{statement}
 use Rattle.gauge_line.proofs.answers.sum_number.Tie as tie
 
-pub sum-number-spec : {M : Type 1} → statement M
-sum-number-spec =
+pub sum_number_spec : {M : Type 1} → statement M
+sum_number_spec =
     tie.close
     (tie.spec
     (λ c. search rules)
@@ -13,4 +13,4 @@ sum-number-spec =
     (λ c κs. search rules)
     (λ c. search rules)
     (λ c. search rules)
-    (λ c. rw c.before.before.o.given.1 c.refusal-number.ensures))
+    (λ c. rw c.in-Refused.is c.refusal_number.ensures))

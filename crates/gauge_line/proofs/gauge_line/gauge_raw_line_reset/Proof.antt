@@ -21,58 +21,46 @@ fir-requires c κs = search rules
 stream-requires : tie.Need-stream-requires
 stream-requires c κs = search rules
 
-is-set-requires : tie.Need-is-set-requires
+is-set-requires : tie.Need-is_set-requires
 is-set-requires c κs = search rules
 
 resampler-requires : tie.Need-resampler-requires
 resampler-requires c κs = search rules
 
-reset-requires : tie.Need-reset-requires
+reset-requires : tie.Need-reset-opened-requires
 reset-requires c κs = search rules
 
-put-decimator-requires : tie.Need-put-decimator-requires
+put-decimator-requires : tie.Need-put_decimator-requires
 put-decimator-requires c κs = search rules
 
-put-fir-requires : tie.Need-put-fir-requires
+put-fir-requires : tie.Need-put_fir-requires
 put-fir-requires c κs = search rules
 
-put-stream-requires : tie.Need-put-stream-requires
+put-stream-requires : tie.Need-put_stream-requires
 put-stream-requires c κs = search rules
 
-put-resampler-requires : tie.Need-put-resampler-requires
+put-resampler-requires : tie.Need-put_resampler-requires
 put-resampler-requires c κs = search rules
 
-put-thinning-requires : tie.Need-put-thinning-requires
+put-thinning-requires : tie.Need-put_thinning-requires
 put-thinning-requires c κs = search rules
 
-opening-number-requires : tie.Need-opening-number-requires
+opening-number-requires : tie.Need-opening_number-requires
 opening-number-requires c κs = search rules
 
 returns : tie.Need-returns
 returns c =
-    let thinning = c.before in
-    let resampler = thinning.before.before.before.before in
-    let half-band = resampler.before.before.before.before.before.before.before.before in
-    let fir = half-band.before.before.before.before.before in
-    let cic = fir.before.before.before.before.before.before in
-    let done = cic.before.before.before.before.before.before.before in
-    let lent-resampler = done.before.before in
-    let set = lent-resampler.before.before.before in
-    let lent-half-band = set.before.before.before.before in
-    let lent-fir = lent-half-band.before.before.before.before.before in
-    let lent-cic = lent-fir.before.before.before.before.before.before.before in
-    let lent-kind = lent-cic.before.before.before.before.before.before in
-    let lent = same_line _ _ _ _ _ _ _ _ _ _ _ _ _ lent-kind.kind.ensures lent-cic.decimator.ensures refl lent-fir.fir.ensures lent-half-band.stream.ensures (same_setting _ _ _ _ _ _ _ _ _ lent-resampler.resampler.ensures set.is_set.ensures) in
-    let told = same_line _ _ _ _ _ _ _ _ _ _ _ _ _ thinning.put-thinning.ensures.0.0 cic.put-decimator.ensures thinning.put-thinning.ensures.0.1 fir.put-fir.ensures half-band.put-stream.ensures resampler.put-resampler.ensures.0 in (
-      (resampler.put-resampler.ensures.1, thinning.put-thinning.ensures.1),
+    let lent = same_line _ _ _ _ _ _ _ _ _ _ _ _ _ c.kind.ensures c.decimator.ensures refl c.fir.ensures c.stream.ensures (same_setting _ _ _ _ _ _ _ _ _ c.resampler.ensures c.is_set.ensures) in
+    let told = same_line _ _ _ _ _ _ _ _ _ _ _ _ _ c.put_thinning.ensures.0.0 c.put_decimator.ensures c.put_thinning.ensures.0.1 c.put_fir.ensures c.put_stream.ensures c.put_resampler.ensures.0 in (
+      (c.put_resampler.ensures.1, c.put_thinning.ensures.1),
       (
-        same_opened _ _ _ _ _ c.opening-number.ensures told (done.reset.ensures.0 ∙ ap L.reset lent),
-        λ valid. c.opening-number.ensures ∙ done.reset.ensures.1 (subst⁻¹ (λ (l : Line). L.valid l ≡ true) lent valid),
+        same_opened _ _ _ _ _ c.opening_number.ensures told (c.reset-opened.ensures.0 ∙ ap L.reset lent),
+        λ valid. c.opening_number.ensures ∙ c.reset-opened.ensures.1 (subst⁻¹ (λ (l : Line). L.valid l ≡ true) lent valid),
       ),
     )
 
-pub gauge-raw-line-reset-spec : {M : Type 1} → statement M
-gauge-raw-line-reset-spec =
+pub gauge_raw_line_reset_spec : {M : Type 1} → statement M
+gauge_raw_line_reset_spec =
     tie.close
     (tie.spec
     kind-requires

@@ -1,36 +1,32 @@
 -- `gauge_raw_hbf_dec_process` meets its contract: it hands over what the layer's `process` answers, field by field.
-use mathlib.Core.Path.{◌≡◌}
 use borrow.Author.Rules.{rules}
 use Rattle.gauge_line.proofs.hbf_dec.gauge_raw_hbf_dec_process.Statement.{statement}
 use Rattle.gauge_line.proofs.hbf_dec.gauge_raw_hbf_dec_process.Tie as tie
 
-dec-requires : tie.Need-dec-requires
+dec-requires : tie.Need-dec-state-requires
 dec-requires c κs = search rules
 
-process-requires : tie.Need-process-requires
+process-requires : tie.Need-process-done-requires
 process-requires c κs = search rules
 
-put-dec-requires : tie.Need-put-dec-requires
+put-dec-requires : tie.Need-put_dec-requires
 put-dec-requires c κs = search rules
 
-count-written-requires : tie.Need-count-written-requires
+count-written-requires : tie.Need-count_written-requires
 count-written-requires c κs = search rules
 
-count-number-requires : tie.Need-count-number-requires
+count-number-requires : tie.Need-count_number-requires
 count-number-requires c κs = search rules
 
-same_length : tie.Need-same-length
+same_length : tie.Need-shape_of-dst
 same_length c = search rules
 
 returns : tie.Need-returns
 returns c =
-    let put = c.before.before in
-    let done = put.before.before.before.before.before.before.before in
-    let built = done.before.before in
-    rw (c.count-number.ensures, c.before.count-written.ensures, put.put-dec.ensures) (rw built.dec.ensures at done.process.ensures)
+    rw (c.count_number.ensures, c.count_written.ensures, c.put_dec.ensures) (rw c.dec-state.ensures at c.process-done.ensures)
 
-pub gauge-raw-hbf-dec-process-spec : {M : Type 1} → statement M
-gauge-raw-hbf-dec-process-spec =
+pub gauge_raw_hbf_dec_process_spec : {M : Type 1} → statement M
+gauge_raw_hbf_dec_process_spec =
     tie.close
     (tie.spec
     dec-requires

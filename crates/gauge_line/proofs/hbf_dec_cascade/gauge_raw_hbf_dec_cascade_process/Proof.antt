@@ -1,37 +1,33 @@
 -- `gauge_raw_hbf_dec_cascade_process` meets its contract: it hands over what the layer's `process` answers, field by field.
-use mathlib.Core.Path.{◌≡◌}
 use borrow.Author.Rules.{rules}
 use Rattle.gauge_line.proofs.hbf_dec_cascade.gauge_raw_hbf_dec_cascade_process.Statement.{statement}
 use Rattle.gauge_line.proofs.hbf_dec_cascade.gauge_raw_hbf_dec_cascade_process.Tie as tie
 
-dec-cascade-requires : tie.Need-dec-cascade-requires
+dec-cascade-requires : tie.Need-dec_cascade-state-requires
 dec-cascade-requires c κs = search rules
 
-process-requires : tie.Need-process-requires
+process-requires : tie.Need-process-done-requires
 process-requires c κs = search rules
 
-put-dec-cascade-requires : tie.Need-put-dec-cascade-requires
+put-dec-cascade-requires : tie.Need-put_dec_cascade-requires
 put-dec-cascade-requires c κs = search rules
 
-count-written-requires : tie.Need-count-written-requires
+count-written-requires : tie.Need-count_written-requires
 count-written-requires c κs = search rules
 
-count-number-requires : tie.Need-count-number-requires
+count-number-requires : tie.Need-count_number-requires
 count-number-requires c κs = search rules
 
-same_length : tie.Need-same-length
+same_length : tie.Need-shape_of-dst
 same_length c = search rules
 
 returns : tie.Need-returns
 returns c =
-    let put = c.before.before in
-    let done = put.before.before.before.before.before.before in
-    let built = done.before.before in
-    rw (c.count-number.ensures, c.before.count-written.ensures, put.put-dec-cascade.ensures)
-    (rw built.dec-cascade.ensures at done.process.ensures)
+    rw (c.count_number.ensures, c.count_written.ensures, c.put_dec_cascade.ensures)
+    (rw c.dec_cascade-state.ensures at c.process-done.ensures)
 
-pub gauge-raw-hbf-dec-cascade-process-spec : {M : Type 1} → statement M
-gauge-raw-hbf-dec-cascade-process-spec =
+pub gauge_raw_hbf_dec_cascade_process_spec : {M : Type 1} → statement M
+gauge_raw_hbf_dec_cascade_process_spec =
     tie.close
     (tie.spec
     dec-cascade-requires

@@ -1,23 +1,24 @@
 -- `gauge_raw_hbf_int_new` meets its contract: it hands over what the layer's `new` answers, field by field.
-use mathlib.Core.Path.{◌≡◌}
 use borrow.Author.Rules.{rules}
 use Rattle.gauge_line.proofs.hbf_int.gauge_raw_hbf_int_new.Statement.{statement}
 use Rattle.gauge_line.proofs.hbf_int.gauge_raw_hbf_int_new.Tie as tie
 
-new-requires : tie.Need-new-requires
+new-requires : tie.Need-new-opened-requires
 new-requires c κs = search rules
 
-put-int-requires : tie.Need-put-int-requires
+put-int-requires : tie.Need-put_int-requires
 put-int-requires c κs = search rules
 
-opening-number-requires : tie.Need-opening-number-requires
+opening-number-requires : tie.Need-opening_number-requires
 opening-number-requires c κs = search rules
 
 returns : tie.Need-returns
 returns c =
-    let put = c.before in
-    let done = put.before.before.before.before.before in
-    rw (c.opening-number.ensures, put.put-int.ensures) done.new.ensures
+    rw (c.opening_number.ensures, c.put_int.ensures) c.new-opened.ensures
 
-pub gauge-raw-hbf-int-new-spec : {M : Type 1} → statement M
-gauge-raw-hbf-int-new-spec = tie.close (tie.spec new-requires put-int-requires opening-number-requires returns)
+pub gauge_raw_hbf_int_new_spec : {M : Type 1} → statement M
+gauge_raw_hbf_int_new_spec = tie.close (tie.spec
+    new-requires
+    put-int-requires
+    opening-number-requires
+    returns)

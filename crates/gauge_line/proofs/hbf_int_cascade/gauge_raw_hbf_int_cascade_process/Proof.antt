@@ -1,37 +1,33 @@
 -- `gauge_raw_hbf_int_cascade_process` meets its contract: it hands over what the layer's `process` answers, field by field.
-use mathlib.Core.Path.{◌≡◌}
 use borrow.Author.Rules.{rules}
 use Rattle.gauge_line.proofs.hbf_int_cascade.gauge_raw_hbf_int_cascade_process.Statement.{statement}
 use Rattle.gauge_line.proofs.hbf_int_cascade.gauge_raw_hbf_int_cascade_process.Tie as tie
 
-int-cascade-requires : tie.Need-int-cascade-requires
+int-cascade-requires : tie.Need-int_cascade-state-requires
 int-cascade-requires c κs = search rules
 
-process-requires : tie.Need-process-requires
+process-requires : tie.Need-process-done-requires
 process-requires c κs = search rules
 
-put-int-cascade-requires : tie.Need-put-int-cascade-requires
+put-int-cascade-requires : tie.Need-put_int_cascade-requires
 put-int-cascade-requires c κs = search rules
 
-count-written-requires : tie.Need-count-written-requires
+count-written-requires : tie.Need-count_written-requires
 count-written-requires c κs = search rules
 
-count-number-requires : tie.Need-count-number-requires
+count-number-requires : tie.Need-count_number-requires
 count-number-requires c κs = search rules
 
-same_length : tie.Need-same-length
+same_length : tie.Need-shape_of-dst
 same_length c = search rules
 
 returns : tie.Need-returns
 returns c =
-    let put = c.before.before in
-    let done = put.before.before.before.before.before.before in
-    let built = done.before.before in
-    rw (c.count-number.ensures, c.before.count-written.ensures, put.put-int-cascade.ensures)
-    (rw built.int-cascade.ensures at done.process.ensures)
+    rw (c.count_number.ensures, c.count_written.ensures, c.put_int_cascade.ensures)
+    (rw c.int_cascade-state.ensures at c.process-done.ensures)
 
-pub gauge-raw-hbf-int-cascade-process-spec : {M : Type 1} → statement M
-gauge-raw-hbf-int-cascade-process-spec =
+pub gauge_raw_hbf_int_cascade_process_spec : {M : Type 1} → statement M
+gauge_raw_hbf_int_cascade_process_spec =
     tie.close
     (tie.spec
     int-cascade-requires

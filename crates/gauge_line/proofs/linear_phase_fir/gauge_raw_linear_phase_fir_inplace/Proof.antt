@@ -1,28 +1,28 @@
 -- `gauge_raw_linear_phase_fir_inplace` meets its contract: it hands over what the layer's `inplace_at` answers, which is lent the arrays.
-use mathlib.Core.Path.{◌≡◌, refl}
+use mathlib.Core.Path.{refl}
 use borrow.Author.Rules.{rules}
 use Rattle.gauge_line.proofs.linear_phase_fir.gauge_raw_linear_phase_fir_inplace.Statement.{statement}
 use Rattle.gauge_line.proofs.linear_phase_fir.gauge_raw_linear_phase_fir_inplace.Tie as tie
 
-inplace-at-requires : tie.Need-inplace-at-requires
+inplace-at-requires : tie.Need-inplace_at-answer-requires
 inplace-at-requires c κs = search rules
 
-count-written-requires : tie.Need-count-written-requires
+count-written-requires : tie.Need-count_written-requires
 count-written-requires c κs = search rules
 
-count-number-requires : tie.Need-count-number-requires
+count-number-requires : tie.Need-count_number-requires
 count-number-requires c κs = search rules
 
-same_length : tie.Need-same-length
+same_length : tie.Need-shape_of-span
 same_length c = search rules
 
 returns : tie.Need-returns
 returns c =
-    let e = c.before.before.before.before.inplace-at.ensures in
-    rw (c.count-number.ensures, c.before.count-written.ensures) (e.0, (e.1, (refl, refl)))
+    let e = c.inplace_at-answer.ensures in
+    rw (c.count_number.ensures, c.count_written.ensures) (e.0, (e.1, (refl, refl)))
 
-pub gauge-raw-linear-phase-fir-inplace-spec : {M : Type 1} → statement M
-gauge-raw-linear-phase-fir-inplace-spec =
+pub gauge_raw_linear_phase_fir_inplace_spec : {M : Type 1} → statement M
+gauge_raw_linear_phase_fir_inplace_spec =
     tie.close
     (tie.spec
     inplace-at-requires

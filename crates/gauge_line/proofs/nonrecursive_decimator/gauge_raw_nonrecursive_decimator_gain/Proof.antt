@@ -1,29 +1,26 @@
 -- `gauge_raw_nonrecursive_decimator_gain` meets its contract: it hands over what the layer's `gain` answers, field by field.
-use mathlib.Core.Path.{◌≡◌}
 use borrow.Author.Rules.{rules}
 use Rattle.gauge_line.proofs.nonrecursive_decimator.gauge_raw_nonrecursive_decimator_gain.Statement.{statement}
 use Rattle.gauge_line.proofs.nonrecursive_decimator.gauge_raw_nonrecursive_decimator_gain.Tie as tie
 
-nonrecursive-requires : tie.Need-nonrecursive-requires
+nonrecursive-requires : tie.Need-nonrecursive-state-requires
 nonrecursive-requires c κs = search rules
 
-gain-requires : tie.Need-gain-requires
+gain-requires : tie.Need-gain-answer-requires
 gain-requires c κs = search rules
 
-gain-value-requires : tie.Need-gain-value-requires
+gain-value-requires : tie.Need-gain_value-requires
 gain-value-requires c κs = search rules
 
-gain-number-requires : tie.Need-gain-number-requires
+gain-number-requires : tie.Need-gain_number-requires
 gain-number-requires c κs = search rules
 
 returns : tie.Need-returns
 returns c =
-    let done = c.before.before in
-    let built = done.before in
-    rw (c.gain-number.ensures, c.before.gain-value.ensures) (rw built.nonrecursive.ensures at done.gain.ensures)
+    rw (c.gain_number.ensures, c.gain_value.ensures) (rw c.nonrecursive-state.ensures at c.gain-answer.ensures)
 
-pub gauge-raw-nonrecursive-decimator-gain-spec : {M : Type 1} → statement M
-gauge-raw-nonrecursive-decimator-gain-spec =
+pub gauge_raw_nonrecursive_decimator_gain_spec : {M : Type 1} → statement M
+gauge_raw_nonrecursive_decimator_gain_spec =
     tie.close
     (tie.spec
     nonrecursive-requires

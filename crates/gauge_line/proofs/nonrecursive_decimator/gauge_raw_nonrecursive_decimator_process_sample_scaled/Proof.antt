@@ -1,5 +1,5 @@
 -- `gauge_raw_nonrecursive_decimator_process_sample_scaled` meets its contract: it hands over what the layer's `process_sample_scaled` answers, field by field.
-use mathlib.Core.Path.{◌≡◌, ap}
+use mathlib.Core.Path.{ap}
 use lib.IntN.{pos}
 use Rattle.gauge_line.specs.Crossing.{crossed}
 use borrow.Author.Rules.{rules}
@@ -11,35 +11,32 @@ use Rattle.gauge_line.proofs.nonrecursive_decimator.gauge_raw_nonrecursive_decim
 }
 use Rattle.gauge_line.proofs.nonrecursive_decimator.gauge_raw_nonrecursive_decimator_process_sample_scaled.Tie as tie
 
-nonrecursive-requires : tie.Need-nonrecursive-requires
+nonrecursive-requires : tie.Need-nonrecursive-state-requires
 nonrecursive-requires c κs = search rules
 
-process-sample-scaled-requires : tie.Need-process-sample-scaled-requires
+process-sample-scaled-requires : tie.Need-process_sample_scaled-done-requires
 process-sample-scaled-requires c κs = search rules
 
-put-nonrecursive-requires : tie.Need-put-nonrecursive-requires
+put-nonrecursive-requires : tie.Need-put_nonrecursive-requires
 put-nonrecursive-requires c κs = search rules
 
-sum-made-requires : tie.Need-sum-made-requires
+sum-made-requires : tie.Need-sum_made-requires
 sum-made-requires c κs = search rules
 
-sum-value-requires : tie.Need-sum-value-requires
+sum-value-requires : tie.Need-sum_value-requires
 sum-value-requires c κs = search rules
 
-sum-number-requires : tie.Need-sum-number-requires
+sum-number-requires : tie.Need-sum_number-requires
 sum-number-requires c κs = search rules
 
 returns : tie.Need-returns
 returns c =
-    let f : SFits w32 c.before.sum-value.result = record { sfits = c.before.sum-value.type-inv } in
-    let put = c.before.before.before in
-    let done = put.before.before.before.before.before.before in
-    let built = done.before in
-    rw (to_z-of_z f, c.Sum-Number.ensures, c.before.sum-value.ensures, c.before.before.sum-made.ensures, put.put-nonrecursive.ensures)
-    (ap (crossed (pos 0)) (rw (to_z-of_z built.before.before.before.before.before.ranges.input, built.nonrecursive.ensures) at done.process-sample-scaled.ensures))
+    let f : SFits w32 c.sum_value.result = record { sfits = c.sum_value.type_inv } in
+    rw (to_z-of_z f, c.sum_number.ensures, c.sum_value.ensures, c.sum_made.ensures, c.put_nonrecursive.ensures)
+    (ap (crossed (pos 0)) (rw (to_z-of_z c.ranges.input, c.nonrecursive-state.ensures) at c.process_sample_scaled-done.ensures))
 
-pub gauge-raw-nonrecursive-decimator-process-sample-scaled-spec : {M : Type 1} → statement M
-gauge-raw-nonrecursive-decimator-process-sample-scaled-spec =
+pub gauge_raw_nonrecursive_decimator_process_sample_scaled_spec : {M : Type 1} → statement M
+gauge_raw_nonrecursive_decimator_process_sample_scaled_spec =
     tie.close
     (tie.spec
     nonrecursive-requires

@@ -21,52 +21,46 @@ told_parked b r s e t = subst⁻¹ (AsParked b) e t
 told_earlier : (b : List ℕ) (r s : Opened Line) → r ≡ s → StillTaken b s → StillTaken b r
 told_earlier b r s e t = subst⁻¹ (StillTaken b) e t
 
-take-up-requires : tie.Need-take-up-requires
+take-up-requires : tie.Need-take_up-opened-requires
 take-up-requires c κs = search rules
 
-put-decimator-requires : tie.Need-put-decimator-requires
+put-decimator-requires : tie.Need-put_decimator-requires
 put-decimator-requires c κs = search rules
 
-put-fir-requires : tie.Need-put-fir-requires
+put-fir-requires : tie.Need-put_fir-requires
 put-fir-requires c κs = search rules
 
-put-stream-requires : tie.Need-put-stream-requires
+put-stream-requires : tie.Need-put_stream-requires
 put-stream-requires c κs = search rules
 
-put-resampler-requires : tie.Need-put-resampler-requires
+put-resampler-requires : tie.Need-put_resampler-requires
 put-resampler-requires c κs = search rules
 
-put-thinning-requires : tie.Need-put-thinning-requires
+put-thinning-requires : tie.Need-put_thinning-requires
 put-thinning-requires c κs = search rules
 
-opening-number-requires : tie.Need-opening-number-requires
+opening-number-requires : tie.Need-opening_number-requires
 opening-number-requires c κs = search rules
 
 returns : tie.Need-returns
 returns c =
-    let thinning = c.before in
-    let resampler = thinning.before.before.before.before in
-    let half-band = resampler.before.before.before.before.before.before.before.before in
-    let fir = half-band.before.before.before.before.before in
-    let cic = fir.before.before.before.before.before.before in
-    let done = cic.before.before.before.before.before.before.before in
-    let told = same_line _ _ _ _ _ _ _ _ _ _ _ _ _ thinning.put-thinning.ensures.0.0 cic.put-decimator.ensures thinning.put-thinning.ensures.0.1 fir.put-fir.ensures half-band.put-stream.ensures resampler.put-resampler.ensures.0 in
-    let same = same_opened _ _ _ _ _ c.opening-number.ensures told refl in (
-      (resampler.put-resampler.ensures.1, thinning.put-thinning.ensures.1),
+    let told = same_line _ _ _ _ _ _ _ _ _ _ _ _ _ c.put_thinning.ensures.0.0 c.put_decimator.ensures c.put_thinning.ensures.0.1 c.put_fir.ensures c.put_stream.ensures c.put_resampler.ensures.0 in
+    let same = same_opened _ _ _ _ _ c.opening_number.ensures told refl in (
+      (c.put_resampler.ensures.1, c.put_thinning.ensures.1),
       (
-        same ∙ done.take-up.ensures.0,
+        same ∙ c.take_up-opened.ensures.0,
         (
-          told_back _ _ _ same done.take-up.ensures.1.0,
+          told_back _ _ _ same c.take_up-opened.ensures.1.0,
           (
-            told_parked _ _ _ same done.take-up.ensures.1.1.0,
-            told_earlier _ _ _ same done.take-up.ensures.1.1.1,
+            told_parked _ _ _ same c.take_up-opened.ensures.1.1.0,
+            told_earlier _ _ _ same c.take_up-opened.ensures.1.1.1,
           ),
         ),
       ),
     )
 
-pub gauge-raw-line-take-up-3-spec : {M : Type 1} → statement M
-gauge-raw-line-take-up-3-spec =
+pub gauge_raw_line_take_up_3_spec : {M : Type 1} → statement M
+gauge_raw_line_take_up_3_spec =
     tie.close
     (tie.spec
     take-up-requires

@@ -18,7 +18,7 @@ fir-requires c κs = search rules
 stream-requires : tie.Need-stream-requires
 stream-requires c κs = search rules
 
-is-set-requires : tie.Need-is-set-requires
+is-set-requires : tie.Need-is_set-requires
 is-set-requires c κs = search rules
 
 resampler-requires : tie.Need-resampler-requires
@@ -26,11 +26,11 @@ resampler-requires c κs = search rules
 
 returns : tie.Need-returns
 returns c =
-    same_line _ _ _ _ _ _ _ _ _ _ _ _ _ c.before.before.before.before.before.kind.ensures c.before.before.before.before.decimator.ensures refl c.before.before.before.fir.ensures c.before.before.stream.ensures
-    (same_setting _ _ _ _ _ _ _ _ _ c.resampler.ensures c.before.is_set.ensures)
+    same_line _ _ _ _ _ _ _ _ _ _ _ _ _ c.kind.ensures c.decimator.ensures refl c.fir.ensures c.stream.ensures
+    (same_setting _ _ _ _ _ _ _ _ _ c.resampler.ensures c.is_set.ensures)
 
-pub line-of-spec : {M : Type 1} → statement M
-line-of-spec =
+pub line_of_spec : {M : Type 1} → statement M
+line_of_spec =
     tie.close
     (tie.spec
     kind-requires

@@ -10,36 +10,36 @@ use borrow.Author.Rules.{rules}
 use Rattle.gauge_line.proofs.tap_sheet.gauge_raw_sheet_entry.Statement.{statement}
 use Rattle.gauge_line.proofs.tap_sheet.gauge_raw_sheet_entry.Tie as tie
 
-entry-offset-requires : tie.Need-entry-offset-requires
+entry-offset-requires : tie.Need-entry_offset-requires
 entry-offset-requires c κs = search rules
 
-entry-size-requires : tie.Need-entry-size-requires
+entry-size-requires : tie.Need-entry_size-answer-requires
 entry-size-requires c κs = search rules
 
-size-value-requires : tie.Need-size-value-requires
+size-value-requires : tie.Need-size_value-requires
 size-value-requires c κs = search rules
 
-size-number-requires : tie.Need-size-number-requires
+size-number-requires : tie.Need-size_number-requires
 size-number-requires c κs = search rules
 
 returns : tie.Need-returns
 unfolding entry_answer
 returns c =
-    let sized : c.before.size-value.result ≡ length (entry present c.before.before.before.before.before.args.bytes.now c.before.before.before.before.before.args.count c.before.before.before.before.before.args.k) =
-    c.before.size-value.ensures ∙ ap (λ (a : Answer ℕ). a.value) c.before.before.entry-size.ensures
+    let sized : c.size_value.result ≡ length (entry present c.args.bytes.now c.args.count c.args.k) =
+    c.size_value.ensures ∙ ap (λ (a : Answer ℕ). a.value) c.entry_size-answer.ensures
     in (
-      rw (c.size_number.ensures, c.before.size-value.ensures) c.before.before.entry-size.ensures,
+      rw (c.size_number.ensures, c.size_value.ensures) c.entry_size-answer.ensures,
       (
-        c.before.before.before.entry-offset.ensures,
+        c.entry_offset.ensures,
         (
-          rw (sized, c.before.before.before.entry-offset.ensures) (entry_at present _ _ _),
-          λ h. rw (c.size_number.ensures, c.before.size-value.ensures) (c.before.before.entry-size.ensures ∙ entry_answer_same _ h _ _),
+          rw (sized, c.entry_offset.ensures) (entry_at present _ _ _),
+          λ h. rw (c.size_number.ensures, c.size_value.ensures) (c.entry_size-answer.ensures ∙ entry_answer_same _ h _ _),
         ),
       ),
     )
 
-pub gauge-raw-sheet-entry-spec : {M : Type 1} → statement M
-gauge-raw-sheet-entry-spec =
+pub gauge_raw_sheet_entry_spec : {M : Type 1} → statement M
+gauge_raw_sheet_entry_spec =
     tie.close
     (tie.spec
     entry-offset-requires

@@ -15,84 +15,84 @@ use borrow.Author.Rules.{rules}
 use Rattle.half_band.proofs.half_band.decimate.Statement.{statement}
 use Rattle.half_band.proofs.half_band.decimate.Tie as tie
 
-abbrev invariant-loop : tie.invariant-loop
+abbrev invariant-loop : tie.invariant-loop-i
 invariant-loop window₀ taps src dst₀ n i₀ window dst i = (i ≤ n) × (length window ≡ length window₀) × Emitted (decimator taps) window₀ (pairs src) dst₀ window dst i i
 
-abbrev decreases-loop : tie.decreases-loop
+abbrev decreases-loop : tie.decreases-loop-i
 decreases-loop window₀ taps src dst₀ n i₀ window dst i = n - i
 
-abbrev begun : tie.At-loop invariant-loop decreases-loop → tie.Start invariant-loop decreases-loop
+abbrev begun : tie.At-loop-i invariant-loop decreases-loop → tie.Start invariant-loop decreases-loop
 begun c = c.before.before.before.before.before
 
-loop-holds : tie.Need-loop-init invariant-loop decreases-loop
+loop-holds : tie.Need-loop-i-init invariant-loop decreases-loop
 loop-holds c = (search rules, refl, emitted_start _ _ _ _)
 
-mul-take-pair : tie.Need-overflow-mul-take-pair invariant-loop decreases-loop
+mul-take-pair : tie.Need-overflow_mul-i invariant-loop decreases-loop
 mul-take-pair c = search rules
 
-mul-take-pair-2 : tie.Need-overflow-mul-take-pair-2 invariant-loop decreases-loop
+mul-take-pair-2 : tie.Need-offset_bounds-src-i invariant-loop decreases-loop
 mul-take-pair-2 c = search rules
 
-shared-slice-read-take-pair : tie.Need-shared-slice-read-take-pair invariant-loop decreases-loop
+shared-slice-read-take-pair : tie.Need-bounds-src-i invariant-loop decreases-loop
 shared-slice-read-take-pair c = search rules
 
-mul-take-pair-3 : tie.Need-overflow-mul-take-pair-3 invariant-loop decreases-loop
+mul-take-pair-3 : tie.Need-overflow_mul-i-in-loop-i invariant-loop decreases-loop
 mul-take-pair-3 c = search rules
 
-add-take-pair : tie.Need-overflow-add-take-pair invariant-loop decreases-loop
+add-take-pair : tie.Need-overflow_add-i invariant-loop decreases-loop
 add-take-pair c = search rules
 
-mul-take-pair-4 : tie.Need-overflow-mul-take-pair-4 invariant-loop decreases-loop
+mul-take-pair-4 : tie.Need-offset_bounds-src-i-in-loop-i invariant-loop decreases-loop
 mul-take-pair-4 c = search rules
 
-shared-slice-read-take-pair-2 : tie.Need-shared-slice-read-take-pair-2 invariant-loop decreases-loop
+shared-slice-read-take-pair-2 : tie.Need-bounds-src-i-in-loop-i invariant-loop decreases-loop
 shared-slice-read-take-pair-2 c = search rules
 
-take-pair-requires : tie.Need-take-pair-requires invariant-loop decreases-loop
+take-pair-requires : tie.Need-take_pair-y-requires invariant-loop decreases-loop
 take-pair-requires c κs = search rules
 
-mul-dst : tie.Need-overflow-mul-dst invariant-loop decreases-loop
+mul-dst : tie.Need-offset_bounds-dst-i invariant-loop decreases-loop
 mul-dst c = search rules
 
-slice-write-dst : tie.Need-slice-write-dst invariant-loop decreases-loop
-slice-write-dst c = omega (arith, c.before.before.before.before.before.before.before.loop.invariant.2.same)
+slice-write-dst : tie.Need-bounds-dst-i invariant-loop decreases-loop
+slice-write-dst c = omega (arith, c.loop-i.invariant.2.same)
 
-add-i : tie.Need-overflow-add-i invariant-loop decreases-loop
+add-i : tie.Need-overflow_add-i-in-loop-i invariant-loop decreases-loop
 add-i c = search rules
 
-loop-less : tie.Need-loop-smaller invariant-loop decreases-loop
+loop-less : tie.Need-loop-i-smaller invariant-loop decreases-loop
 loop-less c = search rules
 
-loop-again : tie.Need-loop-preserved invariant-loop decreases-loop
+loop-again : tie.Need-loop-i-preserved invariant-loop decreases-loop
 unfolding decimator
-loop-again c = let l = c.before.before.before.before.before.before.before.loop in
+loop-again c = let l = c.loop-i in
     let a = (begun c.before.before.before.before.before.before.before).args in
-    let t = c.before.before.take-pair in
+    let t = c.take_pair-y in
     let src = a.src.now in
     let q : get_or (pairs src) l.i (nan, nan) ≡ (get_or src (2 * l.i) nan, get_or src (2 * l.i + 1) nan) = pair_at src l.i (omega arith) in (
       omega arith,
       ap length t.ensures.0 ∙ length_slid l.window (get_or src (2 * l.i) nan ∷ get_or src (2 * l.i + 1) nan ∷ []) (omega arith) ∙ l.invariant.1,
-      emitted_one (decimator a.taps.now) a.window.now (pairs src) a.dst.now l.window l.dst l.i l.i (nan, nan) l.invariant.2 (omega (arith, length_pairs src)) t.new.0
+      emitted_one (decimator a.taps.now) a.window.now (pairs src) a.dst.now l.window l.dst l.i l.i (nan, nan) l.invariant.2 (omega (arith, length_pairs src)) t.new.window
           (t.ensures.0 ∙ ap (λ (p : Float × Float). slid l.window (p.0 ∷ p.1 ∷ [])) (sym q))
           t.result
           (ap (λ (p : Float × Float). some (dec_value a.taps.now (slid l.window (p.0 ∷ p.1 ∷ [])))) q ∙ ap some (sym t.ensures.1))
           (omega arith),
     )
 
-same_length : tie.Need-same-length invariant-loop decreases-loop
-same_length c = c.before.loop.invariant.1
+same_length : tie.Need-shape_of-window invariant-loop decreases-loop
+same_length c = c.loop-i.invariant.1
 
-same-length-2 : tie.Need-same-length-2 invariant-loop decreases-loop
-same-length-2 c = c.before.loop.invariant.2.same
+same-length-2 : tie.Need-shape_of-dst invariant-loop decreases-loop
+same-length-2 c = c.loop-i.invariant.2.same
 
 returns : tie.Need-returns invariant-loop decreases-loop
-returns c = let l = c.before.loop in
+returns c = let l = c.loop-i in
     let a = (begun c.before).args in
-    let all = subst (λ (k : ℕ). Emitted (decimator a.taps.now) a.window.now (pairs a.src.now) a.dst.now l.window l.dst k k) (le_antisymm l.invariant.0 c.loop-test.false) l.invariant.2 in
+    let all = subst (λ (k : ℕ). Emitted (decimator a.taps.now) a.window.now (pairs a.src.now) a.dst.now l.window l.dst k k) (le_antisymm l.invariant.0 c.loop-i-test.false) l.invariant.2 in
     (all.state_is, all.span_is)
 
-pub decimate-spec : {M : Type 1} → statement M
-decimate-spec =
+pub decimate_spec : {M : Type 1} → statement M
+decimate_spec =
     tie.close
     (tie.spec
     invariant-loop

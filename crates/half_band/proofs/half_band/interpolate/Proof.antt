@@ -14,36 +14,36 @@ use borrow.Author.Rules.{rules}
 use Rattle.half_band.proofs.half_band.interpolate.Statement.{statement}
 use Rattle.half_band.proofs.half_band.interpolate.Tie as tie
 
-abbrev begun : tie.After-put-at-end → tie.Start
+abbrev begun : tie.After-put_at_end → tie.Start
 begun c = c.before.before.before.before.before.before
 
-put : (c : tie.After-put-at-end) → c.put-at-end.new.0 ≡ take (length (begun c).args.span.now - length (begun c).args.src.now) (begun c).args.span.now ++ (begun c).args.src.now
-put c = c.put-at-end.ensures ∙ ends_in _ _ (omega (arith, (begun c).requires.3))
+put : (c : tie.After-put_at_end) → c.put_at_end.new.span ≡ take (length (begun c).args.span.now - length (begun c).args.src.now) (begun c).args.span.now ++ (begun c).args.src.now
+put c = c.put_at_end.ensures ∙ ends_in _ _ (omega (arith, (begun c).requires.3))
 
-placed : (c : tie.After-put-at-end) → length c.put-at-end.new.0 ≡ 2 * length (begun c).args.src.now
+placed : (c : tie.After-put_at_end) → length c.put_at_end.new.span ≡ 2 * length (begun c).args.src.now
 placed c = ap length (put c) ∙ long (begun c).args.span.now (begun c).args.src.now (begun c).requires.3
 
-put-at-end-requires : tie.Need-put-at-end-requires
+put-at-end-requires : tie.Need-put_at_end-requires
 put-at-end-requires c κs = search rules
 
 expand-requires : tie.Need-expand-requires
 expand-requires c κs = let k = c.before.before.before.before in
     let s = begun k in
     let e = placed k in
-    (s.pre.0, s.pre.1, s.pre.2, omega arith)
+    (s.requires.0, s.requires.1, s.requires.2, omega arith)
 
-same_length : tie.Need-same-length
+same_length : tie.Need-shape_of-window
 same_length c = search rules
 
-same-length-2 : tie.Need-same-length-2
+same-length-2 : tie.Need-shape_of-span
 same-length-2 c = search rules
 
 returns : tie.Need-returns
 returns c = let k = c.before.before.before.before.before.before.before.before.before in
     let a = (begun k).args in
     let n = length a.src.now in
-    let t = k.put-at-end.new.0 in
-    let o = c.before.before.before.before.expand in
+    let t = c.put_at_end.new.span in
+    let o = c.expand in
     let i = interpolator a.taps.now in
     let e : drop (length t - n) t ≡ a.src.now = ap (λ (l : List Float). drop (length l - n) l) (put k) ∙ ends a.span.now a.src.now (begun k).requires.3 in
     let z : length t - 2 * n ≡ 0 = omega (arith, placed k) in (
@@ -53,6 +53,11 @@ returns c = let k = c.before.before.before.before.before.before.before.before.be
           ∙ ap (λ (l : List Float). flat (outs i a.window.now l)) e,
     )
 
-pub interpolate-spec : {M : Type 1} → statement M
-interpolate-spec =
-    tie.close (tie.spec put-at-end-requires expand-requires same_length same-length-2 returns)
+pub interpolate_spec : {M : Type 1} → statement M
+interpolate_spec =
+    tie.close (tie.spec
+    put-at-end-requires
+    expand-requires
+    same_length
+    same-length-2
+    returns)

@@ -26,38 +26,38 @@ led_in line w l v p e h q =
 abbrev begun : tie.After-lay → tie.Start
 begun c = c.before.before.before.before.before.before
 
-fits : (c : tie.After-lay) → let a = (begun c).args in length a.window.now + length a.lead.now + length a.values.now ≤ length c.lay.new.0
-fits c = let l : length c.lay.new.0 ≡ length (begun c).args.line.now = search rules in omega (arith, l, (begun c).requires)
+fits : (c : tie.After-lay) → let a = (begun c).args in length a.window.now + length a.lead.now + length a.values.now ≤ length c.lay.new.tape
+fits c = let l : length c.lay.new.tape ≡ length (begun c).args.line.now = search rules in omega (arith, l, (begun c).requires)
 
-add-past : tie.Need-overflow-add-past
+add-past : tie.Need-overflow_add-past
 add-past c = search rules
 
-add-past-2 : tie.Need-overflow-add-past-2
+add-past-2 : tie.Need-overflow_add-past-2
 add-past-2 c = search rules
 
 lay-requires : tie.Need-lay-requires
 lay-requires c κs = search rules
 
-slice-relend-prefix-put-at-end : tie.Need-slice-relend-prefix-put-at-end
+slice-relend-prefix-put-at-end : tie.Need-slice_bounds-put_at_end-end
 slice-relend-prefix-put-at-end c = fits c.before.before
 
-slice-aggregate-put-at-end : tie.Need-slice-aggregate-put-at-end
+slice-aggregate-put-at-end : tie.Need-slice_bounds-put_at_end-end-2
 slice-aggregate-put-at-end c = sym (length-take-le _ _ (fits c.before.before.before))
 
-put-at-end-requires : tie.Need-put-at-end-requires
+put-at-end-requires : tie.Need-put_at_end-requires
 put-at-end-requires c κs = search rules
 
-same_length : tie.Need-same-length
+same_length : tie.Need-shape_of-line
 same_length c = search rules
 
 returns : tie.Need-returns
 returns c =
     let m = c.before.before.before.before.before.before in
     let a = (begun m).args in
-    led_in m.lay.new.0 a.window.now a.lead.now a.values.now _ (m.lay.ensures (omega (arith, (begun m).requires))) (fits m) c.before.before.put-at-end.ensures
+    led_in c.lay.new.tape a.window.now a.lead.now a.values.now _ (c.lay.ensures (omega (arith, (begun m).requires))) (fits m) c.put_at_end.ensures
 
-pub lay-led-spec : {M : Type 1} → statement M
-lay-led-spec =
+pub lay_led_spec : {M : Type 1} → statement M
+lay_led_spec =
     tie.close
     (tie.spec
     add-past

@@ -13,22 +13,26 @@ use Rattle.half_band.proofs.half_band.on_tape.Tie as tie
 front_long : (c : tie.Start) → length (take (length c.args.window.now) (replicate 192 zero32)) ≡ length c.args.window.now
 front_long c = length-take-le _ _ c.requires
 
-array-borrow-prefix-tape : tie.Need-array-borrow-prefix-tape
+array-borrow-prefix-tape : tie.Need-slice_bounds-tape-end
 array-borrow-prefix-tape c = search rules
 
-slice-aggregate-put-at-end : tie.Need-slice-aggregate-put-at-end
+slice-aggregate-put-at-end : tie.Need-slice_bounds-put_at_end-end
 slice-aggregate-put-at-end c = sym (front_long c.before.before)
 
-put-at-end-requires : tie.Need-put-at-end-requires
+put-at-end-requires : tie.Need-put_at_end-requires
 put-at-end-requires c κs = search rules
 
 returns : tie.Need-returns
 returns c =
     let s = c.before.before.before.before in
-    let n = length s.args.window.now in
-    let fits : length s.args.window.now ≤ length (take n (replicate 192 zero32)) = omega (arith, front_long s) in
-    rw (put_over (take n (replicate 192 zero32)) s.args.window.now c.before.put-at-end.new.0 (sym (front_long s)) (c.before.put-at-end.ensures ∙ ends_in _ _ fits))
-    (take_at s.args.window.now (drop n (replicate 192 zero32)) n refl)
+    let n = length c.args.window.now in
+    let fits : length c.args.window.now ≤ length (take n (replicate 192 zero32)) = omega (arith, front_long s) in
+    rw (put_over (take n (replicate 192 zero32)) c.args.window.now c.put_at_end.new.span (sym (front_long s)) (c.put_at_end.ensures ∙ ends_in _ _ fits))
+    (take_at c.args.window.now (drop n (replicate 192 zero32)) n refl)
 
-pub on-tape-spec : {M : Type 1} → statement M
-on-tape-spec = tie.close (tie.spec array-borrow-prefix-tape slice-aggregate-put-at-end put-at-end-requires returns)
+pub on_tape_spec : {M : Type 1} → statement M
+on_tape_spec = tie.close (tie.spec
+    array-borrow-prefix-tape
+    slice-aggregate-put-at-end
+    put-at-end-requires
+    returns)

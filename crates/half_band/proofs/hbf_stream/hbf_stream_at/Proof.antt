@@ -34,106 +34,106 @@ stage_long k d a b h e =
     length_splice (96 * k) (4 * length (stage_taps decimation k)) (slid (take (4 * length (stage_taps decimation k)) (drop (96 * k) d)) (a ∷ b ∷ [])) d
     (length_slid (take (4 * length (stage_taps decimation k)) (drop (96 * k) d)) (a ∷ b ∷ []) (omega arith) ∙ w) (omega arith)
 
-abbrev invariant-loop : tie.invariant-loop
+abbrev invariant-loop : tie.invariant-loop-k
 invariant-loop depth delays₀ held₀ counts₀ x n v₀ k₀ delays held counts v k = (k ≤ n) × (n ≡ min depth 5) × (length delays ≡ 480) × (through (stage_taps decimation) (n - k) k (some v) (stream_of depth delays held counts) ≡ whole depth x delays₀ held₀ counts₀)
 
-abbrev decreases-loop : tie.decreases-loop
+abbrev decreases-loop : tie.decreases-loop-k
 decreases-loop depth delays₀ held₀ counts₀ x n v₀ k₀ delays held counts v k = n - k
 
-all-delays-requires : tie.Need-all-delays-requires invariant-loop decreases-loop
+all-delays-requires : tie.Need-all_delays-requires invariant-loop decreases-loop
 all-delays-requires c κs = search rules
 
-smaller-requires : tie.Need-smaller-requires invariant-loop decreases-loop
+smaller-requires : tie.Need-smaller-n-requires invariant-loop decreases-loop
 smaller-requires c κs = search rules
 
-abbrev begun : tie.After-smaller invariant-loop decreases-loop → tie.Start invariant-loop decreases-loop
+abbrev begun : tie.After-smaller-n invariant-loop decreases-loop → tie.Start invariant-loop decreases-loop
 begun c = c.before.before.before
 
-loop-holds : tie.Need-loop-init invariant-loop decreases-loop
+loop-holds : tie.Need-loop-k-init invariant-loop decreases-loop
 loop-holds c = let a = (begun c).args in (
   omega arith,
-  c.smaller.ensures,
-  c.before.all-delays.ensures,
-  ap (λ (m : ℕ). through (stage_taps decimation) m 0 (some a.x) (stream_of a.depth a.delays.now a.held.now a.counts.now)) (sub-zero c.smaller.result ∙ c.smaller.ensures),
+  c.smaller-n.ensures,
+  c.all_delays.ensures,
+  ap (λ (m : ℕ). through (stage_taps decimation) m 0 (some a.x) (stream_of a.depth a.delays.now a.held.now a.counts.now)) (sub-zero c.smaller-n.result ∙ c.smaller-n.ensures),
 )
 
-mul-if1 : tie.Need-overflow-mul-if1 invariant-loop decreases-loop
+mul-if1 : tie.Need-offset_bounds-counts-k invariant-loop decreases-loop
 mul-if1 c = search rules
 
-element-copy-out-if1 : tie.Need-element-copy-out-if1 invariant-loop decreases-loop
+element-copy-out-if1 : tie.Need-bounds-counts-k invariant-loop decreases-loop
 element-copy-out-if1 c = search rules
 
-mul-held : tie.Need-overflow-mul-held invariant-loop decreases-loop
+mul-held : tie.Need-offset_bounds-held-k invariant-loop decreases-loop
 mul-held c = search rules
 
-element-write-held : tie.Need-element-write-held invariant-loop decreases-loop
+element-write-held : tie.Need-bounds-held-k invariant-loop decreases-loop
 element-write-held c = search rules
 
-mul-counts : tie.Need-overflow-mul-counts invariant-loop decreases-loop
+mul-counts : tie.Need-offset_bounds-counts-k-then-counts-k-eq0 invariant-loop decreases-loop
 mul-counts c = search rules
 
-element-write-counts : tie.Need-element-write-counts invariant-loop decreases-loop
+element-write-counts : tie.Need-bounds-counts-k-then-counts-k-eq0 invariant-loop decreases-loop
 element-write-counts c = search rules
 
-returns : tie.Need-returns invariant-loop decreases-loop
+returns : tie.Need-returns-then-counts-k-eq0 invariant-loop decreases-loop
 unfolding hbf_stream stream
-returns c = let l = c.before.before.before.loop in
-    let a = (begun c.before.before.before.before).args in
-    let n = c.before.before.before.before.smaller.result in
-    let e = sym (kept (stage_taps decimation) n l.k l.v (stream_of a.depth l.delays l.held l.counts) c.before.before.loop-test.true c.if1.true) ∙ l.invariant.3 in
+returns c = let l = c.loop-k in
+    let a = (begun c.before.before.before.before.before).args in
+    let n = c.smaller-n.result in
+    let e = sym (kept (stage_taps decimation) n l.k l.v (stream_of a.depth l.delays l.held l.counts) c.loop-k-test.true c.if-counts-k-eq0.true) ∙ l.invariant.3 in
     (ap (λ (p : Passed). p.out) e, ap (λ (p : Passed). p.state) e)
 
-mul-partner : tie.Need-overflow-mul-partner invariant-loop decreases-loop
+mul-partner : tie.Need-offset_bounds-held-k-in-loop-k invariant-loop decreases-loop
 mul-partner c = search rules
 
-element-copy-out-partner : tie.Need-element-copy-out-partner invariant-loop decreases-loop
+element-copy-out-partner : tie.Need-bounds-held-k-in-loop-k invariant-loop decreases-loop
 element-copy-out-partner c = search rules
 
-mul-held-2 : tie.Need-overflow-mul-held-2 invariant-loop decreases-loop
+mul-held-2 : tie.Need-offset_bounds-held-k-in-loop-k-2 invariant-loop decreases-loop
 mul-held-2 c = search rules
 
-element-write-held-2 : tie.Need-element-write-held-2 invariant-loop decreases-loop
+element-write-held-2 : tie.Need-bounds-held-k-in-loop-k-2 invariant-loop decreases-loop
 element-write-held-2 c = search rules
 
-mul-counts-2 : tie.Need-overflow-mul-counts-2 invariant-loop decreases-loop
+mul-counts-2 : tie.Need-offset_bounds-counts-k-in-loop-k invariant-loop decreases-loop
 mul-counts-2 c = search rules
 
-element-write-counts-2 : tie.Need-element-write-counts-2 invariant-loop decreases-loop
+element-write-counts-2 : tie.Need-bounds-counts-k-in-loop-k invariant-loop decreases-loop
 element-write-counts-2 c = search rules
 
-stage-pair-requires : tie.Need-stage-pair-requires invariant-loop decreases-loop
+stage-pair-requires : tie.Need-stage_pair-v-requires invariant-loop decreases-loop
 stage-pair-requires c κs = search rules
 
-add-k : tie.Need-overflow-add-k invariant-loop decreases-loop
+add-k : tie.Need-overflow_add-k invariant-loop decreases-loop
 add-k c = search rules
 
-loop-less : tie.Need-loop-smaller invariant-loop decreases-loop
+loop-less : tie.Need-loop-k-smaller invariant-loop decreases-loop
 loop-less c = search rules
 
-loop-again : tie.Need-loop-preserved invariant-loop decreases-loop
-loop-again c = let l = c.before.before.before.before.before.before.loop in
-    let a = (begun c.before.before.before.before.before.before.before).args in
-    let n = c.before.before.before.before.before.before.before.smaller.result in
+loop-again : tie.Need-loop-k-preserved invariant-loop decreases-loop
+loop-again c = let l = c.loop-k in
+    let a = (begun c.before.before.before.before.before.before.before.before).args in
+    let n = c.smaller-n.result in
     let t = stage_taps decimation in
     let w = slid (take (4 * length (t l.k)) (drop (96 * l.k) l.delays)) (get_or l.held l.k nan ∷ l.v ∷ []) in
-    let h : c.before.before.before.before.before.before.loop.k < 5 = omega arith in (
+    let h : c.loop-k.k < 5 = omega arith in (
       omega arith,
       l.invariant.1,
-      ap length c.stage-pair.ensures.0 ∙ stage_long l.k l.delays (get_or l.held l.k nan) l.v h l.invariant.2 ∙ l.invariant.2,
-      sym (paired t n l.k l.v (stream_of a.depth l.delays l.held l.counts) c.before.before.before.before.before.loop-test.true c.before.before.before.if1.false c.stage-pair.result c.stage-pair.new.1.0 c.stage-pair.ensures.1 c.stage-pair.ensures.0)
+      ap length c.stage_pair-v.ensures.0 ∙ stage_long l.k l.delays (get_or l.held l.k nan) l.v h l.invariant.2 ∙ l.invariant.2,
+      sym (paired t n l.k l.v (stream_of a.depth l.delays l.held l.counts) c.loop-k-test.true c.if-counts-k-eq0.false c.stage_pair-v.result c.stage_pair-v.new.delays c.stage_pair-v.ensures.1 c.stage_pair-v.ensures.0)
           ∙ l.invariant.3,
     )
 
-returns-2 : tie.Need-returns-2 invariant-loop decreases-loop
+returns-2 : tie.Need-returns invariant-loop decreases-loop
 unfolding hbf_stream stream
-returns-2 c = let l = c.before.loop in
+returns-2 c = let l = c.loop-k in
     let a = (begun c.before.before).args in
-    let n = c.before.before.smaller.result in
-    let e = sym (ended (stage_taps decimation) n l.k l.v (stream_of a.depth l.delays l.held l.counts) c.loop-test.false) ∙ l.invariant.3 in
+    let n = c.smaller-n.result in
+    let e = sym (ended (stage_taps decimation) n l.k l.v (stream_of a.depth l.delays l.held l.counts) c.loop-k-test.false) ∙ l.invariant.3 in
     (ap (λ (p : Passed). p.out) e, ap (λ (p : Passed). p.state) e)
 
-pub hbf-stream-at-spec : {M : Type 1} → statement M
-hbf-stream-at-spec =
+pub hbf_stream_at_spec : {M : Type 1} → statement M
+hbf_stream_at_spec =
     tie.close
     (tie.spec
     invariant-loop

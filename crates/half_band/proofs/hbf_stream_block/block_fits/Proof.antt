@@ -3,11 +3,11 @@ use borrow.Author.Tests.{le-leb, lt-leb}
 use Rattle.half_band.proofs.hbf_stream_block.block_fits.Statement.{statement}
 use Rattle.half_band.proofs.hbf_stream_block.block_fits.Tie as tie
 
-returns : tie.Need-returns
-returns c = rw (lt-leb c.before.args.n 192 c.if1.true)
+returns : tie.Need-returns-then-n-gt-MOST_STREAM_BLOCK
+returns c = rw (lt-leb c.args.n 192 c.if-n-gt-MOST_STREAM_BLOCK.true)
 
-returns-2 : tie.Need-returns-2
-returns-2 c = rw (le-leb c.before.args.n 192 c.if1.false)
+returns-2 : tie.Need-returns
+returns-2 c = rw (le-leb c.args.n 192 c.if-n-gt-MOST_STREAM_BLOCK.false)
 
-pub block-fits-spec : {M : Type 1} → statement M
-block-fits-spec = tie.close (tie.spec returns returns-2)
+pub block_fits_spec : {M : Type 1} → statement M
+block_fits_spec = tie.close (tie.spec returns returns-2)

@@ -7,63 +7,63 @@ use borrow.Author.Rules.{rules}
 use Rattle.half_band.proofs.hbf_stream_block.stages_block.Statement.{statement}
 use Rattle.half_band.proofs.hbf_stream_block.stages_block.Tie as tie
 
-abbrev invariant-loop : tie.invariant-loop
+abbrev invariant-loop : tie.invariant-loop-k
 invariant-loop depth delays₀ held₀ counts₀ span₀ n most m₀ k₀ delays held counts span m k = Going depth n most (stream_of depth delays₀ held₀ counts₀) span₀ delays held counts span m k
 
-abbrev decreases-loop : tie.decreases-loop
+abbrev decreases-loop : tie.decreases-loop-k
 decreases-loop depth delays₀ held₀ counts₀ span₀ n most m₀ k₀ delays held counts span m k = most - k
 
-abbrev begun : tie.After-smaller invariant-loop decreases-loop → tie.Start invariant-loop decreases-loop
+abbrev begun : tie.After-smaller-most invariant-loop decreases-loop → tie.Start invariant-loop decreases-loop
 begun c = c.before.before.before.before.before.before.before
 
-all-delays-requires : tie.Need-all-delays-requires invariant-loop decreases-loop
+all-delays-requires : tie.Need-all_delays-requires invariant-loop decreases-loop
 all-delays-requires c κs = search rules
 
-all-held-requires : tie.Need-all-held-requires invariant-loop decreases-loop
+all-held-requires : tie.Need-all_held-requires invariant-loop decreases-loop
 all-held-requires c κs = search rules
 
-smaller-requires : tie.Need-smaller-requires invariant-loop decreases-loop
+smaller-requires : tie.Need-smaller-most-requires invariant-loop decreases-loop
 smaller-requires c κs = search rules
 
-loop-holds : tie.Need-loop-init invariant-loop decreases-loop
+loop-holds : tie.Need-loop-k-init invariant-loop decreases-loop
 loop-holds c =
     let s = begun c in
     let a = s.args in
-    going_start a.depth a.n c.smaller.result a.delays.now a.held.now a.counts.now a.span.now c.smaller.ensures
-    (record { delays = c.before.before.before.before.all-delays.ensures; held = c.before.all_held.ensures.0; counts = c.before.all_held.ensures.1 }) s.pre.0
+    going_start a.depth a.n c.smaller-most.result a.delays.now a.held.now a.counts.now a.span.now c.smaller-most.ensures
+    (record { delays = c.all_delays.ensures; held = c.all_held.ensures.0; counts = c.all_held.ensures.1 }) s.requires.0
 
-stage-block-requires : tie.Need-stage-block-requires invariant-loop decreases-loop
+stage-block-requires : tie.Need-stage_block-m-requires invariant-loop decreases-loop
 stage-block-requires c κs =
     let m = c.before.before.before.before in
-    let g = m.before.loop.invariant in
+    let g = c.loop-k.invariant in
     let s = begun m.before.before in
-    (omega (arith, m.loop-test.true, g.deep), g.sized.delays, g.sized.held, omega (arith, g.room, g.fewer, g.same), omega (arith, g.fewer, s.pre))
+    (omega (arith, c.loop-k-test.true, g.deep), g.sized.delays, g.sized.held, omega (arith, g.room, g.fewer, g.same), omega (arith, g.fewer, s.requires))
 
-add-k : tie.Need-overflow-add-k invariant-loop decreases-loop
+add-k : tie.Need-overflow_add-k invariant-loop decreases-loop
 add-k c = search rules
 
-loop-less : tie.Need-loop-smaller invariant-loop decreases-loop
+loop-less : tie.Need-loop-k-smaller invariant-loop decreases-loop
 loop-less c = search rules
 
-loop-again : tie.Need-loop-preserved invariant-loop decreases-loop
+loop-again : tie.Need-loop-k-preserved invariant-loop decreases-loop
 loop-again c =
     let m = c.before.before.before.before.before.before.before in
-    let l = m.before.loop in
+    let l = c.loop-k in
     let a = (begun m.before.before).args in
-    let o = c.before.before.stage-block in
-    going_next a.depth a.n _ a.delays.now a.held.now a.counts.now a.span.now _ _ _ _ _ _ l.invariant m.loop-test.true _ _ _ _ _ o.ensures.0 o.ensures.1.0 o.ensures.1.1
+    let o = c.stage_block-m in
+    going_next a.depth a.n _ a.delays.now a.held.now a.counts.now a.span.now _ _ _ _ _ _ l.invariant c.loop-k-test.true _ _ _ _ _ o.ensures.0 o.ensures.1.0 o.ensures.1.1
 
-same_length : tie.Need-same-length invariant-loop decreases-loop
-same_length c = c.before.loop.invariant.same
+same_length : tie.Need-shape_of-span invariant-loop decreases-loop
+same_length c = c.loop-k.invariant.same
 
 returns : tie.Need-returns invariant-loop decreases-loop
 returns c =
-    let l = c.before.loop in
+    let l = c.loop-k in
     let a = (begun c.before.before).args in
-    going_end a.depth a.n _ a.delays.now a.held.now a.counts.now a.span.now _ _ _ _ _ _ l.invariant c.loop-test.false
+    going_end a.depth a.n _ a.delays.now a.held.now a.counts.now a.span.now _ _ _ _ _ _ l.invariant c.loop-k-test.false
 
-pub stages-block-spec : {M : Type 1} → statement M
-stages-block-spec =
+pub stages_block_spec : {M : Type 1} → statement M
+stages_block_spec =
     tie.close
     (tie.spec
     invariant-loop

@@ -6,5 +6,5 @@ use Rattle.half_band.proofs.hbf_taps.hbf_tap_table.Tie as tie
 returns : tie.Need-returns
 returns c = taps_printed
 
-pub hbf-tap-table-spec : {M : Type 1} → statement M
-hbf-tap-table-spec = tie.close (tie.spec returns)
+pub hbf_tap_table_spec : {M : Type 1} → statement M
+hbf_tap_table_spec = tie.close (tie.spec returns)

@@ -5,17 +5,21 @@ use borrow.Author.Rules.{rules}
 use Rattle.half_band.proofs.response_length.at_depth.Statement.{statement}
 use Rattle.half_band.proofs.response_length.at_depth.Tie as tie
 
-returns : tie.Need-returns
-returns c = chosen _ _ _ (lt-ltb 5 _ c.if1.true)
+returns : tie.Need-returns-then-depth-gt-MOST_STAGES
+returns c = chosen _ _ _ (lt-ltb 5 _ c.if-depth-gt-MOST_STAGES.true)
 
-mul-t6 : tie.Need-overflow-mul-t6
+mul-t6 : tie.Need-offset_bounds-lengths-depth
 mul-t6 c = search rules
 
-array-read-t9 : tie.Need-array-read-t9
+array-read-t9 : tie.Need-bounds-lengths-depth
 array-read-t9 c = search rules
 
-returns-2 : tie.Need-returns-2
-returns-2 c = other _ _ _ (le-ltb 5 _ c.if1.false)
+returns-2 : tie.Need-returns
+returns-2 c = other _ _ _ (le-ltb 5 _ c.if-depth-gt-MOST_STAGES.false)
 
-pub at-depth-spec : {M : Type 1} → statement M
-at-depth-spec = tie.close (tie.spec returns mul-t6 array-read-t9 returns-2)
+pub at_depth_spec : {M : Type 1} → statement M
+at_depth_spec = tie.close (tie.spec
+    returns
+    mul-t6
+    array-read-t9
+    returns-2)

@@ -6,46 +6,53 @@ use Rattle.integer.proofs.cic_interpolator.sample_at.Statement.{statement}
 use Rattle.integer.proofs.cic_interpolator.sample_at.Tie as tie
 
 -- the numbers are valid
-ok : (c : tie.Else1) → valid_at c.before.before.args.stages c.before.before.args.r ≡ true
-ok c = sym c.before.valid.ensures ∙ not-false _ c.if1.false
+ok : (c : tie.Else-not-valid) → valid_at c.args.stages c.args.r ≡ true
+ok c = sym c.valid.ensures ∙ not-false _ c.if-not-valid.false-raw
 
 valid-requires : tie.Need-valid-requires
 valid-requires c κs = search rules
 
-returns : tie.Need-returns
+returns : tie.Need-returns-then-not-valid
 unfolding sample sample_span
 returns c =
-    let v : valid_at c.before.before.args.stages c.before.before.args.r ≡ false = sym c.before.valid.ensures ∙ not-true _ c.if1.true in
+    let v : valid_at c.args.stages c.args.r ≡ false = sym c.valid.ensures ∙ not-true _ c.if-not-valid.true-raw in
     (rw v, rw v)
 
-returns-2 : tie.Need-returns-2
+returns-2 : tie.Need-returns-then-out_buf-r
 unfolding sample sample_span
 returns-2 c =
-    let s = lt-leb _ _ c.if2.true in
+    let s = lt-leb _ _ c.if-out_buf-r.true in
     (rw (ok c.before, s), rw (ok c.before, s))
 
-comb-requires : tie.Need-comb-requires
+comb-requires : tie.Need-comb-val-requires
 comb-requires c κs = search rules
 
 fill-requires : tie.Need-fill-requires
 fill-requires c κs = search rules
 
-same_length : tie.Need-same-length
+same_length : tie.Need-shape_of-out_buf
 same_length c = search rules
 
-returns-3 : tie.Need-returns-3
+returns-3 : tie.Need-returns
 unfolding sample sample_span
 returns-3 c =
-    let p = c.before.before.before.before.comb in
-    let f : SFits w32 p.result = record { sfits = p.type-inv } in
+    let p = c.comb-val in
+    let f : SFits w32 p.result = record { sfits = p.type_inv } in
     let v = ok c.before.before.before.before.before.before.before in
-    let s = le-leb _ _ c.before.before.before.before.before.before.if2.false in
-    let x = to_z-of_z c.before.before.before.before.before.before.before.before.before.ranges.input in (
-      rw (v, s, c.before.fill.ensures.0, to_z-of_z f, p.ensures.1, p.ensures.0, x),
-      rw (v, s, c.before.fill.ensures.1, to_z-of_z f, p.ensures.1, x),
+    let s = le-leb _ _ c.if-out_buf-r.false in
+    let x = to_z-of_z c.ranges.input in (
+      rw (v, s, c.fill.ensures.0, to_z-of_z f, p.ensures.1, p.ensures.0, x),
+      rw (v, s, c.fill.ensures.1, to_z-of_z f, p.ensures.1, x),
     )
 
-pub sample-at-spec : {M : Type 1} → statement M
-sample-at-spec =
+pub sample_at_spec : {M : Type 1} → statement M
+sample_at_spec =
     tie.close
-    (tie.spec valid-requires returns returns-2 comb-requires fill-requires same_length returns-3)
+    (tie.spec
+    valid-requires
+    returns
+    returns-2
+    comb-requires
+    fill-requires
+    same_length
+    returns-3)

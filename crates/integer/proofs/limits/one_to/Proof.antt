@@ -4,11 +4,11 @@ use borrow.Author.Tests.{lt-leb}
 use Rattle.integer.proofs.limits.one_to.Statement.{statement}
 use Rattle.integer.proofs.limits.one_to.Tie as tie
 
-returns : tie.Need-returns
-returns c = rw (lt-leb _ _ c.if1.true)
+returns : tie.Need-returns-then-x-lt1
+returns c = rw (lt-leb _ _ c.if-x-lt1.true)
 
-returns-2 : tie.Need-returns-2
-returns-2 c = rw (le-leb _ _ c.if1.false)
+returns-2 : tie.Need-returns
+returns-2 c = rw (le-leb _ _ c.if-x-lt1.false)
 
-pub one-to-spec : {M : Type 1} → statement M
-one-to-spec = tie.close (tie.spec returns returns-2)
+pub one_to_spec : {M : Type 1} → statement M
+one_to_spec = tie.close (tie.spec returns returns-2)

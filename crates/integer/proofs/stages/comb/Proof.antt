@@ -5,73 +5,73 @@ use Rattle.integer.proofs.Row.{Left, starts, goes_on, ends, ends_all}
 use Rattle.integer.proofs.stages.comb.Statement.{statement}
 use Rattle.integer.proofs.stages.comb.Tie as tie
 
-abbrev invariant-loop : tie.invariant-loop
+abbrev invariant-loop : tie.invariant-loop-i
 invariant-loop stages combs₀ input val₀ i₀ combs val i = Left kept difference32 (pos 0) stages combs₀ (to_z w32 val₀) combs (to_z w32 val) i × (i ≤ 8)
 
-abbrev decreases-loop : tie.decreases-loop
+abbrev decreases-loop : tie.decreases-loop-i
 decreases-loop stages combs₀ input val₀ i₀ combs val i = 8 - i
 
 eight-requires : tie.Need-eight-requires invariant-loop decreases-loop
 eight-requires c κs = tt
 
-loop-holds : tie.Need-loop-init invariant-loop decreases-loop
+loop-holds : tie.Need-loop-i-init invariant-loop decreases-loop
 loop-holds c = (starts kept difference32 (pos 0) _ _ _, omega arith)
 
-mul-wrapping-sub-i32 : tie.Need-overflow-mul-wrapping-sub-i32 invariant-loop decreases-loop
+mul-wrapping-sub-i32 : tie.Need-offset_bounds-combs-i invariant-loop decreases-loop
 mul-wrapping-sub-i32 c = search rules
 
-element-copy-out-wrapping-sub-i32 : tie.Need-element-copy-out-wrapping-sub-i32 invariant-loop decreases-loop
+element-copy-out-wrapping-sub-i32 : tie.Need-bounds-combs-i invariant-loop decreases-loop
 element-copy-out-wrapping-sub-i32 c = search rules
 
-wrapping-sub-i32-requires : tie.Need-wrapping-sub-i32-requires invariant-loop decreases-loop
+wrapping-sub-i32-requires : tie.Need-wrapping_sub_i32-diff-requires invariant-loop decreases-loop
 wrapping-sub-i32-requires c κs = search rules
 
-mul_val : tie.Need-overflow-mul-val invariant-loop decreases-loop
+mul_val : tie.Need-offset_bounds-combs-i-in-loop-i invariant-loop decreases-loop
 mul_val c = search rules
 
-element-set-from-val : tie.Need-element-set-from-val invariant-loop decreases-loop
+element-set-from-val : tie.Need-bounds-combs-i-in-loop-i invariant-loop decreases-loop
 element-set-from-val c = search rules
 
-add-i : tie.Need-overflow-add-i invariant-loop decreases-loop
+add-i : tie.Need-overflow_add-i invariant-loop decreases-loop
 add-i c = search rules
 
-loop-less : tie.Need-loop-smaller invariant-loop decreases-loop
+loop-less : tie.Need-loop-i-smaller invariant-loop decreases-loop
 loop-less c = search rules
 
 -- what the call gives, read back from its bits
-handed_on : (c : tie.After-wrapping-sub-i32 invariant-loop decreases-loop) →
-    let v = c.before.before.before.before.loop in
-    to_z w32 (of_z w32 c.wrapping-sub-i32.result) ≡ difference32 (get_or v.combs v.i (pos 0)) (to_z w32 v.val)
+handed_on : (c : tie.After-wrapping_sub_i32-diff invariant-loop decreases-loop) →
+    let v = c.loop-i in
+    to_z w32 (of_z w32 c.wrapping_sub_i32-diff.result) ≡ difference32 (get_or v.combs v.i (pos 0)) (to_z w32 v.val-bits)
 handed_on c =
-    let v = c.before.before.before.before.loop in
-    to_z-of_z {w = w32} {z = c.wrapping-sub-i32.result} (record { sfits = c.wrapping-sub-i32.type-inv })
-    ∙ c.wrapping-sub-i32.ensures
-    ∙ rw (to_z-of_z {w = w32} {z = get_or v.combs v.i (pos 0)} (record { sfits = c.before.wrapping-sub-i32-arg.given }))
+    let v = c.loop-i in
+    to_z-of_z {w = w32} {z = c.wrapping_sub_i32-diff.result} (record { sfits = c.wrapping_sub_i32-diff.type_inv })
+    ∙ c.wrapping_sub_i32-diff.ensures
+    ∙ rw (to_z-of_z {w = w32} {z = get_or v.combs v.i (pos 0)} (record { sfits = c.wrapping_sub_i32-arg-1.given }))
 
-loop-again : tie.Need-loop-preserved invariant-loop decreases-loop
+loop-again : tie.Need-loop-i-preserved invariant-loop decreases-loop
 loop-again c =
-    let v = c.before.before.before.before.loop in
-    let s = c.before.before.before.before.before.before.before.args.combs.now in
-    let g : v.i < length s = omega (arith, c.before.before.before.before.before.eight.ensures, c.before.before.before.loop-test.true) in
-    (rw (handed_on c) (goes_on kept difference32 (pos 0) _ s _ v.combs (to_z w32 v.val) v.i (ltb-true _ _ c.before.before.if1.true) g v.invariant.0), omega arith)
+    let v = c.loop-i in
+    let s = c.args.combs.now in
+    let g : v.i < length s = omega (arith, c.eight.ensures, c.loop-i-test.true) in
+    (rw (handed_on c) (goes_on kept difference32 (pos 0) _ s _ v.combs (to_z w32 v.val-bits) v.i (ltb-true _ _ c.if-i-stages.true-raw) g v.invariant.0), omega arith)
 
-returns : tie.Need-returns invariant-loop decreases-loop
+returns : tie.Need-returns-else-i-stages invariant-loop decreases-loop
 unfolding combed
 returns c =
-    let v = c.before.before.loop in
-    rw (to_z-of_z c.before.before.before.before.before.ranges.input) at
-    (ends kept difference32 (pos 0) _ _ _ v.combs (to_z w32 v.val) v.i (ltb-false _ _ c.if1.false) v.invariant.0)
+    let v = c.loop-i in
+    rw (to_z-of_z c.ranges.input) at
+    (ends kept difference32 (pos 0) _ _ _ v.combs (to_z w32 v.val-bits) v.i (ltb-false _ _ c.if-i-stages.false-raw) v.invariant.0)
 
-returns-2 : tie.Need-returns-2 invariant-loop decreases-loop
+returns-2 : tie.Need-returns-after-loop-i invariant-loop decreases-loop
 unfolding combed
 returns-2 c =
-    let v = c.before.loop in
-    let l : length c.before.before.before.before.args.combs.now ≡ 8 = c.before.before.eight.ensures in
-    rw (to_z-of_z c.before.before.before.before.ranges.input) at
-    (ends_all kept difference32 (pos 0) _ _ _ v.combs (to_z w32 v.val) v.i (omega (arith, l, c.loop-test.false)) v.invariant.0)
+    let v = c.loop-i in
+    let l : length c.args.combs.now ≡ 8 = c.eight.ensures in
+    rw (to_z-of_z c.ranges.input) at
+    (ends_all kept difference32 (pos 0) _ _ _ v.combs (to_z w32 v.val-bits) v.i (omega (arith, l, c.loop-i-test.false)) v.invariant.0)
 
-pub comb-spec : {M : Type 1} → statement M
-comb-spec =
+pub comb_spec : {M : Type 1} → statement M
+comb_spec =
     tie.close
     (tie.spec
     invariant-loop

@@ -4,7 +4,7 @@ use mir.Facts.{sfits_widen}
 use Rattle.integer.proofs.wrapping.wide.Statement.{statement}
 use Rattle.integer.proofs.wrapping.wide.Tie as tie
 
-cast-result : tie.Need-overflow-cast-result
+cast-result : tie.Need-overflow_cast-result
 cast-result c = rw (to_z-of_z c.ranges.x) (sfits_widen tt c.ranges.x)
 
 returns : tie.Need-returns

@@ -23,24 +23,24 @@ use Rattle.line.proofs.Emitting.{Drained, drained}
 use Rattle.line.proofs.feed.feed_on.Statement.{statement}
 use Rattle.line.proofs.feed.feed_on.Tie as tie
 
-abbrev invariant-loop : tie.invariant-loop
+abbrev invariant-loop : tie.invariant-loop-taken
 invariant-loop f integrators₀ combs₀ neighbours₀ taps fir-delay₀ delays₀ held₀ counts₀ delay₀ prototype samples out₀ n₀ taken₀ written₀ integrators combs neighbours fir-delay delays held counts delay out n taken written =
     Midway line 64 Good line_lawful (together kind.Integrators f n₀ integrators₀ combs₀ neighbours₀ taps fir-delay₀ delays₀ held₀ counts₀ delay₀ prototype) samples out₀ out (together kind.Integrators f n integrators combs neighbours taps fir-delay delays held counts delay prototype) taken written
 
-abbrev decreases-loop : tie.decreases-loop
+abbrev decreases-loop : tie.decreases-loop-taken
 decreases-loop f integrators₀ combs₀ neighbours₀ taps fir-delay₀ delays₀ held₀ counts₀ delay₀ prototype samples out₀ n₀ taken₀ written₀ integrators combs neighbours fir-delay delays held counts delay out n taken written = length samples - taken + (length out₀ - written)
 
 -- the places that the facts below come from: each path is counted once
-abbrev begun : tie.At-loop invariant-loop decreases-loop → tie.Start invariant-loop decreases-loop
+abbrev begun : tie.At-loop-taken invariant-loop decreases-loop → tie.Start invariant-loop decreases-loop
 begun c = c.before.before
 
-abbrev entered : tie.After-write-due invariant-loop decreases-loop → tie.At-loop invariant-loop decreases-loop
-entered c = c.before.before.before
+abbrev entered : tie.After-write_due-due invariant-loop decreases-loop → tie.At-loop-taken invariant-loop decreases-loop
+entered c = c.before.before
 
-abbrev emptied : tie.After-at-once invariant-loop decreases-loop → tie.After-write-due invariant-loop decreases-loop
+abbrev emptied : tie.After-at_once-m invariant-loop decreases-loop → tie.After-write_due-due invariant-loop decreases-loop
 emptied c = c.before.before.before.before
 
-abbrev sped : tie.After-take-on invariant-loop decreases-loop → tie.After-at-once invariant-loop decreases-loop
+abbrev sped : tie.After-take_on-on invariant-loop decreases-loop → tie.After-at_once-m invariant-loop decreases-loop
 sped c = c.before.before.before.before.before.before.before.before.before.before
 
 -- the line as it was lent
@@ -50,88 +50,88 @@ lent s =
     together kind.Integrators a.f a.s a.integrators.now a.combs.now a.neighbours.now a.taps.now a.fir_delay.now a.delays.now a.held.now a.counts.now a.delay.now a.prototype.now
 
 -- the numbers and the span after the outputs that were due, and the invariant there
-abbrev numbers : tie.After-write-due invariant-loop decreases-loop → Numbers
-numbers c = let n = (entered c).loop.n in record { sample_counter = n.sample_counter; wait = n.wait; mu = c.write-due.result.mu; cuts = n.cuts }
+abbrev numbers : tie.After-write_due-due invariant-loop decreases-loop → Numbers
+numbers c = let n = (entered c).loop-taken.n in record { sample_counter = n.sample_counter; wait = n.wait; mu = c.write_due-due.result.mu; cuts = n.cuts }
 
-abbrev spanned : tie.After-write-due invariant-loop decreases-loop → List Float
-spanned c = c.write-due.new.1.1.1.1.1.1.1.0
+abbrev spanned : tie.After-write_due-due invariant-loop decreases-loop → List Float
+spanned c = c.write_due-due.new.dst
 
-due : (c : tie.After-write-due invariant-loop decreases-loop) →
+due : (c : tie.After-write_due-due invariant-loop decreases-loop) →
     let a = (begun (entered c)).args in
-    let v = (entered c).loop in
-    Drained (lent (begun (entered c))) a.samples.now a.out.now kind.Integrators a.f v.n v.integrators v.combs v.neighbours a.taps.now v.fir_delay v.delays v.held v.counts v.delay a.prototype.now v.taken v.written (told_due c.write-due.result (spanned c))
+    let v = (entered c).loop-taken in
+    Drained (lent (begun (entered c))) a.samples.now a.out.now kind.Integrators a.f v.n v.integrators v.combs v.neighbours a.taps.now v.fir_delay v.delays v.held v.counts v.delay a.prototype.now v.taken v.written (told_due c.write_due-due.result (spanned c))
 due c =
     let a = (begun (entered c)).args in
-    let v = (entered c).loop in
-    drained (lent (begun (entered c))) a.samples.now a.out.now kind.Integrators a.f v.n v.integrators v.combs v.neighbours a.taps.now v.fir_delay v.delays v.held v.counts v.delay a.prototype.now v.taken v.written v.out v.inv (told_due c.write-due.result (spanned c)) c.write-due.ensures
+    let v = (entered c).loop-taken in
+    drained (lent (begun (entered c))) a.samples.now a.out.now kind.Integrators a.f v.n v.integrators v.combs v.neighbours a.taps.now v.fir_delay v.delays v.held v.counts v.delay a.prototype.now v.taken v.written v.out v.invariant (told_due c.write_due-due.result (spanned c)) c.write_due-due.ensures
 
-below : (c : tie.After-write-due invariant-loop decreases-loop) → (entered c).loop.n.sample_counter < (begun (entered c)).args.f.r
+below : (c : tie.After-write_due-due invariant-loop decreases-loop) → (entered c).loop-taken.n.sample_counter < (begun (entered c)).args.f.r
 below c = counter_below _ (due c).mid.good
 
-count : (c : tie.After-at-once invariant-loop decreases-loop) →
+count : (c : tie.After-at_once-m invariant-loop decreases-loop) →
     let d = emptied c in
     let a = (begun (entered d)).args in
-    Taken a.f (numbers d) (ltb d.write-due.result.written (length (spanned d))) (length a.samples.now - (entered d).loop.taken) c.at_once.result
+    Taken a.f (numbers d) (ltb d.write_due-due.result.written (length (spanned d))) (length a.samples.now - (entered d).loop-taken.taken) c.at_once-m.result
 count c =
     let d = emptied c in
     let a = (begun (entered d)).args in
-    taken a.f (numbers d) (ltb d.write-due.result.written (length (spanned d))) (length a.samples.now - (entered d).loop.taken) c.at_once.result (below d) c.at_once.ensures.0
+    taken a.f (numbers d) (ltb d.write_due-due.result.written (length (spanned d))) (length a.samples.now - (entered d).loop-taken.taken) c.at_once-m.result (below d) c.at_once-m.ensures.0
 
 -- the line put together after the samples taken at once, and the invariant there
-abbrev sped_line : (c : tie.After-at-once invariant-loop decreases-loop) → Line
+abbrev sped_line : (c : tie.After-at_once-m invariant-loop decreases-loop) → Line
 sped_line c =
     let a = (begun (entered (emptied c))).args in
-    let v = (entered (emptied c)).loop in
-    together kind.Integrators a.f (counted (numbers (emptied c)) c.at_once.result) c.at_once.new.1.1.0 v.combs v.neighbours a.taps.now v.fir_delay v.delays v.held v.counts v.delay a.prototype.now
+    let v = (entered (emptied c)).loop-taken in
+    together kind.Integrators a.f (counted (numbers (emptied c)) c.at_once-m.result) c.at_once-m.new.integrators v.combs v.neighbours a.taps.now v.fir_delay v.delays v.held v.counts v.delay a.prototype.now
 
-mid : (c : tie.After-at-once invariant-loop decreases-loop) →
+mid : (c : tie.After-at_once-m invariant-loop decreases-loop) →
     let d = emptied c in
     let a = (begun (entered d)).args in
-    Midway line 64 Good line_lawful (lent (begun (entered d))) a.samples.now a.out.now (spanned d) (sped_line c) ((entered d).loop.taken + c.at_once.result) d.write-due.result.written
+    Midway line 64 Good line_lawful (lent (begun (entered d))) a.samples.now a.out.now (spanned d) (sped_line c) ((entered d).loop-taken.taken + c.at_once-m.result) d.write_due-due.result.written
 mid c =
     let d = emptied c in
     let a = (begun (entered d)).args in
-    let v = (entered d).loop in
-    after_at_once (lent (begun (entered d))) a.samples.now a.out.now (spanned d) a.f (numbers d) v.integrators v.combs v.neighbours a.taps.now v.fir_delay v.delays v.held v.counts v.delay a.prototype.now v.taken d.write-due.result.written (due d).mid
-    c.at_once.result c.at_once.new.1.1.0 (count c) c.at_once.ensures.1
+    let v = (entered d).loop-taken in
+    after_at_once (lent (begun (entered d))) a.samples.now a.out.now (spanned d) a.f (numbers d) v.integrators v.combs v.neighbours a.taps.now v.fir_delay v.delays v.held v.counts v.delay a.prototype.now v.taken d.write_due-due.result.written (due d).mid
+    c.at_once-m.result c.at_once-m.new.integrators (count c) c.at_once-m.ensures.1
 
 -- what a step did, and the line put together after it
-abbrev stepped : (c : tie.After-take-on invariant-loop decreases-loop) → Stepped Line Float
+abbrev stepped : (c : tie.After-take_on-on invariant-loop decreases-loop) → Stepped Line Float
 stepped c =
     let a = (begun (entered (emptied (sped c)))).args in
-    let t = c.take_on.new in
-    stepped_at kind.Integrators a.f (taken_of c.take_on.result.step) c.take_on.result.numbers t.1.1.1.0 t.1.1.1.1.0 t.1.1.1.1.1.0 a.taps.now t.1.1.1.1.1.1.1.0 t.1.1.1.1.1.1.1.1.0 t.1.1.1.1.1.1.1.1.1.0 t.1.1.1.1.1.1.1.1.1.1.0 t.1.1.1.1.1.1.1.1.1.1.1.0 a.prototype.now
+    let t = c.take_on-on.new in
+    stepped_at kind.Integrators a.f (taken_of c.take_on-on.result.step) c.take_on-on.result.numbers t.integrators t.combs t.neighbours a.taps.now t.fir_delay t.delays t.held t.counts t.delay a.prototype.now
 
-module _ (k : tie.After-take-on invariant-loop decreases-loop) where
+module _ (k : tie.After-take_on-on invariant-loop decreases-loop) where
   abbrev arg : tie.Start invariant-loop decreases-loop
   arg = begun (entered (emptied (sped k)))
 
   abbrev at : ℕ
-  at = (entered (emptied (sped k))).loop.taken + (sped k).at_once.result
+  at = (entered (emptied (sped k))).loop-taken.taken + (sped k).at_once-m.result
 
   abbrev was : ℕ
-  was = (emptied (sped k)).write-due.result.written
+  was = (emptied (sped k)).write_due-due.result.written
 
   abbrev span : List Float
   span = spanned (emptied (sped k))
 
   -- no place was given back
-  more : (entered (emptied (sped k))).loop.written ≤ was
+  more : (entered (emptied (sped k))).loop-taken.written ≤ was
   more = (due (emptied (sped k))).more
 
   abbrev Mid : List Float → ℕ → ℕ → Type 0
   Mid out t w = Midway line 64 Good line_lawful (lent arg) arg.args.samples.now arg.args.out.now out (stepped k).line t w
 
   took : (stepped k).event ≡ F.took → (at < length arg.args.samples.now) × Mid span (at + 1) was
-  took e = after_took line 64 Good line_lawful (lent arg) arg.args.samples.now arg.args.out.now span (sped_line (sped k)) at was (mid (sped k)) (stepped k) (k.take_on.ensures arg.args.prototype.now) e
+  took e = after_took line 64 Good line_lawful (lent arg) arg.args.samples.now arg.args.out.now span (sped_line (sped k)) at was (mid (sped k)) (stepped k) (k.take_on-on.ensures arg.args.prototype.now) e
 
   both : (y : Float) → (stepped k).event ≡ F.both y → (at < length arg.args.samples.now) × (was < length arg.args.out.now) × Mid (set span was y) (at + 1) (was + 1)
-  both y e = after_both line 64 Good line_lawful (lent arg) arg.args.samples.now arg.args.out.now span (sped_line (sped k)) at was (mid (sped k)) (stepped k) (k.take_on.ensures arg.args.prototype.now) y e
+  both y e = after_both line 64 Good line_lawful (lent arg) arg.args.samples.now arg.args.out.now span (sped_line (sped k)) at was (mid (sped k)) (stepped k) (k.take_on-on.ensures arg.args.prototype.now) y e
 
   stopped : (stepped k).event ≡ F.stopped → RanTo (lent arg) arg.args.samples.now arg.args.out.now span at was (stepped k).line
   unfolding fed_line
   stopped v =
-      let e = after_stopped line 64 Good line_lawful (lent arg) arg.args.samples.now arg.args.out.now span (sped_line (sped k)) at was (mid (sped k)) (stepped k) (k.take_on.ensures arg.args.prototype.now) v in
+      let e = after_stopped line 64 Good line_lawful (lent arg) arg.args.samples.now arg.args.out.now span (sped_line (sped k)) at was (mid (sped k)) (stepped k) (k.take_on-on.ensures arg.args.prototype.now) v in
       let q = e.is_fed in
       record {
         took = sym (ap (λ (f : F.Fed Line Float). f.taken) q);
@@ -140,68 +140,68 @@ module _ (k : tie.After-take-on invariant-loop decreases-loop) where
         span = e.span ∙ sym (ap (λ (f : F.Fed Line Float). f.written ++ drop (length f.written) arg.args.out.now) q);
       }
 
-loop-holds : tie.Need-loop-init invariant-loop decreases-loop
-loop-holds c = start line 64 Good line_lawful _ _ _ c.before.requires.1
+loop-holds : tie.Need-loop-taken-init invariant-loop decreases-loop
+loop-holds c = start line 64 Good line_lawful _ _ _ c.requires.1
 
-write-due-requires : tie.Need-write-due-requires invariant-loop decreases-loop
+write-due-requires : tie.Need-write_due-due-requires invariant-loop decreases-loop
 write-due-requires c κs = search rules
 
-at-once-requires : tie.Need-at-once-requires invariant-loop decreases-loop
+at-once-requires : tie.Need-at_once-m-requires invariant-loop decreases-loop
 at-once-requires c κs = let d = c.before.before.before in (below d, (due d).mid.some_taken, (due d).quiet)
 
-add-n : tie.Need-overflow-add-n invariant-loop decreases-loop
-add-n c = omega (arith, (count c.before).short, (begun (entered (emptied c.before))).good)
+add-n : tie.Need-overflow_add-n invariant-loop decreases-loop
+add-n c = omega (arith, (count c.before).short, (begun (entered (emptied c.before))).well_formed)
 
-add-taken : tie.Need-overflow-add-taken invariant-loop decreases-loop
-add-taken c = omega (arith, (mid c.before).some_taken, (begun (entered (emptied c.before))).good)
+add-taken : tie.Need-overflow_add-taken invariant-loop decreases-loop
+add-taken c = omega (arith, (mid c.before).some_taken, (begun (entered (emptied c.before))).well_formed)
 
-take-on-requires : tie.Need-take-on-requires invariant-loop decreases-loop
-take-on-requires c κs = let k = c.before.before.before.before.before.before.before.before.before in ((begun (entered (emptied k))).pre.0, (due (emptied k)).quiet)
+take-on-requires : tie.Need-take_on-on-requires invariant-loop decreases-loop
+take-on-requires c κs = let k = c.before.before.before.before.before.before.before.before.before in ((begun (entered (emptied k))).requires.0, (due (emptied k)).quiet)
 
-enum_told : tie.Need-enum-told invariant-loop decreases-loop
+enum_told : tie.Need-enum_told-1 invariant-loop decreases-loop
 enum_told c = search rules
 
-add-taken-2 : tie.Need-overflow-add-taken-2 invariant-loop decreases-loop
-add-taken-2 c = omega (arith, (took c.before.before.before (ap taken_of c.enum_told.given.1)).0, (begun (entered (emptied (sped c.before.before.before)))).good)
+add-taken-2 : tie.Need-overflow_add-taken-in-Took invariant-loop decreases-loop
+add-taken-2 c = omega (arith, (took c.before.before (ap taken_of c.in-Took.is)).0, (begun (entered (emptied (sped c.before.before)))).well_formed)
 
-loop-less : tie.Need-loop-smaller invariant-loop decreases-loop
-loop-less c = omega (arith, more c.before.before.before, (took c.before.before.before (ap taken_of c.enum_told.given.1)).0)
+loop-less : tie.Need-loop-taken-smaller-in-Took invariant-loop decreases-loop
+loop-less c = omega (arith, more c.before.before, (took c.before.before (ap taken_of c.in-Took.is)).0)
 
-loop-again : tie.Need-loop-preserved invariant-loop decreases-loop
-loop-again c = (took c.before.before.before (ap taken_of c.enum_told.given.1)).1
+loop-again : tie.Need-loop-taken-preserved-in-Took invariant-loop decreases-loop
+loop-again c = (took c.before.before (ap taken_of c.in-Took.is)).1
 
-enum-known-step : tie.Need-enum-known-step invariant-loop decreases-loop
+enum-known-step : tie.Need-enum_known-step invariant-loop decreases-loop
 enum-known-step c = search rules
 
-mul-out : tie.Need-overflow-mul-out invariant-loop decreases-loop
-mul-out c = omega (arith, (both c.before.before.before.before _ (ap taken_of c.before.step.given.1)).1, (begun (entered (emptied (sped c.before.before.before.before)))).good)
+mul-out : tie.Need-offset_bounds-out-written invariant-loop decreases-loop
+mul-out c = omega (arith, (both c.before.before _ (ap taken_of c.in-TookAndWrote.is)).1, (begun (entered (emptied (sped c.before.before)))).well_formed)
 
-slice-write-out : tie.Need-slice-write-out invariant-loop decreases-loop
-slice-write-out c = omega (arith, (both c.before.before.before.before _ (ap taken_of c.before.step.given.1)).1, (mid (sped c.before.before.before.before)).same)
+slice-write-out : tie.Need-bounds-out-written invariant-loop decreases-loop
+slice-write-out c = omega (arith, (both c.before.before _ (ap taken_of c.in-TookAndWrote.is)).1, (mid (sped c.before.before)).same)
 
-add-taken-3 : tie.Need-overflow-add-taken-3 invariant-loop decreases-loop
-add-taken-3 c = omega (arith, (both c.before.before.before.before _ (ap taken_of c.before.step.given.1)).0, (begun (entered (emptied (sped c.before.before.before.before)))).good)
+add-taken-3 : tie.Need-overflow_add-taken-in-TookAndWrote invariant-loop decreases-loop
+add-taken-3 c = omega (arith, (both c.before.before _ (ap taken_of c.in-TookAndWrote.is)).0, (begun (entered (emptied (sped c.before.before)))).well_formed)
 
-add-written : tie.Need-overflow-add-written invariant-loop decreases-loop
-add-written c = omega (arith, (both c.before.before.before.before _ (ap taken_of c.before.step.given.1)).1, (begun (entered (emptied (sped c.before.before.before.before)))).good)
+add-written : tie.Need-overflow_add-written invariant-loop decreases-loop
+add-written c = omega (arith, (both c.before.before _ (ap taken_of c.in-TookAndWrote.is)).1, (begun (entered (emptied (sped c.before.before)))).well_formed)
 
-loop-less-2 : tie.Need-loop-smaller-2 invariant-loop decreases-loop
-loop-less-2 c = omega (arith, more c.before.before.before.before, (both c.before.before.before.before _ (ap taken_of c.before.step.given.1)).0, (both c.before.before.before.before _ (ap taken_of c.before.step.given.1)).1)
+loop-less-2 : tie.Need-loop-taken-smaller invariant-loop decreases-loop
+loop-less-2 c = omega (arith, more c.before.before, (both c.before.before _ (ap taken_of c.in-TookAndWrote.is)).0, (both c.before.before _ (ap taken_of c.in-TookAndWrote.is)).1)
 
-loop-again-2 : tie.Need-loop-preserved-2 invariant-loop decreases-loop
-loop-again-2 c = (both c.before.before.before.before _ (ap taken_of c.before.step.given.1)).2
+loop-again-2 : tie.Need-loop-taken-preserved invariant-loop decreases-loop
+loop-again-2 c = (both c.before.before _ (ap taken_of c.in-TookAndWrote.is)).2
 
-enum-told-2 : tie.Need-enum-told-2 invariant-loop decreases-loop
+enum-told-2 : tie.Need-enum_told-in-Stopped invariant-loop decreases-loop
 enum-told-2 c = search rules
 
-same_length : tie.Need-same-length invariant-loop decreases-loop
-same_length c = (mid (sped c.before.before.before)).same
+same_length : tie.Need-shape_of-out-in-Stopped invariant-loop decreases-loop
+same_length c = (mid (sped c.before.before)).same
 
-returns : tie.Need-returns invariant-loop decreases-loop
-returns c = stopped c.before.before.before (ap taken_of c.enum-told2.given.1)
+returns : tie.Need-returns-in-Stopped invariant-loop decreases-loop
+returns c = stopped c.before.before (ap taken_of c.in-Stopped.is)
 
-pub feed-on-spec : {M : Type 1} → statement M
-feed-on-spec =
+pub feed_on_spec : {M : Type 1} → statement M
+feed_on_spec =
     tie.close
     (tie.spec
     invariant-loop

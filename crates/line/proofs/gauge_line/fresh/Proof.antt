@@ -1,6 +1,5 @@
 -- `fresh` meets its contract: each part's opening is not refused, so its state is the fresh one.
-use mathlib.Core.Path.{◌≡◌, refl, sym, ap, ◌∙◌}
-use mathlib.Core.Bool.{true, false}
+use mathlib.Core.Path.{ap, ◌∙◌}
 use borrow.Author.Rules.{rules}
 use Rattle.refusal.specs.Outcome.{Opened}
 use Rattle.line.specs.Line.{fresh}
@@ -21,22 +20,27 @@ new-requires-2 c κs = search rules
 new-requires-3 : tie.Need-new-requires-3
 new-requires-3 c κs = search rules
 
-resampler-of-requires : tie.Need-resampler-of-requires
+resampler-of-requires : tie.Need-resampler_of-resampler-requires
 resampler-of-requires c κs = search rules
 
 returns : tie.Need-returns
 unfolding fresh
 returns c =
-    let a = c.before.before.before.before.before.before.before.before.args in
+    let a = c.args in
     let o : Opening = record { settings = a.s; taps = a.taps.now; prototype = a.prototype.now } in
-    let ok : Accepted o = accepted o c.before.before.before.before.before.before.before.before.requires in
+    let ok : Accepted o = accepted o c.requires in
     rw (
-      ap (λ (o : Opened CicDecimator). o.state) c.before.before.before.before.before.before.new.ensures.0 ∙ cic_opened o ok,
-      ap (λ (o : Opened FirDecimator). o.state) c.before.before.before.before.new2.ensures.0 ∙ fir_opened_lem o ok,
-      ap (λ (o : Opened HbfStream). o.state) c.before.before.new3.ensures.0 ∙ half_band_opened o ok,
-      c.resampler-of.ensures,
+      ap (λ (o : Opened CicDecimator). o.state) c.new.ensures.0 ∙ cic_opened o ok,
+      ap (λ (o : Opened FirDecimator). o.state) c.new-2.ensures.0 ∙ fir_opened_lem o ok,
+      ap (λ (o : Opened HbfStream). o.state) c.new-3.ensures.0 ∙ half_band_opened o ok,
+      c.resampler_of-resampler.ensures,
     )
 
-pub fresh-spec : {M : Type 1} → statement M
-fresh-spec =
-    tie.close (tie.spec new-requires new-requires-2 new-requires-3 resampler-of-requires returns)
+pub fresh_spec : {M : Type 1} → statement M
+fresh_spec =
+    tie.close (tie.spec
+    new-requires
+    new-requires-2
+    new-requires-3
+    resampler-of-requires
+    returns)

@@ -1,6 +1,5 @@
 -- `zeros` meets its contract: each part is what its refused opening leaves.
-use mathlib.Core.Path.{◌≡◌, refl, sym, ap, ◌∙◌}
-use mathlib.Core.Bool.{true, false}
+use mathlib.Core.Path.{ap}
 use borrow.Author.Rules.{rules}
 use Rattle.refusal.specs.Outcome.{Opened}
 use Rattle.refusal.specs.Rows.{outside}
@@ -17,7 +16,7 @@ use Rattle.line.proofs.gauge_line.zeros.Tie as tie
 new-requires : tie.Need-new-requires
 new-requires c κs = search rules
 
-slice-aggregate-new : tie.Need-slice-aggregate-new
+slice-aggregate-new : tie.Need-slice_bounds-new-end
 slice-aggregate-new c = search rules
 
 new-requires-2 : tie.Need-new-requires-2
@@ -26,21 +25,21 @@ new-requires-2 c κs = search rules
 new-requires-3 : tie.Need-new-requires-3
 new-requires-3 c κs = search rules
 
-zeros-requires : tie.Need-zeros-requires
+zeros-requires : tie.Need-zeros-resampler-requires
 zeros-requires c κs = search rules
 
 returns : tie.Need-returns
 unfolding zeros opening stages_ok settings_number outside
 returns c =
     rw (
-      ap (λ (o : Opened CicDecimator). o.state) c.before.before.before.before.before.before.before.new.ensures.0,
-      ap (λ (o : Opened FirDecimator). o.state) c.before.before.before.before.new2.ensures.0,
-      ap (λ (o : Opened HbfStream). o.state) c.before.before.new3.ensures.0,
-      c.zeros.ensures,
+      ap (λ (o : Opened CicDecimator). o.state) c.new.ensures.0,
+      ap (λ (o : Opened FirDecimator). o.state) c.new-2.ensures.0,
+      ap (λ (o : Opened HbfStream). o.state) c.new-3.ensures.0,
+      c.zeros-resampler.ensures,
     )
 
-pub zeros-spec : {M : Type 1} → statement M
-zeros-spec =
+pub zeros_spec : {M : Type 1} → statement M
+zeros_spec =
     tie.close
     (tie.spec
     new-requires

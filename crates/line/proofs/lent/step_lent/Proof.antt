@@ -1,6 +1,6 @@
 -- `step_lent` meets its contract: it refuses where the line of its numbers and arrays is not valid, and else does what `step_on` does.
 use mathlib.Core.Path.{◌≡◌, sym, ap, ◌∙◌}
-use mathlib.Core.Bool.{Bool, true, false}
+use mathlib.Core.Bool.{true, false}
 use borrow.Author.Rules.{rules}
 use borrow.Author.Tests.{not-true, not-false}
 use lib.Ieee.{Float}
@@ -20,44 +20,44 @@ lent s =
     line_of a.n a.integrators.now a.combs.now a.neighbours.now a.taps.now a.fir_delay.now a.delays.now a.held.now a.counts.now a.delay.now a.prototype.now
 
 -- the test says whether it is valid
-tested : (c : tie.After-valid-at) → c.valid_at_lem.result ≡ valid (lent c.before.before.before.before)
-tested c = rw (c.before.before.before.fixed.ensures, c.before.before.changing.ensures) at c.valid_at_lem.ensures ∙ valid_apart (lent c.before.before.before.before)
+tested : (c : tie.After-valid_at) → c.valid_at.result ≡ valid (lent c.before.before.before.before)
+tested c = rw (c.fixed-f.ensures, c.changing-s.ensures) at c.valid_at.ensures ∙ valid_apart (lent c.before.before.before.before)
 
-fixed-requires : tie.Need-fixed-requires
+fixed-requires : tie.Need-fixed-f-requires
 fixed-requires c κs = search rules
 
-changing-requires : tie.Need-changing-requires
+changing-requires : tie.Need-changing-s-requires
 changing-requires c κs = search rules
 
-valid-at-requires : tie.Need-valid-at-requires
+valid-at-requires : tie.Need-valid_at-requires
 valid-at-requires c κs = search rules
 
-returns : tie.Need-returns
+returns : tie.Need-returns-then-not-valid_at
 unfolding step_outcome
 returns c =
-    let v : valid (lent c.before.before.before.before.before) ≡ false = sym (tested c.before) ∙ not-true _ c.if1.true in
+    let v : valid (lent c.before.before.before.before.before) ≡ false = sym (tested c.before) ∙ not-true _ c.if-not-valid_at.true-raw in
     rw v
 
-good : (c : tie.Else1) → valid (lent c.before.before.before.before.before) ≡ true
-good c = sym (tested c.before) ∙ not-false _ c.if1.false
+good : (c : tie.Else-not-valid_at) → valid (lent c.before.before.before.before.before) ≡ true
+good c = sym (tested c.before) ∙ not-false _ c.if-not-valid_at.false-raw
 
-step-on-requires : tie.Need-step-on-requires
-step-on-requires c κs = rw (c.before.before.before.before.before.before.before.before.before.before.before.before.fixed.ensures, c.before.before.before.before.before.before.before.before.before.before.before.changing.ensures) (bits_apart (lent c.before.before.before.before.before.before.before.before.before.before.before.before.before) (good c.before.before.before.before.before.before.before.before), due_limits _ _ _ _ _ _ _ _ _ _ _ _ _ (good c.before.before.before.before.before.before.before.before))
+step-on-requires : tie.Need-step_on-on-requires
+step-on-requires c κs = rw (c.fixed-f.ensures, c.changing-s.ensures) (bits_apart (lent c.before.before.before.before.before.before.before.before.before.before.before.before.before) (good c.before.before.before.before.before.before.before.before), due_limits _ _ _ _ _ _ _ _ _ _ _ _ _ (good c.before.before.before.before.before.before.before.before))
 
-public-step-requires : tie.Need-public-step-requires
+public-step-requires : tie.Need-public_step-requires
 public-step-requires c κs = search rules
 
-gone-on-requires : tie.Need-gone-on-requires
+gone-on-requires : tie.Need-gone_on-requires
 gone-on-requires c κs = search rules
 
-returns-2 : tie.Need-returns-2
+returns-2 : tie.Need-returns
 unfolding step_outcome
 returns-2 c =
-    rw (good c.before.before.before.before.before.before.before.before.before.before.before.before, c.before.public-step.ensures.0, c.before.public-step.ensures.1, c.gone-on.ensures)
-    (ap {B = Outcome (F.Event Float) Line} (λ (e : F.Stepped Line Float). record { number = 0; value = e.event; state = e.line }) (rw (c.before.before.before.before.before.before.before.before.before.before.before.before.before.before.before.before.fixed.ensures, c.before.before.before.before.before.before.before.before.before.before.before.before.before.before.before.changing.ensures) at c.before.before.before.step-on.ensures))
+    rw (good c.before.before.before.before.before.before.before.before.before.before.before.before, c.public_step.ensures.0, c.public_step.ensures.1, c.gone_on.ensures)
+    (ap {B = Outcome (F.Event Float) Line} (λ (e : F.Stepped Line Float). record { number = 0; value = e.event; state = e.line }) (rw (c.fixed-f.ensures, c.changing-s.ensures) at c.step_on-on.ensures))
 
-pub step-lent-spec : {M : Type 1} → statement M
-step-lent-spec =
+pub step_lent_spec : {M : Type 1} → statement M
+step_lent_spec =
     tie.close
     (tie.spec
     fixed-requires

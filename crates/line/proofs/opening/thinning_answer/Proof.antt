@@ -1,5 +1,5 @@
 -- `thinning_answer` meets its contract: its four tests are those of rows 1, 2, 23 and 3.
-use mathlib.Core.Path.{◌≡◌, refl, sym, ap, ◌∙◌}
+use mathlib.Core.Path.{◌≡◌, sym, ap, ◌∙◌}
 use mathlib.Core.Bool.{true, false}
 use borrow.Author.Rules.{rules}
 use borrow.Author.Tests.{not-true, not-false, le-leb, lt-leb}
@@ -9,72 +9,72 @@ use Rattle.nonrecursive.specs.EitherKind.{factor_for, settings_number}
 use Rattle.line.proofs.opening.thinning_answer.Statement.{statement}
 use Rattle.line.proofs.opening.thinning_answer.Tie as tie
 
-stages-ok-requires : tie.Need-stages-ok-requires
+stages-ok-requires : tie.Need-stages_ok-requires
 stages-ok-requires c κs = search rules
 
-returns : tie.Need-returns
+returns : tie.Need-returns-then-not-stages_ok
 unfolding settings_number
 returns c =
-    let s : stages_ok c.before.before.args.stages ≡ false = sym c.before.stages-ok.ensures ∙ not-true _ c.if1.true in
+    let s : stages_ok c.args.stages ≡ false = sym c.stages_ok.ensures ∙ not-true _ c.if-not-stages_ok.true-raw in
     rw s
 
-factor-ok-requires : tie.Need-factor-ok-requires
+factor-ok-requires : tie.Need-factor_ok-requires
 factor-ok-requires c κs = search rules
 
-returns-2 : tie.Need-returns-2
+returns-2 : tie.Need-returns-then-not-factor_ok
 unfolding settings_number
 returns-2 c =
-    let s : stages_ok c.before.before.before.before.args.stages ≡ true = sym c.before.before.before.stages-ok.ensures ∙ not-false _ c.before.before.if1.false in
-    let f : factor_ok c.before.before.before.before.args.r ≡ false = sym c.before.factor-ok.ensures ∙ not-true _ c.if2.true in
+    let s : stages_ok c.args.stages ≡ true = sym c.stages_ok.ensures ∙ not-false _ c.if-not-stages_ok.false-raw in
+    let f : factor_ok c.args.r ≡ false = sym c.factor_ok.ensures ∙ not-true _ c.if-not-factor_ok.true-raw in
     rw (s, f)
 
-factor-for-requires : tie.Need-factor-for-requires
+factor-for-requires : tie.Need-factor_for-requires
 factor-for-requires c κs = search rules
 
 -- what the first three tests say where none refuses
-ok_so_far : (c : tie.Else3) →
-    let a = c.before.before.before.before.before.before.args in
+ok_so_far : (c : tie.Else-not-factor_for) →
+    let a = c.args in
     (stages_ok a.stages ≡ true) × (factor_ok a.r ≡ true) × (factor_for a.thinning a.r ≡ true)
 ok_so_far c = (
-  sym c.before.before.before.before.before.stages-ok.ensures ∙ not-false _ c.before.before.before.before.if1.false,
-  sym c.before.before.before.factor-ok.ensures ∙ not-false _ c.before.before.if2.false,
-  sym c.before.factor-for.ensures ∙ not-false _ c.if3.false,
+  sym c.stages_ok.ensures ∙ not-false _ c.if-not-stages_ok.false-raw,
+  sym c.factor_ok.ensures ∙ not-false _ c.if-not-factor_ok.false-raw,
+  sym c.factor_for.ensures ∙ not-false _ c.if-not-factor_for.false-raw,
 )
 
-returns-3 : tie.Need-returns-3
+returns-3 : tie.Need-returns-then-not-factor_for
 unfolding settings_number
 returns-3 c =
-    let a = c.before.before.before.before.before.before.args in
-    let s : stages_ok a.stages ≡ true = sym c.before.before.before.before.before.stages-ok.ensures ∙ not-false _ c.before.before.before.before.if1.false in
-    let f : factor_ok a.r ≡ true = sym c.before.before.before.factor-ok.ensures ∙ not-false _ c.before.before.if2.false in
-    let p : factor_for a.thinning a.r ≡ false = sym c.before.factor-for.ensures ∙ not-true _ c.if3.true in
+    let a = c.args in
+    let s : stages_ok a.stages ≡ true = sym c.stages_ok.ensures ∙ not-false _ c.if-not-stages_ok.false-raw in
+    let f : factor_ok a.r ≡ true = sym c.factor_ok.ensures ∙ not-false _ c.if-not-factor_ok.false-raw in
+    let p : factor_for a.thinning a.r ≡ false = sym c.factor_for.ensures ∙ not-true _ c.if-not-factor_for.true-raw in
     rw (s, f, p)
 
-gain-of-requires : tie.Need-gain-of-requires
+gain-of-requires : tie.Need-gain_of-requires
 gain-of-requires c κs = search rules
 
-bits-of-requires : tie.Need-bits-of-requires
+bits-of-requires : tie.Need-bits_of-bits-requires
 bits-of-requires c κs = search rules
 
-bits_are : (c : tie.After-bits-of) →
-    let a = c.before.before.before.before.before.before.before.before.args in
-    c.bits_of.result ≡ gain_bits a.stages a.r
-bits_are c = c.bits_of.ensures ∙ ap bits_of c.before.gain-of.ensures
+bits_are : (c : tie.After-bits_of-bits) →
+    let a = c.args in
+    c.bits_of-bits.result ≡ gain_bits a.stages a.r
+bits_are c = c.bits_of-bits.ensures ∙ ap bits_of c.gain_of.ensures
 
-returns-4 : tie.Need-returns-4
+returns-4 : tie.Need-returns-then-bits-gt-MAX_BITS
 unfolding settings_number
 returns-4 c =
     let o = ok_so_far c.before.before.before in
-    rw (o.0, o.1, o.2, ← bits_are c.before, lt-leb _ _ c.if4.true)
+    rw (o.0, o.1, o.2, ← bits_are c.before, lt-leb _ _ c.if-bits-gt-MAX_BITS.true)
 
-returns-5 : tie.Need-returns-5
+returns-5 : tie.Need-returns
 unfolding settings_number
 returns-5 c =
     let o = ok_so_far c.before.before.before in
-    rw (o.0, o.1, o.2, ← bits_are c.before, le-leb _ _ c.if4.false)
+    rw (o.0, o.1, o.2, ← bits_are c.before, le-leb _ _ c.if-bits-gt-MAX_BITS.false)
 
-pub thinning-answer-spec : {M : Type 1} → statement M
-thinning-answer-spec =
+pub thinning_answer_spec : {M : Type 1} → statement M
+thinning_answer_spec =
     tie.close
     (tie.spec
     stages-ok-requires

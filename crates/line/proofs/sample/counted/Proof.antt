@@ -18,17 +18,22 @@ one-requires c κs = tt
 one-requires-2 : tie.Need-one-requires-2
 one-requires-2 c κs = tt
 
-add-held-sum : tie.Need-overflow-add-held-sum
+add-held-sum : tie.Need-overflow_add-one
 add-held-sum c =
-    let a = c.before.before.args in
-    omega (arith, c.one2.ensures, c.before.one.ensures, most_one a.scaled, most_one a.filtered)
+    let a = c.args in
+    omega (arith, c.one-2.ensures, c.one.ensures, most_one a.scaled, most_one a.filtered)
 
-held-sum-requires : tie.Need-held-sum-requires
+held-sum-requires : tie.Need-held_sum-requires
 held-sum-requires c κs = tt
 
 returns : tie.Need-returns
-returns c = c.held-sum.ensures ∙ ap₂ {C = ℕ} (λ (i j : ℕ). held_sum most_cuts c.before.before.before.args.cuts (i + j)) c.before.before.one.ensures c.before.one2.ensures
+returns c = c.held_sum.ensures ∙ ap₂ {C = ℕ} (λ (i j : ℕ). held_sum most_cuts c.args.cuts (i + j)) c.one.ensures c.one-2.ensures
 
 pub counted_spec : {M : Type 1} → statement M
 counted_spec =
-    tie.close (tie.spec one-requires one-requires-2 add-held-sum held-sum-requires returns)
+    tie.close (tie.spec
+    one-requires
+    one-requires-2
+    add-held-sum
+    held-sum-requires
+    returns)

@@ -6,16 +6,16 @@ use Rattle.float.specs.PolyphaseResamp.{in_line, is_on, consumed}
 use Rattle.line.proofs.sample.resampler_in.Statement.{statement}
 use Rattle.line.proofs.sample.resampler_in.Tie as tie
 
-returns : tie.Need-returns
+returns : tie.Need-returns-then-f-eq0
 unfolding in_line is_on
-returns c = λ h. rw c.if1.true (refl, refl)
+returns c = λ h. rw c.if-f-eq0.true (refl, refl)
 
-shift-in-requires : tie.Need-shift-in-requires
+shift-in-requires : tie.Need-shift_in-requires
 shift-in-requires c κs = search rules
 
-returns-2 : tie.Need-returns-2
+returns-2 : tie.Need-returns
 unfolding in_line is_on consumed
-returns-2 c = λ h. rw (ne_eqb _ _ c.before.before.if1.false, c.shift_in.ensures) (refl, refl)
+returns-2 c = λ h. rw (ne_eqb _ _ c.if-f-eq0.false, c.shift_in.ensures) (refl, refl)
 
-pub resampler-in-spec : {M : Type 1} → statement M
-resampler-in-spec = tie.close (tie.spec returns shift-in-requires returns-2)
+pub resampler_in_spec : {M : Type 1} → statement M
+resampler_in_spec = tie.close (tie.spec returns shift-in-requires returns-2)

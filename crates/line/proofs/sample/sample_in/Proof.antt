@@ -29,102 +29,102 @@ use Rattle.line.proofs.Taking.{takes_none, takes_some, two_cuts, takes_line}
 use Rattle.line.proofs.sample.sample_in.Statement.{statement}
 use Rattle.line.proofs.sample.sample_in.Tie as tie
 
-abbrev start : tie.After-thin-at → tie.Start
+abbrev start : tie.After-thin_at-at → tie.Start
 start c = c.before.before.before.before
 
 -- section 1 as it was lent
 abbrev lent : tie.Start → Thinner
-lent s = let a = s.args in thinner_of (kind_of a.by-neighbours) a.f.stages a.f.r a.integrators.now a.combs.now a.neighbours.now a.s.sample_counter
+lent s = let a = s.args in thinner_of (kind_of a.by_neighbours) a.f.stages a.f.r a.integrators.now a.combs.now a.neighbours.now a.s.sample_counter
 
 -- and the line with the prototype h
 abbrev lent_line : tie.Start → List Float → Line
 lent_line s h =
     let a = s.args in
-    together (kind_of a.by-neighbours) a.f a.s a.integrators.now a.combs.now a.neighbours.now a.taps.now a.fir_delay.now a.delays.now a.held.now a.counts.now a.delay.now h
+    together (kind_of a.by_neighbours) a.f a.s a.integrators.now a.combs.now a.neighbours.now a.taps.now a.fir_delay.now a.delays.now a.held.now a.counts.now a.delay.now h
 
 -- what the decimator of this kind made of the sample
-made : (c : tie.After-thin-at) →
+made : (c : tie.After-thin_at-at) →
     let a = (start c).args in
-    (sum_of c.thin_at.result.sum ≡ out_by (kind_of a.by-neighbours) (lent (start c)) a.x)
-    × (thinner_of (kind_of a.by-neighbours) a.f.stages a.f.r c.thin_at.new.1.1.1.1.0 c.thin_at.new.1.1.1.1.1.0 c.thin_at.new.1.1.1.1.1.1.0 c.thin_at.result.sample_counter
-    ≡ next_by (kind_of a.by-neighbours) (lent (start c)) a.x)
-made c = rw (to_z-of_z (start c).ranges.x) at c.thin_at.ensures
+    (sum_of c.thin_at-at.result.sum ≡ out_by (kind_of a.by_neighbours) (lent (start c)) a.x)
+    × (thinner_of (kind_of a.by_neighbours) a.f.stages a.f.r c.thin_at-at.new.integrators c.thin_at-at.new.combs c.thin_at-at.new.neighbours c.thin_at-at.result.sample_counter
+    ≡ next_by (kind_of a.by_neighbours) (lent (start c)) a.x)
+made c = rw (to_z-of_z (start c).ranges.x) at c.thin_at-at.ensures
 
 -- the sum, scaled and cut
-abbrev sum : (c : tie.After-cut-q15) → ℤ
-sum c = let a = (start c.before.before.before.before.before).args in floor_div c.before.before.before.made.given.0.0 (2 ^ gain_bits a.f.stages a.f.r)
+abbrev sum : (c : tie.After-cut_q15-first) → ℤ
+sum c = let a = (start c.before.before.before).args in floor_div c.in-Value.v (2 ^ gain_bits a.f.stages a.f.r)
 
-sum_is : (c : tie.After-cut-q15) → to_z w64 (of_z w64 (to_z w32 (of_z w32 c.before.scaled.result))) ≡ sum c
+sum_is : (c : tie.After-cut_q15-first) → to_z w64 (of_z w64 (to_z w32 (of_z w32 c.scaled.result))) ≡ sum c
 sum_is c =
-    let f : SFits w32 c.before.scaled.result = record { sfits = c.before.scaled.type-inv } in
-    let v = c.before.before.before.made.given.0.0 in
+    let f : SFits w32 c.scaled.result = record { sfits = c.scaled.type_inv } in
+    let v = c.in-Value.v in
     let g : SFits w32 v = record { sfits = omega arith } in
-    let a = (start c.before.before.before.before.before).args in
+    let a = (start c.before.before.before).args in
     rw (to_z-of_z f, to_z-of_z (sfits_widen {w' = w64} tt f))
-    (c.before.scaled.ensures
+    (c.scaled.ensures
     ∙ ap (λ (z : ℤ). floor_div z (2 ^ a.f.bits)) (to_z-of_z g)
-    ∙ ap (λ (n : ℕ). floor_div v (2 ^ n)) (start c.before.before.before.before.before).requires)
+    ∙ ap (λ (n : ℕ). floor_div v (2 ^ n)) (start c.before.before.before).requires)
 
-cut_is : (c : tie.After-cut-q15) → c.cut-q15.result.value.0 ≡ cut w16 (sum c)
-cut_is c = c.cut-q15.ensures.0 ∙ ap (cut w16) (sum_is c)
+cut_is : (c : tie.After-cut_q15-first) → c.cut_q15-first.result.value.0 ≡ cut w16 (sum c)
+cut_is c = c.cut_q15-first.ensures.0 ∙ ap (cut w16) (sum_is c)
 
-cut_said : (c : tie.After-cut-q15) → c.cut-q15.result.cut ≡ is_cut w16 (sum c)
-cut_said c = c.cut-q15.ensures.1 ∙ ap (is_cut w16) (sum_is c)
+cut_said : (c : tie.After-cut_q15-first) → c.cut_q15-first.result.cut ≡ is_cut w16 (sum c)
+cut_said c = c.cut_q15-first.ensures.1 ∙ ap (is_cut w16) (sum_is c)
 
-thin-at-requires : tie.Need-thin-at-requires
+thin-at-requires : tie.Need-thin_at-at-requires
 thin-at-requires c κs = search rules
 
-enum_told : tie.Need-enum-told
+enum_told : tie.Need-enum_told-1
 enum_told c = search rules
 
-enum-known-made : tie.Need-enum-known-made
+enum-known-made : tie.Need-enum_known-made
 enum-known-made c = search rules
 
 scaled-requires : tie.Need-scaled-requires
 scaled-requires c κs = search rules
 
-cast-cut-q15 : tie.Need-overflow-cast-cut-q15
+cast-cut-q15 : tie.Need-overflow_cast-scaled
 cast-cut-q15 c =
-    let f : SFits w32 c.scaled.result = record { sfits = c.scaled.type-inv } in
+    let f : SFits w32 c.scaled.result = record { sfits = c.scaled.type_inv } in
     rw (to_z-of_z f) (sfits_widen tt f)
 
-cut-q15-requires : tie.Need-cut-q15-requires
+cut-q15-requires : tie.Need-cut_q15-first-requires
 cut-q15-requires c κs = search rules
 
-fir-in-requires : tie.Need-fir-in-requires
+fir-in-requires : tie.Need-fir_in-on-requires
 fir-in-requires c κs = search rules
 
-counted-requires : tie.Need-counted-requires
+counted-requires : tie.Need-counted-cuts-requires
 counted-requires c κs = search rules
 
-returns : tie.Need-returns
+returns : tie.Need-returns-in-Nothing
 unfolding either
 returns c = λ h.
-    let k = c.before.before in
+    let k = c.before in
     let a = (start k).args in
     let g = gain_bits a.f.stages a.f.r in
-    let none_made = sym (ap sum_of c.enum_told.given.1) ∙ (made k).0 in
+    let none_made = sym (ap sum_of c.in-Nothing.is) ∙ (made k).0 in
     takes_line (lent_line (start k) h) _ a.x _
     (takes_none either (before (each (cut w16)) from3) (lent (start k)) _ a.x _ (ap (scaled_by g) none_made) (made k).1)
     (sym (held_none most_cuts a.s.cuts) ∙ ap (λ (v : Option ℤ). held_sum most_cuts a.s.cuts (cuts_for (fir_of a.f a.s.wait a.taps.now a.fir_delay.now) (scaled_by g v))) none_made)
 
-returns-2 : tie.Need-returns-2
+returns-2 : tie.Need-returns-in-Value
 unfolding either
 returns-2 c = λ h.
-    let k = c.before.before.before.before.before.before.before.before.before.before.before.before.before in
+    let k = c.before.before.before.before.before.before.before.before.before.before.before in
     let q = c.before.before.before.before.before.before.before.before in
     let a = (start k).args in
     let g = gain_bits a.f.stages a.f.r in
     let s = fir_of a.f a.s.wait a.taps.now a.fir_delay.now in
-    let some-made = sym (ap sum_of q.before.before.before.made.given.1) ∙ (made k).0 in
+    let some-made = sym (ap sum_of c.in-Value.is) ∙ (made k).0 in
     takes_line (lent_line (start k) h) _ a.x _
     (takes_some either (before (each (cut w16)) from3) (lent (start k)) _ a.x _ _ _ _ (ap (scaled_by g) some-made) (made k).1
-    (takes_some (each (cut w16)) from3 _ _ _ _ _ _ _ refl refl (rw (cut_is q) at (c.before.fir-in.ensures.0 h))))
-    (two_cuts a.s.cuts _ _ _ s (sum q) c.counted.ensures (cut_said q) (rw (cut_is q) at c.before.fir-in.ensures.1)
+    (takes_some (each (cut w16)) from3 _ _ _ _ _ _ _ refl refl (rw (cut_is q) at (c.fir_in-on.ensures.0 h))))
+    (two_cuts a.s.cuts _ _ _ s (sum q) c.counted-cuts.ensures (cut_said q) (rw (cut_is q) at c.fir_in-on.ensures.1)
     ∙ ap (λ (v : Option ℤ). held_sum most_cuts a.s.cuts (cuts_for s (scaled_by g v))) some-made)
 
-pub sample-in-spec : {M : Type 1} → statement M
-sample-in-spec =
+pub sample_in_spec : {M : Type 1} → statement M
+sample_in_spec =
     tie.close
     (tie.spec
     thin-at-requires

@@ -16,16 +16,16 @@ handed_on : (depth : ℕ) (delays held : List Float) (counts : List ℕ) (x : Fl
 unfolding hbf_stream stream through
 handed_on depth delays held counts x z = rw z (refl, refl)
 
-returns : tie.Need-returns
+returns : tie.Need-returns-then-depth-eq0
 returns c =
-    let a = c.before.args in
-    handed_on a.depth a.delays.now a.held.now a.counts.now a.level c.if1.true
+    let a = c.args in
+    handed_on a.depth a.delays.now a.held.now a.counts.now a.level c.if-depth-eq0.true
 
-hbf-stream-at-requires : tie.Need-hbf-stream-at-requires
+hbf-stream-at-requires : tie.Need-hbf_stream_at-requires
 hbf-stream-at-requires c κs = search rules
 
-returns-2 : tie.Need-returns-2
-returns-2 c = c.hbf-stream-at.ensures
+returns-2 : tie.Need-returns
+returns-2 c = c.hbf_stream_at.ensures
 
-pub stages-in-spec : {M : Type 1} → statement M
-stages-in-spec = tie.close (tie.spec returns hbf-stream-at-requires returns-2)
+pub stages_in_spec : {M : Type 1} → statement M
+stages_in_spec = tie.close (tie.spec returns hbf-stream-at-requires returns-2)

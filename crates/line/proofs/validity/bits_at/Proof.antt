@@ -1,5 +1,5 @@
 -- `bits_at` meets its contract: the gain is looked at only where the decimator is valid.
-use mathlib.Core.Path.{◌≡◌, refl, sym, ap, ◌∙◌}
+use mathlib.Core.Path.{◌≡◌, sym, ap, ◌∙◌}
 use mathlib.Core.Bool.{true, false}
 use borrow.Author.Rules.{rules}
 use borrow.Author.Tests.{not-true, not-false}
@@ -9,29 +9,34 @@ use Rattle.line.specs.Together.{bits_at}
 use Rattle.line.proofs.validity.bits_at.Statement.{statement}
 use Rattle.line.proofs.validity.bits_at.Tie as tie
 
-thinning-valid-requires : tie.Need-thinning-valid-requires
+thinning-valid-requires : tie.Need-thinning_valid-requires
 thinning-valid-requires c κs = search rules
 
-returns : tie.Need-returns
+returns : tie.Need-returns-then-not-thinning_valid
 unfolding bits_at
 returns c =
-    let a = c.before.before.args in
-    let v : valid_at a.thinning a.stages a.r a.sample-counter ≡ false = sym c.before.thinning-valid.ensures ∙ not-true _ c.if1.true in
+    let a = c.args in
+    let v : valid_at a.thinning a.stages a.r a.sample_counter ≡ false = sym c.thinning_valid.ensures ∙ not-true _ c.if-not-thinning_valid.true-raw in
     rw v
 
-gain-of-requires : tie.Need-gain-of-requires
+gain-of-requires : tie.Need-gain_of-requires
 gain-of-requires c κs = search rules
 
-bits-of-requires : tie.Need-bits-of-requires
+bits-of-requires : tie.Need-bits_of-requires
 bits-of-requires c κs = search rules
 
-returns-2 : tie.Need-returns-2
+returns-2 : tie.Need-returns
 unfolding bits_at
 returns-2 c =
-    let a = c.before.before.before.before.args in
-    let v : valid_at a.thinning a.stages a.r a.sample-counter ≡ true = sym c.before.before.before.thinning-valid.ensures ∙ not-false _ c.before.before.if1.false in
-    rw v (c.bits_of.ensures ∙ ap bits_of c.before.gain-of.ensures)
+    let a = c.args in
+    let v : valid_at a.thinning a.stages a.r a.sample_counter ≡ true = sym c.thinning_valid.ensures ∙ not-false _ c.if-not-thinning_valid.false-raw in
+    rw v (c.bits_of.ensures ∙ ap bits_of c.gain_of.ensures)
 
-pub bits-at-spec : {M : Type 1} → statement M
-bits-at-spec =
-    tie.close (tie.spec thinning-valid-requires returns gain-of-requires bits-of-requires returns-2)
+pub bits_at_spec : {M : Type 1} → statement M
+bits_at_spec =
+    tie.close (tie.spec
+    thinning-valid-requires
+    returns
+    gain-of-requires
+    bits-of-requires
+    returns-2)

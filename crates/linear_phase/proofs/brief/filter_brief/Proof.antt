@@ -29,124 +29,150 @@ four : (s : tie.Start) → (s.args.m ≡ 1 → ⊥) → (s.args.m ≡ 2 → ⊥)
 four s p q r = omega (arith, p, q, r, s.requires.0, s.requires.1)
 
 held-requires : tie.Need-held-requires
-held-requires c κs = let p = c.before.before.before.before.before.before.before.before.requires in (omega arith, omega arith, p.2, p.3, p.4)
+held-requires c κs = let p = c.requires in (omega arith, omega arith, p.2, p.3, p.4)
 
-same_length : tie.Need-same-length
+same_length : tie.Need-shape_of-delay-then-m-eq1
 same_length c = search rules
 
-same-length-2 : tie.Need-same-length-2
+same-length-2 : tie.Need-shape_of-span-then-m-eq1
 same-length-2 c = search rules
 
-returns : tie.Need-returns
+returns : tie.Need-returns-then-m-eq1
 returns c =
-    let s = c.before.before.before.before.before.before.before.before.before.before.before.before.before in
-    let a = s.args in
-    for_these a.minus a.taps.now a.delay.now a.src.now _ _ a.m 1 a.odd true c.before.before.before.before.before.before.before.if2.true c.before.before.before.before.before.before.before.before.if1.true c.before.before.before.before.held.ensures
+    let a = c.args in
+    for_these a.minus a.taps.now a.delay.now a.src.now _ _ a.m 1 a.odd true c.if-m-eq1.true c.if-odd.true c.held.ensures
 
-held-requires-2 : tie.Need-held-requires-2
-held-requires-2 c κs = let p = c.before.before.before.before.before.before.before.before.before.requires in (omega arith, omega arith, p.2, p.3, p.4)
+held-requires-2 : tie.Need-held-requires-then-m-eq2
+held-requires-2 c κs = let p = c.requires in (omega arith, omega arith, p.2, p.3, p.4)
 
-same-length-3 : tie.Need-same-length-3
+same-length-3 : tie.Need-shape_of-delay-then-m-eq2
 same-length-3 c = search rules
 
-same-length-4 : tie.Need-same-length-4
+same-length-4 : tie.Need-shape_of-span-then-m-eq2
 same-length-4 c = search rules
 
-returns-2 : tie.Need-returns-2
+returns-2 : tie.Need-returns-then-m-eq2
 returns-2 c =
-    let s = c.before.before.before.before.before.before.before.before.before.before.before.before.before.before in
-    let a = s.args in
-    for_these a.minus a.taps.now a.delay.now a.src.now _ _ a.m 2 a.odd true c.before.before.before.before.before.before.before.if3.true c.before.before.before.before.before.before.before.before.before.if1.true c.before.before.before.before.held2.ensures
+    let a = c.args in
+    for_these a.minus a.taps.now a.delay.now a.src.now _ _ a.m 2 a.odd true c.if-m-eq2.true c.if-odd.true c.held-then-m-eq2.ensures
 
-held-requires-3 : tie.Need-held-requires-3
-held-requires-3 c κs = let p = c.before.before.before.before.before.before.before.before.before.before.requires in (omega arith, omega arith, p.2, p.3, p.4)
+held-requires-3 : tie.Need-held-requires-then-m-eq3
+held-requires-3 c κs = let p = c.requires in (omega arith, omega arith, p.2, p.3, p.4)
 
-same-length-5 : tie.Need-same-length-5
+same-length-5 : tie.Need-shape_of-delay-then-m-eq3
 same-length-5 c = search rules
 
-same-length-6 : tie.Need-same-length-6
+same-length-6 : tie.Need-shape_of-span-then-m-eq3
 same-length-6 c = search rules
 
-returns-3 : tie.Need-returns-3
+returns-3 : tie.Need-returns-then-m-eq3
 returns-3 c =
-    let s = c.before.before.before.before.before.before.before.before.before.before.before.before.before.before.before in
-    let a = s.args in
-    for_these a.minus a.taps.now a.delay.now a.src.now _ _ a.m 3 a.odd true c.before.before.before.before.before.before.before.if4.true c.before.before.before.before.before.before.before.before.before.before.if1.true c.before.before.before.before.held3.ensures
+    let a = c.args in
+    for_these a.minus a.taps.now a.delay.now a.src.now _ _ a.m 3 a.odd true c.if-m-eq3.true c.if-odd.true c.held-then-m-eq3.ensures
 
-held-requires-4 : tie.Need-held-requires-4
-held-requires-4 c κs = let p = c.before.before.before.before.before.before.before.before.before.before.requires in (omega arith, omega arith, p.2, p.3, p.4)
+held-requires-4 : tie.Need-held-requires-then-odd
+held-requires-4 c κs = let p = c.requires in (omega arith, omega arith, p.2, p.3, p.4)
 
-same-length-7 : tie.Need-same-length-7
+same-length-7 : tie.Need-shape_of-delay-then-odd
 same-length-7 c = search rules
 
-same-length-8 : tie.Need-same-length-8
+same-length-8 : tie.Need-shape_of-span-then-odd
 same-length-8 c = search rules
 
-returns-4 : tie.Need-returns-4
+returns-4 : tie.Need-returns-then-odd
 returns-4 c =
     let s = c.before.before.before.before.before.before.before.before.before.before.before.before.before.before.before in
-    let a = s.args in
-    for_these a.minus a.taps.now a.delay.now a.src.now _ _ a.m 4 a.odd true (four s c.before.before.before.before.before.before.before.before.before.if2.false c.before.before.before.before.before.before.before.before.if3.false c.before.before.before.before.before.before.before.if4.false) c.before.before.before.before.before.before.before.before.before.before.if1.true c.before.before.before.before.held4.ensures
+    let a = c.args in
+    for_these a.minus a.taps.now a.delay.now a.src.now _ _ a.m 4 a.odd true (four s c.if-m-eq1.false c.if-m-eq2.false c.if-m-eq3.false) c.if-odd.true c.held-then-odd.ensures
 
-held-requires-5 : tie.Need-held-requires-5
-held-requires-5 c κs = let p = c.before.before.before.before.before.before.before.before.requires in (omega arith, omega arith, p.2, p.3, p.4)
+held-requires-5 : tie.Need-held-requires-then-m-eq1-2
+held-requires-5 c κs = let p = c.requires in (omega arith, omega arith, p.2, p.3, p.4)
 
-same-length-9 : tie.Need-same-length-9
+same-length-9 : tie.Need-shape_of-delay-then-m-eq1-2
 same-length-9 c = search rules
 
-same-length-10 : tie.Need-same-length-10
+same-length-10 : tie.Need-shape_of-span-then-m-eq1-2
 same-length-10 c = search rules
 
-returns-5 : tie.Need-returns-5
+returns-5 : tie.Need-returns-then-m-eq1-2
 returns-5 c =
-    let s = c.before.before.before.before.before.before.before.before.before.before.before.before.before in
-    let a = s.args in
-    for_these a.minus a.taps.now a.delay.now a.src.now _ _ a.m 1 a.odd false c.before.before.before.before.before.before.before.if5.true c.before.before.before.before.before.before.before.before.if1.false c.before.before.before.before.held5.ensures
+    let a = c.args in
+    for_these a.minus a.taps.now a.delay.now a.src.now _ _ a.m 1 a.odd false c.if-m-eq1-2.true c.if-odd.false c.held-then-m-eq1-2.ensures
 
-held-requires-6 : tie.Need-held-requires-6
-held-requires-6 c κs = let p = c.before.before.before.before.before.before.before.before.before.requires in (omega arith, omega arith, p.2, p.3, p.4)
+held-requires-6 : tie.Need-held-requires-then-m-eq2-2
+held-requires-6 c κs = let p = c.requires in (omega arith, omega arith, p.2, p.3, p.4)
 
-same-length-11 : tie.Need-same-length-11
+same-length-11 : tie.Need-shape_of-delay-then-m-eq2-2
 same-length-11 c = search rules
 
-same-length-12 : tie.Need-same-length-12
+same-length-12 : tie.Need-shape_of-span-then-m-eq2-2
 same-length-12 c = search rules
 
-returns-6 : tie.Need-returns-6
+returns-6 : tie.Need-returns-then-m-eq2-2
 returns-6 c =
-    let s = c.before.before.before.before.before.before.before.before.before.before.before.before.before.before in
-    let a = s.args in
-    for_these a.minus a.taps.now a.delay.now a.src.now _ _ a.m 2 a.odd false c.before.before.before.before.before.before.before.if6.true c.before.before.before.before.before.before.before.before.before.if1.false c.before.before.before.before.held6.ensures
+    let a = c.args in
+    for_these a.minus a.taps.now a.delay.now a.src.now _ _ a.m 2 a.odd false c.if-m-eq2-2.true c.if-odd.false c.held-then-m-eq2-2.ensures
 
-held-requires-7 : tie.Need-held-requires-7
-held-requires-7 c κs = let p = c.before.before.before.before.before.before.before.before.before.before.requires in (omega arith, omega arith, p.2, p.3, p.4)
+held-requires-7 : tie.Need-held-requires-then-m-eq3-2
+held-requires-7 c κs = let p = c.requires in (omega arith, omega arith, p.2, p.3, p.4)
 
-same-length-13 : tie.Need-same-length-13
+same-length-13 : tie.Need-shape_of-delay-then-m-eq3-2
 same-length-13 c = search rules
 
-same-length-14 : tie.Need-same-length-14
+same-length-14 : tie.Need-shape_of-span-then-m-eq3-2
 same-length-14 c = search rules
 
-returns-7 : tie.Need-returns-7
+returns-7 : tie.Need-returns-then-m-eq3-2
 returns-7 c =
-    let s = c.before.before.before.before.before.before.before.before.before.before.before.before.before.before.before in
-    let a = s.args in
-    for_these a.minus a.taps.now a.delay.now a.src.now _ _ a.m 3 a.odd false c.before.before.before.before.before.before.before.if7.true c.before.before.before.before.before.before.before.before.before.before.if1.false c.before.before.before.before.held7.ensures
+    let a = c.args in
+    for_these a.minus a.taps.now a.delay.now a.src.now _ _ a.m 3 a.odd false c.if-m-eq3-2.true c.if-odd.false c.held-then-m-eq3-2.ensures
 
-held-requires-8 : tie.Need-held-requires-8
-held-requires-8 c κs = let p = c.before.before.before.before.before.before.before.before.before.before.requires in (omega arith, omega arith, p.2, p.3, p.4)
+held-requires-8 : tie.Need-held-requires-2
+held-requires-8 c κs = let p = c.requires in (omega arith, omega arith, p.2, p.3, p.4)
 
-same-length-15 : tie.Need-same-length-15
+same-length-15 : tie.Need-shape_of-delay
 same-length-15 c = search rules
 
-same-length-16 : tie.Need-same-length-16
+same-length-16 : tie.Need-shape_of-span
 same-length-16 c = search rules
 
-returns-8 : tie.Need-returns-8
+returns-8 : tie.Need-returns
 returns-8 c =
     let s = c.before.before.before.before.before.before.before.before.before.before.before.before.before.before.before in
-    let a = s.args in
-    for_these a.minus a.taps.now a.delay.now a.src.now _ _ a.m 4 a.odd false (four s c.before.before.before.before.before.before.before.before.before.if5.false c.before.before.before.before.before.before.before.before.if6.false c.before.before.before.before.before.before.before.if7.false) c.before.before.before.before.before.before.before.before.before.before.if1.false c.before.before.before.before.held8.ensures
+    let a = c.args in
+    for_these a.minus a.taps.now a.delay.now a.src.now _ _ a.m 4 a.odd false (four s c.if-m-eq1-2.false c.if-m-eq2-2.false c.if-m-eq3-2.false) c.if-odd.false c.held-2.ensures
 
-pub filter-brief-spec : {M : Type 1} → statement M
-filter-brief-spec = tie.close (tie.spec held-requires same_length same-length-2 returns held-requires-2 same-length-3 same-length-4 returns-2 held-requires-3 same-length-5 same-length-6 returns-3 held-requires-4 same-length-7 same-length-8 returns-4 held-requires-5 same-length-9 same-length-10 returns-5 held-requires-6 same-length-11 same-length-12 returns-6 held-requires-7 same-length-13 same-length-14 returns-7 held-requires-8 same-length-15 same-length-16 returns-8)
+pub filter_brief_spec : {M : Type 1} → statement M
+filter_brief_spec = tie.close (tie.spec
+    held-requires
+    same_length
+    same-length-2
+    returns
+    held-requires-2
+    same-length-3
+    same-length-4
+    returns-2
+    held-requires-3
+    same-length-5
+    same-length-6
+    returns-3
+    held-requires-4
+    same-length-7
+    same-length-8
+    returns-4
+    held-requires-5
+    same-length-9
+    same-length-10
+    returns-5
+    held-requires-6
+    same-length-11
+    same-length-12
+    returns-6
+    held-requires-7
+    same-length-13
+    same-length-14
+    returns-7
+    held-requires-8
+    same-length-15
+    same-length-16
+    returns-8)

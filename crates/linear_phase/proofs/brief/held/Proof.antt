@@ -43,110 +43,125 @@ next_long s =
     ∙ omega (arith, length-drop (length s.args.src.now) (kept s ++ s.args.src.now), length-append (kept s) s.args.src.now, kept_long s)
 
 -- the lengths of the delay and of its copy
-delay_long : (c : tie.After-reach) → length (take c.reach.result c.before.before.before.before.before.args.delay.now) ≡ c.reach.result
-delay_long c = length-take-le c.reach.result c.before.before.before.before.before.args.delay.now (omega (arith, c.reach.ensures, few_places c.before.before.before.before.before, c.before.before.before.before.before.requires.3))
+delay_long : (c : tie.After-reach-long) → length (take c.reach-long.result c.args.delay.now) ≡ c.reach-long.result
+delay_long c = length-take-le c.reach-long.result c.args.delay.now (omega (arith, c.reach-long.ensures, few_places c.before.before.before.before.before, c.requires.3))
 
-copy_long : (c : tie.After-reach) → length (take c.reach.result (replicate 8 zero32)) ≡ c.reach.result
-copy_long c = length-take-le c.reach.result (replicate 8 zero32) (omega (arith, c.reach.ensures, few_places c.before.before.before.before.before))
+copy_long : (c : tie.After-reach-long) → length (take c.reach-long.result (replicate 8 zero32)) ≡ c.reach-long.result
+copy_long c = length-take-le c.reach-long.result (replicate 8 zero32) (omega (arith, c.reach-long.ensures, few_places c.before.before.before.before.before))
 
 -- a list of so many places put over another of them
 put_there : (r : ℕ) (p w last : List Float) → length p ≡ r → length w ≡ r → last ≡ ending_in w p → last ≡ w
 put_there r p w last h k e = put_over p w last (k ∙ sym h) (e ∙ ends_in w p (omega (arith, h, k)))
 
 -- the delay in the copy
-copied : (c : tie.After-put-at-end) → c.put-at-end.new.0 ≡ kept c.before.before.before.before.before.before.before.before
+copied : (c : tie.After-put_at_end) → c.put_at_end.new.span ≡ kept c.before.before.before.before.before.before.before
 copied c =
-    let r = c.before.before.before in
-    put_there r.reach.result (take r.reach.result (replicate 8 zero32)) (take r.reach.result c.before.before.before.before.before.before.before.before.args.delay.now) c.put-at-end.new.0 (copy_long r) (delay_long r) c.put-at-end.ensures
-    ∙ ap (λ (k : ℕ). take k c.before.before.before.before.before.before.before.before.args.delay.now) r.reach.ensures
+    put_there c.reach-long.result (take c.reach-long.result (replicate 8 zero32)) (take c.reach-long.result c.args.delay.now) c.put_at_end.new.span (copy_long c.before.before) (delay_long c.before.before) c.put_at_end.ensures
+    ∙ ap (λ (k : ℕ). take k c.args.delay.now) c.reach-long.ensures
 
-copied_long : (c : tie.After-put-at-end) → length c.put-at-end.new.0 ≡ c.before.before.before.reach.result
-copied_long c = ap length (copied c) ∙ kept_long c.before.before.before.before.before.before.before.before ∙ sym c.before.before.before.reach.ensures
+copied_long : (c : tie.After-put_at_end) → length c.put_at_end.new.span ≡ c.reach-long.result
+copied_long c = ap length (copied c) ∙ kept_long c.before.before.before.before.before.before.before ∙ sym c.reach-long.ensures
 
-window_is : (c : tie.After-put-at-end) → take c.before.before.before.reach.result (c.put-at-end.new.0 ++ drop c.before.before.before.reach.result (replicate 8 zero32)) ≡ kept c.before.before.before.before.before.before.before.before
-window_is c = take_at c.put-at-end.new.0 (drop c.before.before.before.reach.result (replicate 8 zero32)) c.before.before.before.reach.result (copied_long c) ∙ copied c
+window_is : (c : tie.After-put_at_end) → take c.reach-long.result (c.put_at_end.new.span ++ drop c.reach-long.result (replicate 8 zero32)) ≡ kept c.before.before.before.before.before.before.before
+window_is c = take_at c.put_at_end.new.span (drop c.reach-long.result (replicate 8 zero32)) c.reach-long.result (copied_long c) ∙ copied c
 
-window_long : (c : tie.After-put-at-end) → length (take c.before.before.before.reach.result (c.put-at-end.new.0 ++ drop c.before.before.before.reach.result (replicate 8 zero32))) ≡ c.before.before.before.reach.result
-window_long c = ap length (window_is c) ∙ kept_long c.before.before.before.before.before.before.before.before ∙ sym c.before.before.before.reach.ensures
+window_long : (c : tie.After-put_at_end) → length (take c.reach-long.result (c.put_at_end.new.span ++ drop c.reach-long.result (replicate 8 zero32))) ≡ c.reach-long.result
+window_long c = ap length (window_is c) ∙ kept_long c.before.before.before.before.before.before.before ∙ sym c.reach-long.ensures
 
 -- what it has become
-moved : (c : tie.After-each) → c.each.new.0 ≡ next c.before.before.before.before.before.before.before.before.before.before.before.before.before
+moved : (c : tie.After-each) → c.each.new.delay ≡ next c.before.before.before.before.before.before.before.before.before.before.before
 moved c =
-    let a = c.before.before.before.before.before.before.before.before.before.before.before.before.before.args in
-    c.each.ensures.0 ∙ ap (λ (w : List Float). state (linear_phase a.odd a.minus (take a.m a.taps.now)) w a.src.now) (window_is c.before.before.before.before.before)
+    let a = c.args in
+    c.each.ensures.0 ∙ ap (λ (w : List Float). state (linear_phase a.odd a.minus (take a.m a.taps.now)) w a.src.now) (window_is c.before.before.before.before)
 
-moved_long : (c : tie.After-each) → length c.each.new.0 ≡ c.before.before.before.before.before.before.before.before.reach.result
-moved_long c = ap length (moved c) ∙ next_long c.before.before.before.before.before.before.before.before.before.before.before.before.before ∙ sym c.before.before.before.before.before.before.before.before.reach.ensures
+moved_long : (c : tie.After-each) → length c.each.new.delay ≡ c.reach-long.result
+moved_long c = ap length (moved c) ∙ next_long c.before.before.before.before.before.before.before.before.before.before.before ∙ sym c.reach-long.ensures
 
-reach-requires : tie.Need-reach-requires
-reach-requires c κs = (c.before.before.before.before.requires.0, omega (arith, c.before.before.before.before.requires.1))
+reach-requires : tie.Need-reach-long-requires
+reach-requires c κs = (c.requires.0, omega (arith, c.requires.1))
 
-array-borrow-prefix-window : tie.Need-array-borrow-prefix-window
-array-borrow-prefix-window c = omega (arith, c.reach.ensures, few_places c.before.before.before.before.before)
+array-borrow-prefix-window : tie.Need-slice_bounds-window-end
+array-borrow-prefix-window c = omega (arith, c.reach-long.ensures, few_places c.before.before.before.before.before)
 
-slice-aggregate-put-at-end : tie.Need-slice-aggregate-put-at-end
+slice-aggregate-put-at-end : tie.Need-slice_bounds-put_at_end-end
 slice-aggregate-put-at-end c = sym (copy_long c.before)
 
-slice-reshare-prefix-put-at-end : tie.Need-slice-reshare-prefix-put-at-end
-slice-reshare-prefix-put-at-end c = omega (arith, c.before.reach.ensures, few_places c.before.before.before.before.before.before, c.before.before.before.before.before.before.requires.3)
+slice-reshare-prefix-put-at-end : tie.Need-slice_bounds-put_at_end-end-2
+slice-reshare-prefix-put-at-end c = omega (arith, c.reach-long.ensures, few_places c.before.before.before.before.before.before, c.requires.3)
 
-slice-aggregate-put-at-end-2 : tie.Need-slice-aggregate-put-at-end-2
-slice-aggregate-put-at-end-2 c = sym (delay_long c.before.before)
+slice-aggregate-put-at-end-2 : tie.Need-slice_bounds-put_at_end-end-3
+slice-aggregate-put-at-end-2 c = sym (delay_long c.before)
 
-put-at-end-requires : tie.Need-put-at-end-requires
+put-at-end-requires : tie.Need-put_at_end-requires
 put-at-end-requires c κs = search rules
 
-array-borrow-prefix-window-2 : tie.Need-array-borrow-prefix-window-2
-array-borrow-prefix-window-2 c = omega (arith, length-append c.before.put-at-end.new.0 (drop c.before.before.before.before.reach.result (replicate 8 zero32)), copied_long c.before)
+array-borrow-prefix-window-2 : tie.Need-slice_bounds-window-end-2
+array-borrow-prefix-window-2 c = omega (arith, length-append c.put_at_end.new.span (drop c.reach-long.result (replicate 8 zero32)), copied_long c.before)
 
-slice-aggregate-each : tie.Need-slice-aggregate-each
+slice-aggregate-each : tie.Need-slice_bounds-each-end
 slice-aggregate-each c = sym (window_long c.before.before)
 
-slice-aggregate-each-2 : tie.Need-slice-aggregate-each-2
-slice-aggregate-each-2 c = sym (taps_long c.before.before.before.before.before.before.before.before.before.before.before)
+slice-aggregate-each-2 : tie.Need-slice_bounds-each-end-2
+slice-aggregate-each-2 c = sym (taps_long c.before.before.before.before.before.before.before.before.before)
 
 each-requires : tie.Need-each-requires
 each-requires c κs =
-    let s = c.before.before.before.before.before.before.before.before.before.before.before.before in
-    (omega (arith, taps_long s, s.requires.0), ap length (window_is c.before.before.before.before) ∙ kept_long s ∙ ap (reach s.args.odd) (sym (taps_long s)), s.requires.4)
+    let s = c.before.before.before.before.before.before.before.before.before.before in
+    (omega (arith, taps_long s, c.requires.0), ap length (window_is c.before.before.before) ∙ kept_long s ∙ ap (reach c.args.odd) (sym (taps_long s)), c.requires.4)
 
-slice-relend-prefix-put-at-end : tie.Need-slice-relend-prefix-put-at-end
-slice-relend-prefix-put-at-end c = omega (arith, c.before.before.before.before.before.before.before.before.before.before.before.reach.ensures, few_places c.before.before.before.before.before.before.before.before.before.before.before.before.before.before.before.before, c.before.before.before.before.before.before.before.before.before.before.before.before.before.before.before.before.requires.3)
+slice-relend-prefix-put-at-end : tie.Need-slice_bounds-put_at_end-end-4
+slice-relend-prefix-put-at-end c = omega (arith, c.reach-long.ensures, few_places c.before.before.before.before.before.before.before.before.before.before.before.before.before.before, c.requires.3)
 
-slice-aggregate-put-at-end-3 : tie.Need-slice-aggregate-put-at-end-3
-slice-aggregate-put-at-end-3 c = sym (delay_long c.before.before.before.before.before.before.before.before.before.before.before.before)
+slice-aggregate-put-at-end-3 : tie.Need-slice_bounds-put_at_end-end-5
+slice-aggregate-put-at-end-3 c = sym (delay_long c.before.before.before.before.before.before.before.before.before.before)
 
-array-share-prefix-window : tie.Need-array-share-prefix-window
+array-share-prefix-window : tie.Need-slice_bounds-window-end-3
 array-share-prefix-window c =
-    omega (arith, length-append c.before.before.before.before.each.new.0 (drop c.before.before.before.before.before.before.before.before.before.before.before.before.reach.result (c.before.before.before.before.before.before.before.before.before.put-at-end.new.0 ++ drop c.before.before.before.before.before.before.before.before.before.before.before.before.reach.result (replicate 8 zero32))), moved_long c.before.before.before.before)
+    omega (arith, length-append c.each.new.delay (drop c.reach-long.result (c.put_at_end.new.span ++ drop c.reach-long.result (replicate 8 zero32))), moved_long c.before.before.before.before)
 
-slice-aggregate-put-at-end-4 : tie.Need-slice-aggregate-put-at-end-4
-slice-aggregate-put-at-end-4 c = sym (ap length (take_at c.before.before.before.before.before.each.new.0 _ c.before.before.before.before.before.before.before.before.before.before.before.before.before.reach.result (moved_long c.before.before.before.before.before)) ∙ moved_long c.before.before.before.before.before)
+slice-aggregate-put-at-end-4 : tie.Need-slice_bounds-put_at_end-end-6
+slice-aggregate-put-at-end-4 c = sym (ap length (take_at c.each.new.delay _ c.reach-long.result (moved_long c.before.before.before.before.before)) ∙ moved_long c.before.before.before.before.before)
 
-put-at-end-requires-2 : tie.Need-put-at-end-requires-2
+put-at-end-requires-2 : tie.Need-put_at_end-requires-2
 put-at-end-requires-2 c κs = search rules
 
-same_length : tie.Need-same-length
+same_length : tie.Need-shape_of-delay
 same_length c = search rules
 
-same-length-2 : tie.Need-same-length-2
+same-length-2 : tie.Need-shape_of-span
 same-length-2 c = search rules
 
 returns : tie.Need-returns
 returns c =
-    let s = c.before.before.before.before.before.before.before.before.before.before.before.before.before.before.before.before.before.before.before.before.before in
-    let a = s.args in
+    let a = c.args in
     let d = a.delay.now in
-    let r = c.before.before.before.before.before.before.before.before.before.before.before.before.before.before.before.before in
     let e = c.before.before.before.before.before.before.before.before in
     let f = linear_phase a.odd a.minus (take a.m a.taps.now) in (
       ap₂ {C = List Float} ◌++◌
-          (put_there r.reach.result (take r.reach.result d) _ c.before.before.put-at-end2.new.0 (delay_long r) (ap length (take_at e.each.new.0 _ r.reach.result (moved_long e)) ∙ moved_long e) c.before.before.put-at-end2.ensures
-          ∙ take_at e.each.new.0 _ r.reach.result (moved_long e)
+          (put_there c.reach-long.result (take c.reach-long.result d) _ c.put_at_end-2.new.span (delay_long c.before.before.before.before.before.before.before.before.before.before.before.before.before.before) (ap length (take_at c.each.new.delay _ c.reach-long.result (moved_long e)) ∙ moved_long e) c.put_at_end-2.ensures
+          ∙ take_at c.each.new.delay _ c.reach-long.result (moved_long e)
           ∙ moved e)
-          (ap (λ (k : ℕ). drop k d) r.reach.ensures),
-      e.each.ensures.1 ∙ ap (λ (w : List Float). outs f w a.src.now) (window_is c.before.before.before.before.before.before.before.before.before.before.before.before.before),
+          (ap (λ (k : ℕ). drop k d) c.reach-long.ensures),
+      c.each.ensures.1 ∙ ap (λ (w : List Float). outs f w a.src.now) (window_is c.before.before.before.before.before.before.before.before.before.before.before.before),
     )
 
 pub held_spec : {M : Type 1} → statement M
-held_spec = tie.close (tie.spec reach-requires array-borrow-prefix-window slice-aggregate-put-at-end slice-reshare-prefix-put-at-end slice-aggregate-put-at-end-2 put-at-end-requires array-borrow-prefix-window-2 slice-aggregate-each slice-aggregate-each-2 each-requires slice-relend-prefix-put-at-end slice-aggregate-put-at-end-3 array-share-prefix-window slice-aggregate-put-at-end-4 put-at-end-requires-2 same_length same-length-2 returns)
+held_spec = tie.close (tie.spec
+    reach-requires
+    array-borrow-prefix-window
+    slice-aggregate-put-at-end
+    slice-reshare-prefix-put-at-end
+    slice-aggregate-put-at-end-2
+    put-at-end-requires
+    array-borrow-prefix-window-2
+    slice-aggregate-each
+    slice-aggregate-each-2
+    each-requires
+    slice-relend-prefix-put-at-end
+    slice-aggregate-put-at-end-3
+    array-share-prefix-window
+    slice-aggregate-put-at-end-4
+    put-at-end-requires-2
+    same_length
+    same-length-2
+    returns)

@@ -5,20 +5,25 @@ use native.Mathlib.Omega.{arith}
 use Rattle.linear_phase.proofs.brief.is_brief.Statement.{statement}
 use Rattle.linear_phase.proofs.brief.is_brief.Tie as tie
 
-returns : tie.Need-returns
+returns : tie.Need-returns-then-m-gt4
 returns c = λ e. absurd (true≢false (sym e))
 
-returns-2 : tie.Need-returns-2
-returns-2 c = λ e. omega (arith, c.before.if1.false)
+returns-2 : tie.Need-returns-then-m-eq1
+returns-2 c = λ e. omega (arith, c.if-m-gt4.false)
 
-returns-3 : tie.Need-returns-3
-returns-3 c = λ e. omega (arith, c.before.before.if1.false)
+returns-3 : tie.Need-returns-then-m-eq2
+returns-3 c = λ e. omega (arith, c.if-m-gt4.false)
 
-returns-4 : tie.Need-returns-4
-returns-4 c = λ e. omega (arith, c.before.before.before.if1.false)
+returns-4 : tie.Need-returns-then-m-eq3
+returns-4 c = λ e. omega (arith, c.if-m-gt4.false)
 
-returns-5 : tie.Need-returns-5
-returns-5 c = λ e. omega (arith, c.before.before.before.if1.false)
+returns-5 : tie.Need-returns
+returns-5 c = λ e. omega (arith, c.if-m-gt4.false)
 
-pub is-brief-spec : {M : Type 1} → statement M
-is-brief-spec = tie.close (tie.spec returns returns-2 returns-3 returns-4 returns-5)
+pub is_brief_spec : {M : Type 1} → statement M
+is_brief_spec = tie.close (tie.spec
+    returns
+    returns-2
+    returns-3
+    returns-4
+    returns-5)

@@ -2,7 +2,6 @@
 use mathlib.Core.Path.{◌≡◌, ap, ap₂, ◌∙◌}
 use mathlib.Core.List.{List, ◌++◌}
 use Prim.Native.Nat.{ℕ, ◌-◌}
-use native.Mathlib.Omega.{arith}
 use borrow.Author.Rules.{rules}
 use lib.ListN.{length, take, drop}
 use lib.Ieee.{Float}
@@ -13,62 +12,75 @@ use Rattle.linear_phase.proofs.few.two_eights.Statement.{statement}
 use Rattle.linear_phase.proofs.few.two_eights.Tie as tie
 
 -- the second group
-second : (c : tie.After-outputs-at2) → let a = c.before.before.before.before.before.before.before.before.before.args in let n = length a.span.now in
-    c.outputs-at2.new.0 ≡ window_values a.centre a.minus a.taps.now a.long (drop (n - 8) a.tape.now) 8
+second : (c : tie.After-outputs_at-2) → let a = c.args in let n = length a.span.now in
+    c.outputs_at-2.new.acc ≡ window_values a.centre a.minus a.taps.now a.long (drop (n - 8) a.tape.now) 8
 second c =
-    let a = c.before.before.before.before.before.before.before.before.before.args in
-    c.outputs-at2.ensures ∙ ap (λ (l : List Float). window_values a.centre a.minus a.taps.now a.long l 8) (rest a.tape.now (length a.span.now - 8))
+    let a = c.args in
+    c.outputs_at-2.ensures ∙ ap (λ (l : List Float). window_values a.centre a.minus a.taps.now a.long l 8) (rest a.tape.now (length a.span.now - 8))
 
-sub-last : tie.Need-overflow-sub-last
+sub-last : tie.Need-overflow_sub-last
 sub-last c = search rules
 
-slice-aggregate-outputs-at : tie.Need-slice-aggregate-outputs-at
+slice-aggregate-outputs-at : tie.Need-slice_bounds-outputs_at-end
 slice-aggregate-outputs-at c = search rules
 
-outputs-at-requires : tie.Need-outputs-at-requires
+outputs-at-requires : tie.Need-outputs_at-requires
 outputs-at-requires c κs = search rules
 
-slice-aggregate-outputs-at-2 : tie.Need-slice-aggregate-outputs-at-2
+slice-aggregate-outputs-at-2 : tie.Need-slice_bounds-outputs_at-end-2
 slice-aggregate-outputs-at-2 c = search rules
 
-mul-outputs-at : tie.Need-overflow-mul-outputs-at
+mul-outputs-at : tie.Need-offset_bounds-tape-last
 mul-outputs-at c = search rules
 
-sub-outputs-at : tie.Need-overflow-sub-outputs-at
+sub-outputs-at : tie.Need-slice_bounds-outputs_at-count
 sub-outputs-at c = search rules
 
-part-outputs-at-start : tie.Need-slice-bounds-outputs-at-start
+part-outputs-at-start : tie.Need-slice_bounds-outputs_at-start
 part-outputs-at-start c = search rules
 
-part-outputs-at-end : tie.Need-slice-bounds-outputs-at-end
+part-outputs-at-end : tie.Need-slice_bounds-outputs_at-end-3
 part-outputs-at-end c = search rules
 
-outputs-at-requires-2 : tie.Need-outputs-at-requires-2
+outputs-at-requires-2 : tie.Need-outputs_at-requires-2
 outputs-at-requires-2 c κs = search rules
 
-slice-aggregate-put-both : tie.Need-slice-aggregate-put-both
+slice-aggregate-put-both : tie.Need-slice_bounds-put_both-end
 slice-aggregate-put-both c = search rules
 
-slice-aggregate-put-both-2 : tie.Need-slice-aggregate-put-both-2
+slice-aggregate-put-both-2 : tie.Need-slice_bounds-put_both-end-2
 slice-aggregate-put-both-2 c = search rules
 
-put-both-requires : tie.Need-put-both-requires
+put-both-requires : tie.Need-put_both-requires
 put-both-requires c κs = search rules
 
-same_length : tie.Need-same-length
+same_length : tie.Need-shape_of-span
 same_length c = search rules
 
 returns : tie.Need-returns
 returns c =
-    let s = c.before.before.before.before.before.before.before.before.before.before.before.before.before.before.before.before in
-    let a = s.args in
+    let a = c.args in
     let n = length a.span.now in
-    let y = c.before.before.before.before.before.before.before.before.before.before.before.outputs-at in
+    let y = c.outputs_at in
     let z = c.before.before.before.before.before.before.before in
-    c.before.before.put_both.ensures
-    ∙ ap (λ (k : ℕ). take (n - k) y.new.0 ++ z.outputs-at2.new.0) (ap length (second z) ∙ values_long a.centre a.minus a.taps.now a.long (drop (n - 8) a.tape.now) 8)
+    c.put_both.ensures
+    ∙ ap (λ (k : ℕ). take (n - k) y.new.acc ++ c.outputs_at-2.new.acc) (ap length (second z) ∙ values_long a.centre a.minus a.taps.now a.long (drop (n - 8) a.tape.now) 8)
     ∙ ap₂ {C = List Float} (λ (l r : List Float). take (n - 8) l ++ r) y.ensures (second z)
-    ∙ two_groups a.centre a.minus a.taps.now a.long a.tape.now n 8 s.requires.2 s.requires.3
+    ∙ two_groups a.centre a.minus a.taps.now a.long a.tape.now n 8 c.requires.2 c.requires.3
 
-pub two-eights-spec : {M : Type 1} → statement M
-two-eights-spec = tie.close (tie.spec sub-last slice-aggregate-outputs-at outputs-at-requires slice-aggregate-outputs-at-2 mul-outputs-at sub-outputs-at part-outputs-at-start part-outputs-at-end outputs-at-requires-2 slice-aggregate-put-both slice-aggregate-put-both-2 put-both-requires same_length returns)
+pub two_eights_spec : {M : Type 1} → statement M
+two_eights_spec = tie.close (tie.spec
+    sub-last
+    slice-aggregate-outputs-at
+    outputs-at-requires
+    slice-aggregate-outputs-at-2
+    mul-outputs-at
+    sub-outputs-at
+    part-outputs-at-start
+    part-outputs-at-end
+    outputs-at-requires-2
+    slice-aggregate-put-both
+    slice-aggregate-put-both-2
+    put-both-requires
+    same_length
+    returns)

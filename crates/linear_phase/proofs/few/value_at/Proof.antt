@@ -8,38 +8,43 @@ use Rattle.linear_phase.proofs.Newest.{front_plain, front_centred}
 use Rattle.linear_phase.proofs.few.value_at.Statement.{statement}
 use Rattle.linear_phase.proofs.few.value_at.Tie as tie
 
-slice-aggregate-sum-with : tie.Need-slice-aggregate-sum-with
-slice-aggregate-sum-with c = sym (length-take-le _ _ (omega (arith, c.before.before.before.requires)))
+slice-aggregate-sum-with : tie.Need-slice_bounds-sum_with-end
+slice-aggregate-sum-with c = sym (length-take-le _ _ (omega (arith, c.requires)))
 
-mul-sum-with : tie.Need-overflow-mul-sum-with
+mul-sum-with : tie.Need-offset_bounds-line-long
 mul-sum-with c = search rules
 
-shared-slice-read-sum-with : tie.Need-shared-slice-read-sum-with
+shared-slice-read-sum-with : tie.Need-bounds-line-long
 shared-slice-read-sum-with c = search rules
 
-sum-with-requires : tie.Need-sum-with-requires
+sum-with-requires : tie.Need-sum_with-acc-requires
 sum-with-requires c κs =
-    let s = c.before.before.before.before in
-    let l = length-take-le s.args.long s.args.line.now (omega (arith, s.requires)) in
-    (s.requires.0, omega (arith, l, s.requires))
+    let l = length-take-le c.args.long c.args.line.now (omega (arith, c.requires)) in
+    (c.requires.0, omega (arith, l, c.requires))
 
-returns : tie.Need-returns
+returns : tie.Need-returns-then-not-centre
 returns c =
-    let s = c.before.before.before.before.before.before in
-    let a = s.args in
-    front_plain a.minus a.taps.now a.line.now a.long (omega (arith, s.requires)) _ c.before.sum-with.ensures a.centre (not-true a.centre c.if1.true)
+    let a = c.args in
+    front_plain a.minus a.taps.now a.line.now a.long (omega (arith, c.requires)) _ c.sum_with-acc.ensures a.centre (not-true a.centre c.if-not-centre.true-raw)
 
-mul-result : tie.Need-overflow-mul-result
+mul-result : tie.Need-offset_bounds-line-taps
 mul-result c = search rules
 
-shared-slice-read-result : tie.Need-shared-slice-read-result
+shared-slice-read-result : tie.Need-bounds-line-taps
 shared-slice-read-result c = search rules
 
-returns-2 : tie.Need-returns-2
+returns-2 : tie.Need-returns
 returns-2 c =
-    let s = c.before.before.before.before.before.before.before in
-    let a = s.args in
-    front_centred a.minus a.taps.now a.line.now a.long (omega (arith, s.requires)) _ c.before.before.sum-with.ensures a.centre (not-false a.centre c.before.if1.false) s.requires.1
+    let a = c.args in
+    front_centred a.minus a.taps.now a.line.now a.long (omega (arith, c.requires)) _ c.sum_with-acc.ensures a.centre (not-false a.centre c.if-not-centre.false-raw) c.requires.1
 
-pub value-at-spec : {M : Type 1} → statement M
-value-at-spec = tie.close (tie.spec slice-aggregate-sum-with mul-sum-with shared-slice-read-sum-with sum-with-requires returns mul-result shared-slice-read-result returns-2)
+pub value_at_spec : {M : Type 1} → statement M
+value_at_spec = tie.close (tie.spec
+    slice-aggregate-sum-with
+    mul-sum-with
+    shared-slice-read-sum-with
+    sum-with-requires
+    returns
+    mul-result
+    shared-slice-read-result
+    returns-2)

@@ -16,25 +16,29 @@ use Rattle.linear_phase.proofs.filter.padded.Tie as tie
 front_long : (c : tie.Start) → length (take (length c.args.taps.now) (replicate 23 zero32)) ≡ length c.args.taps.now
 front_long c = length-take-le _ _ c.requires
 
-array-borrow-prefix-own : tie.Need-array-borrow-prefix-own
+array-borrow-prefix-own : tie.Need-slice_bounds-own-end
 array-borrow-prefix-own c = search rules
 
-slice-aggregate-put-at-end : tie.Need-slice-aggregate-put-at-end
+slice-aggregate-put-at-end : tie.Need-slice_bounds-put_at_end-end
 slice-aggregate-put-at-end c = sym (front_long c.before.before)
 
-put-at-end-requires : tie.Need-put-at-end-requires
+put-at-end-requires : tie.Need-put_at_end-requires
 put-at-end-requires c κs = search rules
 
 returns : tie.Need-returns
 returns c =
     let s = c.before.before.before.before in
-    let n = length s.args.taps.now in
-    let fits : length s.args.taps.now ≤ length (take n (replicate 23 zero32)) = omega (arith, front_long s) in
+    let n = length c.args.taps.now in
+    let fits : length c.args.taps.now ≤ length (take n (replicate 23 zero32)) = omega (arith, front_long s) in
     ap (λ (l : List Float). l ++ drop n (replicate 23 zero32))
-    (put_over (take n (replicate 23 zero32)) s.args.taps.now c.before.put-at-end.new.0 (sym (front_long s)) (c.before.put-at-end.ensures ∙ ends_in _ _ fits))
-    ∙ ap (λ (l : List Float). s.args.taps.now ++ l) (drop_replicate n 23 zero32)
+    (put_over (take n (replicate 23 zero32)) c.args.taps.now c.put_at_end.new.span (sym (front_long s)) (c.put_at_end.ensures ∙ ends_in _ _ fits))
+    ∙ ap (λ (l : List Float). c.args.taps.now ++ l) (drop_replicate n 23 zero32)
 
-pub padded-spec : {M : Type 1} → statement M
-padded-spec =
+pub padded_spec : {M : Type 1} → statement M
+padded_spec =
     tie.close
-    (tie.spec array-borrow-prefix-own slice-aggregate-put-at-end put-at-end-requires returns)
+    (tie.spec
+    array-borrow-prefix-own
+    slice-aggregate-put-at-end
+    put-at-end-requires
+    returns)

@@ -4,7 +4,6 @@ use mathlib.Core.Bool.{false}
 use Prim.Native.Nat.{ℕ}
 use borrow.Author.Rules.{rules}
 use lib.ListN.{length}
-use Rattle.theory.specs.Sections.{state}
 use Rattle.refusal.specs.Outcome.{Outcome}
 use Rattle.refusal.proofs.Limits.{within}
 use Rattle.half_band.proofs.Choices.{chosen, second, third}
@@ -17,37 +16,43 @@ use Rattle.linear_phase.proofs.linear_phase_fir.block_at.Tie as tie
 abbrev lent_to : tie.Start → LinearPhaseFir
 lent_to s = phase_of s.args.m s.args.odd s.args.antisymmetric s.args.taps.now s.args.delay.now
 
-fine : (c : tie.Else1) → phase_refused (lent_to c.before.before.before.before) ≡ false
-fine c = sym c.before.outside.ensures ∙ c.if1.false
+fine : (c : tie.Else-outside) → phase_refused (lent_to c.before.before.before.before) ≡ false
+fine c = sym c.outside.ensures ∙ c.if-outside.false
 
 outside-requires : tie.Need-outside-requires
 outside-requires c κs = search rules
 
-returns : tie.Need-returns
-returns c = let e = sym c.before.outside.ensures ∙ c.if1.true in (chosen _ _ _ e, chosen _ _ _ e)
+returns : tie.Need-returns-then-outside
+returns c = let e = sym c.outside.ensures ∙ c.if-outside.true in (chosen _ _ _ e, chosen _ _ _ e)
 
-returns-2 : tie.Need-returns-2
+returns-2 : tie.Need-returns-then-src-span
 returns-2 c =
     let e = fine c.before in
-    let f = differ _ _ c.if2.true in
+    let f = differ _ _ c.if-src-span.true in
     (second _ _ _ _ _ e f, second _ _ _ _ _ e f)
 
-block-lent-requires : tie.Need-block-lent-requires
-block-lent-requires c κs = let b = within _ _ _ (fine c.before.before.before.before) in (b.least, b.most, search rules, search rules, sym c.before.before.before.if2.false)
+block-lent-requires : tie.Need-block_lent-requires
+block-lent-requires c κs = let b = within _ _ _ (fine c.before.before.before.before) in (b.least, b.most, search rules, search rules, sym c.if-src-span.false)
 
-same_length : tie.Need-same-length
+same_length : tie.Need-shape_of-span
 same_length c = search rules
 
-returns-3 : tie.Need-returns-3
+returns-3 : tie.Need-returns
 returns-3 c =
-    let o = c.before.before.block-lent in
-    let a = c.before.before.before.before.before.before.before.before.before.before.before.args in
+    let o = c.block_lent in
+    let a = c.args in
     let e = fine c.before.before.before.before.before.before.before in
-    let l = c.before.before.before.before.before.before.if2.false in
+    let l = c.if-src-span.false in
     let f = same_lengths (length a.src.now) (length a.span.now) l in (
       ap₂ {C = Outcome ℕ LinearPhaseFir} (λ (n : ℕ) (s : LinearPhaseFir). record { number = 0; value = n; state = s }) (same_length c ∙ sym l) o.ensures.0 ∙ third _ _ _ _ _ e f,
       o.ensures.1 ∙ third _ _ _ _ _ e f,
     )
 
-pub block-at-spec : {M : Type 1} → statement M
-block-at-spec = tie.close (tie.spec outside-requires returns returns-2 block-lent-requires same_length returns-3)
+pub block_at_spec : {M : Type 1} → statement M
+block_at_spec = tie.close (tie.spec
+    outside-requires
+    returns
+    returns-2
+    block-lent-requires
+    same_length
+    returns-3)

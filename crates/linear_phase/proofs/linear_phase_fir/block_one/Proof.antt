@@ -1,5 +1,4 @@
 -- `linear_phase::linear_phase_fir::block_one` meets its contract: the list of samples is the one.
-use native.Mathlib.Omega.{arith}
 use borrow.Author.Rules.{rules}
 use Rattle.linear_phase.specs.LinearPhaseFir.{phase_of}
 use Rattle.linear_phase.specs.declared.linear_phase_fir.LinearPhaseFir.{LinearPhaseFir}
@@ -10,27 +9,33 @@ use Rattle.linear_phase.proofs.linear_phase_fir.block_one.Tie as tie
 abbrev lent_to : tie.Start → LinearPhaseFir
 lent_to s = phase_of s.args.m s.args.odd s.args.antisymmetric s.args.taps.now s.args.delay.now
 
-shared-slice-read-process-lent : tie.Need-shared-slice-read-process-lent
+shared-slice-read-process-lent : tie.Need-bounds-src-0
 shared-slice-read-process-lent c = search rules
 
-process-lent-requires : tie.Need-process-lent-requires
+process-lent-requires : tie.Need-process_lent-y-requires
 process-lent-requires c κs = search rules
 
-slice-write-span : tie.Need-slice-write-span
+slice-write-span : tie.Need-bounds-span-0
 slice-write-span c = search rules
 
-same_length : tie.Need-same-length
+same_length : tie.Need-shape_of-delay
 same_length c = search rules
 
-same-length-2 : tie.Need-same-length-2
+same-length-2 : tie.Need-shape_of-span
 same-length-2 c = search rules
 
 returns : tie.Need-returns
 returns c =
     let s = c.before.before.before.before.before.before.before.before.before in
-    let v = s.args.src.now in
-    let o = c.before.before.process-lent in
-    (one_state (lent_to s) v _ s.requires.5 o.ensures.0, one_out (lent_to s) v s.args.span.now _ s.requires.5 s.requires.4 o.ensures.1)
+    let v = c.args.src.now in
+    let o = c.process_lent-y in
+    (one_state (lent_to s) v _ c.requires.5 o.ensures.0, one_out (lent_to s) v c.args.span.now _ c.requires.5 c.requires.4 o.ensures.1)
 
-pub block-one-spec : {M : Type 1} → statement M
-block-one-spec = tie.close (tie.spec shared-slice-read-process-lent process-lent-requires slice-write-span same_length same-length-2 returns)
+pub block_one_spec : {M : Type 1} → statement M
+block_one_spec = tie.close (tie.spec
+    shared-slice-read-process-lent
+    process-lent-requires
+    slice-write-span
+    same_length
+    same-length-2
+    returns)

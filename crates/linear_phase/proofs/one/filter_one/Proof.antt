@@ -6,17 +6,21 @@ use Rattle.linear_phase.proofs.WholeList.{reaches}
 use Rattle.linear_phase.proofs.one.filter_one.Statement.{statement}
 use Rattle.linear_phase.proofs.one.filter_one.Tie as tie
 
-value-with-requires : tie.Need-value-with-requires
+value-with-requires : tie.Need-value_with-y-requires
 value-with-requires c κs = search rules
 
-move-in-requires : tie.Need-move-in-requires
-move-in-requires c κs = omega (arith, (reaches c.before.before.before.before.before.args.odd (length c.before.before.before.before.before.args.taps.now) c.before.before.before.before.before.requires.0).least, c.before.before.before.before.before.requires)
+move-in-requires : tie.Need-move_in-requires
+move-in-requires c κs = omega (arith, (reaches c.args.odd (length c.args.taps.now) c.requires.0).least, c.requires)
 
-same_length : tie.Need-same-length
+same_length : tie.Need-shape_of-delay
 same_length c = search rules
 
 returns : tie.Need-returns
-returns c = (c.before.before.Move-in.ensures, c.before.before.before.before.value-with.ensures)
+returns c = (c.move_in.ensures, c.value_with-y.ensures)
 
-pub filter-one-spec : {M : Type 1} → statement M
-filter-one-spec = tie.close (tie.spec value-with-requires move-in-requires same_length returns)
+pub filter_one_spec : {M : Type 1} → statement M
+filter_one_spec = tie.close (tie.spec
+    value-with-requires
+    move-in-requires
+    same_length
+    returns)

@@ -18,26 +18,32 @@ long c = omega (arith, (reaches c.args.odd (length c.args.taps.now) c.requires.0
 inside : (c : tie.Start) → c.args.odd ≡ true → length c.args.taps.now < length c.args.delay.now
 inside c e = omega (arith, c.requires, reach_odd c.args.odd (length c.args.taps.now) e)
 
-sum-with-requires : tie.Need-sum-with-requires
-sum-with-requires c κs = (c.before.before.requires.0, long c.before.before)
+sum-with-requires : tie.Need-sum_with-acc-requires
+sum-with-requires c κs = (c.requires.0, long c.before.before)
 
-returns : tie.Need-returns
-returns c = c.before.sum-with.ensures ∙ value_antisymmetric _ _ _ _ c.if1.true
+returns : tie.Need-returns-then-antisymmetric
+returns c = c.sum_with-acc.ensures ∙ value_antisymmetric _ _ _ _ c.if-antisymmetric.true
 
-mul-result : tie.Need-overflow-mul-result
+mul-result : tie.Need-offset_bounds-delay-taps
 mul-result c = search rules
 
-shared-slice-read-result : tie.Need-shared-slice-read-result
-shared-slice-read-result c = inside c.before.before.before.before.before.before c.before.if2.true
+shared-slice-read-result : tie.Need-bounds-delay-taps
+shared-slice-read-result c = inside c.before.before.before.before.before.before c.if-odd.true
 
-returns-2 : tie.Need-returns-2
+returns-2 : tie.Need-returns-then-odd
 returns-2 c =
-    let a = c.before.before.before.before.before.before.args in
-    ap₂ {C = Float} (add binary32) c.before.before.before.sum-with.ensures (place a.delay.now a.x (length a.taps.now) (inside c.before.before.before.before.before.before c.before.if2.true))
-    ∙ value_centre _ _ _ _ c.before.if2.true c.before.before.if1.false
+    let a = c.args in
+    ap₂ {C = Float} (add binary32) c.sum_with-acc.ensures (place a.delay.now a.x (length a.taps.now) (inside c.before.before.before.before.before.before c.if-odd.true))
+    ∙ value_centre _ _ _ _ c.if-odd.true c.if-antisymmetric.false
 
-returns-3 : tie.Need-returns-3
-returns-3 c = c.before.before.sum-with.ensures ∙ value_even _ _ _ _ c.if2.false
+returns-3 : tie.Need-returns
+returns-3 c = c.sum_with-acc.ensures ∙ value_even _ _ _ _ c.if-odd.false
 
-pub value-with-spec : {M : Type 1} → statement M
-value-with-spec = tie.close (tie.spec sum-with-requires returns mul-result shared-slice-read-result returns-2 returns-3)
+pub value_with_spec : {M : Type 1} → statement M
+value_with_spec = tie.close (tie.spec
+    sum-with-requires
+    returns
+    mul-result
+    shared-slice-read-result
+    returns-2
+    returns-3)

@@ -13,13 +13,13 @@ own : (odd : Bool) → odd ≡ odd && not false
 own true = refl
 own false = refl
 
-returns : tie.Need-returns
+returns : tie.Need-returns-then-antisymmetric
 unfolding has_centre
-returns c = let o = c.before.args.odd in none o ∙ ap (λ (m : Bool). o && not m) (sym c.if1.true)
+returns c = let o = c.args.odd in none o ∙ ap (λ (m : Bool). o && not m) (sym c.if-antisymmetric.true)
 
-returns-2 : tie.Need-returns-2
+returns-2 : tie.Need-returns
 unfolding has_centre
-returns-2 c = let o = c.before.args.odd in own o ∙ ap (λ (m : Bool). o && not m) (sym c.if1.false)
+returns-2 c = let o = c.args.odd in own o ∙ ap (λ (m : Bool). o && not m) (sym c.if-antisymmetric.false)
 
-pub has-centre-spec : {M : Type 1} → statement M
-has-centre-spec = tie.close (tie.spec returns returns-2)
+pub has_centre_spec : {M : Type 1} → statement M
+has_centre_spec = tie.close (tie.spec returns returns-2)

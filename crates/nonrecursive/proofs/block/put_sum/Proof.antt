@@ -1,5 +1,5 @@
 -- `put_sum` meets its contract, case by case.
-use mathlib.Core.Path.{◌≡◌, refl, sym}
+use mathlib.Core.Path.{refl, sym}
 use native.Mathlib.Nat.{add-zero}
 use native.Mathlib.Omega.{arith}
 use borrow.Author.Rules.{rules}
@@ -10,36 +10,36 @@ use Rattle.nonrecursive.specs.Tape.{put_all}
 use Rattle.nonrecursive.proofs.block.put_sum.Statement.{statement}
 use Rattle.nonrecursive.proofs.block.put_sum.Tie as tie
 
-enum_told : tie.Need-enum-told
+enum_told : tie.Need-enum_told-1
 enum_told c = search rules
 
-enum-known-sum : tie.Need-enum-known-sum
+enum-known-sum : tie.Need-enum_known-sum
 enum-known-sum c = search rules
 
-mul-y : tie.Need-overflow-mul-y
+mul-y : tie.Need-offset_bounds-dst-at
 mul-y c = search rules
 
-slice-set-from-y : tie.Need-slice-set-from-y
+slice-set-from-y : tie.Need-bounds-dst-at
 slice-set-from-y c = search rules
 
-add-result : tie.Need-overflow-add-result
+add-result : tie.Need-overflow_add-result
 add-result c = search rules
 
-returns : tie.Need-returns
+returns : tie.Need-returns-in-Nothing
 unfolding put_all
-returns c = rw c.enum_told.given.1 (refl, sym (add-zero _))
+returns c = rw c.in-Nothing.is (refl, sym (add-zero _))
 
-same_length : tie.Need-same-length
+same_length : tie.Need-shape_of-dst
 same_length c = search rules
 
-returns-2 : tie.Need-returns-2
+returns-2 : tie.Need-returns-in-Value
 unfolding put_all
 returns-2 c =
-    let f : SFits w32 c.before.sum.given.0.0 = record { sfits = omega arith } in
-    rw (c.before.sum.given.1, to_z-of_z f) (refl, refl)
+    let f : SFits w32 c.in-Value.y = record { sfits = omega arith } in
+    rw (c.in-Value.is, to_z-of_z f) (refl, refl)
 
-pub put-sum-spec : {M : Type 1} → statement M
-put-sum-spec =
+pub put_sum_spec : {M : Type 1} → statement M
+put_sum_spec =
     tie.close
     (tie.spec
     enum_told

@@ -35,20 +35,24 @@ by_parts thinning.Neighbours N r counter = go (stages_ok N) (factor_ok r) (power
 valid-requires : tie.Need-valid-requires
 valid-requires c κs = search rules
 
-returns : tie.Need-returns
+returns : tie.Need-returns-then-not-valid
 returns c =
-    let a = c.before.before.args in
-    let v : C.valid_at a.stages a.r a.sample-counter ≡ false = sym c.before.valid.ensures ∙ not-true _ c.if1.true in
-    sym (by_parts a.thinning a.stages a.r a.sample-counter ∙ ap (λ (b : Bool). b && factor_for a.thinning a.r) v)
+    let a = c.args in
+    let v : C.valid_at a.stages a.r a.sample_counter ≡ false = sym c.valid.ensures ∙ not-true _ c.if-not-valid.true-raw in
+    sym (by_parts a.thinning a.stages a.r a.sample_counter ∙ ap (λ (b : Bool). b && factor_for a.thinning a.r) v)
 
-factor-for-requires : tie.Need-factor-for-requires
+factor-for-requires : tie.Need-factor_for-requires
 factor-for-requires c κs = search rules
 
-returns-2 : tie.Need-returns-2
+returns-2 : tie.Need-returns
 returns-2 c =
-    let a = c.before.before.before.args in
-    let v : C.valid_at a.stages a.r a.sample-counter ≡ true = sym c.before.before.valid.ensures ∙ not-false _ c.before.if1.false in
-    c.factor-for.ensures ∙ sym (by_parts a.thinning a.stages a.r a.sample-counter ∙ ap (λ (b : Bool). b && factor_for a.thinning a.r) v)
+    let a = c.args in
+    let v : C.valid_at a.stages a.r a.sample_counter ≡ true = sym c.valid.ensures ∙ not-false _ c.if-not-valid.false-raw in
+    c.factor_for.ensures ∙ sym (by_parts a.thinning a.stages a.r a.sample_counter ∙ ap (λ (b : Bool). b && factor_for a.thinning a.r) v)
 
-pub thinning-valid-spec : {M : Type 1} → statement M
-thinning-valid-spec = tie.close (tie.spec valid-requires returns factor-for-requires returns-2)
+pub thinning_valid_spec : {M : Type 1} → statement M
+thinning_valid_spec = tie.close (tie.spec
+    valid-requires
+    returns
+    factor-for-requires
+    returns-2)

@@ -14,22 +14,27 @@ use Rattle.parking.proofs.entries.put_delay.Tie as tie
 put16-requires : tie.Need-put16-requires
 put16-requires c κs = search rules
 
-add-put-i16s : tie.Need-overflow-add-put-i16s
+add-put-i16s : tie.Need-overflow_add-at
 add-put-i16s c = search rules
 
-put-i16s-requires : tie.Need-put-i16s-requires
+put-i16s-requires : tie.Need-put_i16s-requires
 put-i16s-requires c κs = search rules
 
-same_length : tie.Need-same-length
+same_length : tie.Need-shape_of-span
 same_length c = search rules
 
 returns : tie.Need-returns
 returns c =
-    let s = c.before.before.before.before.before.before.before.before.before.args in
+    let s = c.args in
     let xs : List ℕ = joined i16_bytes (take s.n s.delay.now) in
     let l : length xs ≡ 2 * s.n = joined_taken i16_bytes 2 (λ x. refl) s.n s.delay.now (omega arith) in
-    laid_two s.at (s.at + 2) (bytes16 s.wait) xs s.span.now _ _ c.before.before.before.before.before.before.put16.ensures c.before.before.put-i16s.ensures refl (omega arith)
+    laid_two s.at (s.at + 2) (bytes16 s.wait) xs s.span.now _ _ c.put16.ensures c.put_i16s.ensures refl (omega arith)
 
-pub put-delay-spec : {M : Type 1} → statement M
-put-delay-spec =
-    tie.close (tie.spec put16-requires add-put-i16s put-i16s-requires same_length returns)
+pub put_delay_spec : {M : Type 1} → statement M
+put_delay_spec =
+    tie.close (tie.spec
+    put16-requires
+    add-put-i16s
+    put-i16s-requires
+    same_length
+    returns)

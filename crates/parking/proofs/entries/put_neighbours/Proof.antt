@@ -14,24 +14,24 @@ use Rattle.parking.proofs.entries.put_neighbours.Tie as tie
 put16-requires : tie.Need-put16-requires
 put16-requires c κs = search rules
 
-add-put-i32s : tie.Need-overflow-add-put-i32s
+add-put-i32s : tie.Need-overflow_add-at
 add-put-i32s c = search rules
 
-put-i32s-requires : tie.Need-put-i32s-requires
+put-i32s-requires : tie.Need-put_i32s-requires
 put-i32s-requires c κs = search rules
 
-same_length : tie.Need-same-length
+same_length : tie.Need-shape_of-span
 same_length c = search rules
 
 returns : tie.Need-returns
 returns c =
-    let s = c.before.before.before.before.before.before.before.before.before.args in
+    let s = c.args in
     let xs : List ℕ = joined i32_bytes (take s.n s.neighbours.now) in
     let l : length xs ≡ 4 * s.n = joined_taken i32_bytes 4 (λ x. refl) s.n s.neighbours.now (omega arith) in
-    laid_two s.at (s.at + 2) (bytes16 s.place) xs s.span.now _ _ c.before.before.before.before.before.before.put16.ensures c.before.before.put-i32s.ensures refl (omega arith)
+    laid_two s.at (s.at + 2) (bytes16 s.place) xs s.span.now _ _ c.put16.ensures c.put_i32s.ensures refl (omega arith)
 
-pub put-neighbours-spec : {M : Type 1} → statement M
-put-neighbours-spec =
+pub put_neighbours_spec : {M : Type 1} → statement M
+put_neighbours_spec =
     tie.close
     (tie.spec
     put16-requires

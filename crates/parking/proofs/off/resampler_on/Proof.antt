@@ -4,7 +4,6 @@ use lib.Dec.{eqb}
 use borrow.Author.Tests.{eq-eqb, ne_eqb}
 use mathlib.Core.Bool.{true, false}
 use mathlib.Core.Path.{◌≡◌}
-use native.Mathlib.Omega.{arith}
 use borrow.Author.Rules.{rules}
 use Rattle.parking.proofs.off.resampler_on.Statement.{statement}
 use Rattle.parking.proofs.off.resampler_on.Tie as tie
@@ -12,19 +11,19 @@ use Rattle.parking.proofs.off.resampler_on.Tie as tie
 zeros-requires : tie.Need-zeros-requires
 zeros-requires c κs = search rules
 
-returns : tie.Need-returns
+returns : tie.Need-returns-then-p-eq0
 unfolding resampler_on
 returns c =
-    let s = c.before.before.before.args in
-    let off : eqb s.p.phases 0 ≡ true = eq-eqb s.p.phases 0 c.before.if1.true in
+    let s = c.args in
+    let off : eqb s.p.phases 0 ≡ true = eq-eqb s.p.phases 0 c.if-p-eq0.true in
     rw off c.zeros.ensures
 
-returns-2 : tie.Need-returns-2
+returns-2 : tie.Need-returns
 unfolding resampler_on
 returns-2 c =
-    let s = c.before.before.args in
-    let on : eqb s.p.phases 0 ≡ false = ne_eqb s.p.phases 0 c.if1.false in
+    let s = c.args in
+    let on : eqb s.p.phases 0 ≡ false = ne_eqb s.p.phases 0 c.if-p-eq0.false in
     rw on
 
-pub resampler-on-spec : {M : Type 1} → statement M
-resampler-on-spec = tie.close (tie.spec zeros-requires returns returns-2)
+pub resampler_on_spec : {M : Type 1} → statement M
+resampler_on_spec = tie.close (tie.spec zeros-requires returns returns-2)

@@ -9,13 +9,12 @@ use Rattle.parking.proofs.put.put16.Tie as tie
 lay16-requires : tie.Need-lay16-requires
 lay16-requires c κs = search rules
 
-same_length : tie.Need-same-length
+same_length : tie.Need-shape_of-span
 same_length c = search rules
 
 returns : tie.Need-returns
 returns c =
-    let s = c.before.before.before.before.before in
-    c.before.before.lay16.ensures ∙ laid_in_lem s.args.at (bytes16 s.args.n) s.args.span.now s.requires
+    c.lay16.ensures ∙ laid_in_lem c.args.at (bytes16 c.args.n) c.args.span.now c.requires
 
-pub put16-spec : {M : Type 1} → statement M
-put16-spec = tie.close (tie.spec lay16-requires same_length returns)
+pub put16_spec : {M : Type 1} → statement M
+put16_spec = tie.close (tie.spec lay16-requires same_length returns)

@@ -9,13 +9,12 @@ use Rattle.parking.proofs.put.put32.Tie as tie
 lay32-requires : tie.Need-lay32-requires
 lay32-requires c κs = search rules
 
-same_length : tie.Need-same-length
+same_length : tie.Need-shape_of-span
 same_length c = search rules
 
 returns : tie.Need-returns
 returns c =
-    let s = c.before.before.before.before.before in
-    c.before.before.lay32.ensures ∙ laid_in_lem s.args.at (bytes32 s.args.n) s.args.span.now s.requires
+    c.lay32.ensures ∙ laid_in_lem c.args.at (bytes32 c.args.n) c.args.span.now c.requires
 
-pub put32-spec : {M : Type 1} → statement M
-put32-spec = tie.close (tie.spec lay32-requires same_length returns)
+pub put32_spec : {M : Type 1} → statement M
+put32_spec = tie.close (tie.spec lay32-requires same_length returns)

@@ -3,22 +3,21 @@ use mathlib.Core.List.{[], ◌∷◌}
 use mathlib.Core.Path.{sym}
 use Prim.Native.Nat.{ℕ}
 use lib.ListN.{get_or-eq_default}
-use Rattle.parking.specs.Entries.{window_of}
 use borrow.Author.Rules.{rules}
 use Rattle.parking.proofs.settings.window.Statement.{statement}
 use Rattle.parking.proofs.settings.window.Tie as tie
 
-mul-result : tie.Need-overflow-mul-result
+mul-result : tie.Need-offset_bounds-k
 mul-result c = search rules
 
-array-read-result : tie.Need-array-read-result
-array-read-result c = search rules
+bounds : tie.Need-bounds-k
+bounds c = search rules
 
-returns : tie.Need-returns
+returns : tie.Need-returns-then-k-lt-MOST_STAGES
 returns c = search rules
 
-returns-2 : tie.Need-returns-2
-returns-2 c = sym (get_or-eq_default {A = ℕ} (12 ∷ 16 ∷ 20 ∷ 40 ∷ 92 ∷ []) 0 c.if1.false)
+returns-2 : tie.Need-returns
+returns-2 c = sym (get_or-eq_default {A = ℕ} (12 ∷ 16 ∷ 20 ∷ 40 ∷ 92 ∷ []) 0 c.if-k-lt-MOST_STAGES.false)
 
-pub window-spec : {M : Type 1} → statement M
-window-spec = tie.close (tie.spec mul-result array-read-result returns returns-2)
+pub window_spec : {M : Type 1} → statement M
+window_spec = tie.close (tie.spec mul-result bounds returns returns-2)

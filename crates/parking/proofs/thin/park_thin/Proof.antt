@@ -19,65 +19,64 @@ use borrow.Author.Rules.{rules}
 use Rattle.parking.proofs.thin.park_thin.Statement.{statement}
 use Rattle.parking.proofs.thin.park_thin.Tie as tie
 
-cic-arrays-requires : tie.Need-cic-arrays-requires
+cic-arrays-requires : tie.Need-cic_arrays-requires
 cic-arrays-requires c κs = search rules
 
-fir-arrays-requires : tie.Need-fir-arrays-requires
+fir-arrays-requires : tie.Need-fir_arrays-requires
 fir-arrays-requires c κs = search rules
 
-half-band-arrays-requires : tie.Need-half-band-arrays-requires
+half-band-arrays-requires : tie.Need-half_band_arrays-requires
 half-band-arrays-requires c κs = search rules
 
-resampler-arrays-requires : tie.Need-resampler-arrays-requires
+resampler-arrays-requires : tie.Need-resampler_arrays-requires
 resampler-arrays-requires c κs = search rules
 
-thin-len-requires : tie.Need-thin-len-requires
+thin-len-requires : tie.Need-thin_len-n-requires
 thin-len-requires c κs = search rules
 
-returns : tie.Need-returns
+returns : tie.Need-returns-then-span-n
 unfolding K.sheet_answer K.sheet_span
 returns c =
-    let s = c.before.before.before.before.before.before.before.args in
+    let s = c.args in
     let sheet : List ℕ = P.parked present (E.thin_entries s.d s.neighbours.now s.f s.s s.p s.cuts) in
-    let n : c.before.thin-len.result ≡ length sheet = c.before.thin-len.ensures in
+    let n : c.thin_len-n.result ≡ length sheet = c.thin_len-n.ensures in
     let o = s.span.now in
-    let t : length o < c.before.thin-len.result = c.if1.true in
+    let t : length o < c.thin_len-n.result = c.if-span-n.true in
     let h : leb (length sheet) (length o) ≡ false = lt-leb (length sheet) (length o) (omega arith) in
     rw h (refl, refl)
 
-put-thin-line-requires : tie.Need-put-thin-line-requires
+put-thin-line-requires : tie.Need-put_thin_line-requires
 put-thin-line-requires c κs =
-    let t = c.before.before.before.before.before.before.before.before in
-    let s = t.args in
+    let s = c.args in
     let a : Arrays s.d s.f s.s s.p = record {
-      integrators = c.before.before.before.before.before.before.cic-arrays.ensures.0;
-      combs = c.before.before.before.before.before.before.cic-arrays.ensures.1;
-      taps = c.before.before.before.before.before.fir-arrays.ensures.0;
-      fir-delay = c.before.before.before.before.before.fir-arrays.ensures.1;
-      delays = c.before.before.before.before.half-band-arrays.ensures.0;
-      held = c.before.before.before.before.half-band-arrays.ensures.1;
-      counts = c.before.before.before.before.half-band-arrays.ensures.2;
-      delay = c.before.before.before.resampler-arrays.ensures.0;
-      prototype = c.before.before.before.resampler-arrays.ensures.1;
+      integrators = c.cic_arrays.ensures.0;
+      combs = c.cic_arrays.ensures.1;
+      taps = c.fir_arrays.ensures.0;
+      fir_delay = c.fir_arrays.ensures.1;
+      delays = c.half_band_arrays.ensures.0;
+      held = c.half_band_arrays.ensures.1;
+      counts = c.half_band_arrays.ensures.2;
+      delay = c.resampler_arrays.ensures.0;
+      prototype = c.resampler_arrays.ensures.1;
     } in
-    (t.requires.0, t.requires.1, thin_room s.d s.neighbours.now s.f s.s s.p s.cuts a t.requires.1 t.requires.0 (length s.span.now) c.before.before.thin-len.result c.before.before.thin-len.ensures c.before.if1.false)
+    (c.requires.0, c.requires.1, thin_room s.d s.neighbours.now s.f s.s s.p s.cuts a c.requires.1 c.requires.0 (length s.span.now) c.thin_len-n.result c.thin_len-n.ensures c.if-span-n.false)
 
-same_length : tie.Need-same-length
+same_length : tie.Need-shape_of-span
 same_length c = search rules
 
-returns-2 : tie.Need-returns-2
+returns-2 : tie.Need-returns
 unfolding K.sheet_answer K.sheet_span
 returns-2 c =
-    let s = c.before.before.before.before.before.before.before.before.before.before.before.args in
+    let s = c.args in
     let sheet : List ℕ = P.parked present (E.thin_entries s.d s.neighbours.now s.f s.s s.p s.cuts) in
-    let n : c.before.before.before.before.before.thin-len.result ≡ length sheet = c.before.before.before.before.before.thin-len.ensures in
+    let n : c.thin_len-n.result ≡ length sheet = c.thin_len-n.ensures in
     let o = s.span.now in
-    let t : c.before.before.before.before.before.thin-len.result ≤ length o = c.before.before.before.before.if1.false in
+    let t : c.thin_len-n.result ≤ length o = c.if-span-n.false in
     let h : leb (length sheet) (length o) ≡ true = le-leb (length sheet) (length o) (omega arith) in
-    rw h (ap {B = Answer ℕ} (λ (k : ℕ). record { number = 0; value = k }) n, c.before.before.put-thin-line.ensures ∙ laid_front sheet o)
+    rw h (ap {B = Answer ℕ} (λ (k : ℕ). record { number = 0; value = k }) n, c.put_thin_line.ensures ∙ laid_front sheet o)
 
-pub park-thin-spec : {M : Type 1} → statement M
-park-thin-spec =
+pub park_thin_spec : {M : Type 1} → statement M
+park_thin_spec =
     tie.close
     (tie.spec
     cic-arrays-requires

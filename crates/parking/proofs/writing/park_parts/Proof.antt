@@ -21,80 +21,80 @@ use borrow.Author.Rules.{rules}
 use Rattle.parking.proofs.writing.park_parts.Statement.{statement}
 use Rattle.parking.proofs.writing.park_parts.Tie as tie
 
-cic-arrays-requires : tie.Need-cic-arrays-requires
+cic-arrays-requires : tie.Need-cic_arrays-requires
 cic-arrays-requires c κs = search rules
 
-fir-arrays-requires : tie.Need-fir-arrays-requires
+fir-arrays-requires : tie.Need-fir_arrays-requires
 fir-arrays-requires c κs = search rules
 
-half-band-arrays-requires : tie.Need-half-band-arrays-requires
+half-band-arrays-requires : tie.Need-half_band_arrays-requires
 half-band-arrays-requires c κs = search rules
 
-resampler-arrays-requires : tie.Need-resampler-arrays-requires
+resampler-arrays-requires : tie.Need-resampler_arrays-requires
 resampler-arrays-requires c κs = search rules
 
-settings-in-requires : tie.Need-settings-in-requires
+settings-in-requires : tie.Need-settings_in-requires
 settings-in-requires c κs = search rules
 
-sheet-bytes-requires : tie.Need-sheet-bytes-requires
-sheet-bytes-requires c κs = subst InLimits (sym c.settings-in.ensures) c.before.before.before.before.before.before.requires
+sheet-bytes-requires : tie.Need-sheet_bytes-n-requires
+sheet-bytes-requires c κs = subst InLimits (sym c.settings_in.ensures) c.requires
 
-returns : tie.Need-returns
+returns : tie.Need-returns-then-span-n
 unfolding K.sheet_answer K.sheet_span
 returns c =
-    let s = c.before.before.before.before.before.before.before.before.args in
+    let s = c.args in
     let a : Arrays s.d s.f s.s s.p = record {
-      integrators = c.before.before.before.before.before.before.cic-arrays.ensures.0;
-      combs = c.before.before.before.before.before.before.cic-arrays.ensures.1;
-      taps = c.before.before.before.before.before.fir-arrays.ensures.0;
-      fir-delay = c.before.before.before.before.before.fir-arrays.ensures.1;
-      delays = c.before.before.before.before.half-band-arrays.ensures.0;
-      held = c.before.before.before.before.half-band-arrays.ensures.1;
-      counts = c.before.before.before.before.half-band-arrays.ensures.2;
-      delay = c.before.before.before.resampler-arrays.ensures.0;
-      prototype = c.before.before.before.resampler-arrays.ensures.1;
+      integrators = c.cic_arrays.ensures.0;
+      combs = c.cic_arrays.ensures.1;
+      taps = c.fir_arrays.ensures.0;
+      fir_delay = c.fir_arrays.ensures.1;
+      delays = c.half_band_arrays.ensures.0;
+      held = c.half_band_arrays.ensures.1;
+      counts = c.half_band_arrays.ensures.2;
+      delay = c.resampler_arrays.ensures.0;
+      prototype = c.resampler_arrays.ensures.1;
     } in
     let sheet : List ℕ = P.parked present (E.entries_of s.d s.f s.s s.p s.cuts) in
-    let n : c.before.sheet-bytes.result ≡ length sheet = c.before.sheet-bytes.ensures ∙ ap (λ (q : P.Settings). 58 + S.sum (P.sizes q)) c.before.before.settings-in.ensures ∙ sym (sheet_long s.d s.f s.s s.p s.cuts a c.before.before.before.before.before.before.before.before.requires) in
+    let n : c.sheet_bytes-n.result ≡ length sheet = c.sheet_bytes-n.ensures ∙ ap (λ (q : P.Settings). 58 + S.sum (P.sizes q)) c.settings_in.ensures ∙ sym (sheet_long s.d s.f s.s s.p s.cuts a c.requires) in
     let o = s.span.now in
-    let t : length o < c.before.sheet-bytes.result = c.if1.true in
+    let t : length o < c.sheet_bytes-n.result = c.if-span-n.true in
     let h : leb (length sheet) (length o) ≡ false = lt-leb (length sheet) (length o) (omega arith) in
     rw h (refl, refl)
 
-put-line-requires : tie.Need-put-line-requires
+put-line-requires : tie.Need-put_line-requires
 unfolding S.sum P.sizes E.settings_in
 put-line-requires c κs =
-    let e = c.before.before.sheet-bytes.ensures ∙ ap (λ (q : P.Settings). 58 + S.sum (P.sizes q)) c.before.before.before.settings-in.ensures in
-    let t = c.before.if1.false in
-    (c.before.before.before.before.before.before.before.before.before.requires, omega arith)
+    let e = c.sheet_bytes-n.ensures ∙ ap (λ (q : P.Settings). 58 + S.sum (P.sizes q)) c.settings_in.ensures in
+    let t = c.if-span-n.false in
+    (c.requires, omega arith)
 
-same_length : tie.Need-same-length
+same_length : tie.Need-shape_of-span
 same_length c = search rules
 
-returns-2 : tie.Need-returns-2
+returns-2 : tie.Need-returns
 unfolding K.sheet_answer K.sheet_span
 returns-2 c =
-    let s = c.before.before.before.before.before.before.before.before.before.before.before.before.args in
+    let s = c.args in
     let a : Arrays s.d s.f s.s s.p = record {
-      integrators = c.before.before.before.before.before.before.before.before.before.before.cic-arrays.ensures.0;
-      combs = c.before.before.before.before.before.before.before.before.before.before.cic-arrays.ensures.1;
-      taps = c.before.before.before.before.before.before.before.before.before.fir-arrays.ensures.0;
-      fir-delay = c.before.before.before.before.before.before.before.before.before.fir-arrays.ensures.1;
-      delays = c.before.before.before.before.before.before.before.before.half-band-arrays.ensures.0;
-      held = c.before.before.before.before.before.before.before.before.half-band-arrays.ensures.1;
-      counts = c.before.before.before.before.before.before.before.before.half-band-arrays.ensures.2;
-      delay = c.before.before.before.before.before.before.before.resampler-arrays.ensures.0;
-      prototype = c.before.before.before.before.before.before.before.resampler-arrays.ensures.1;
+      integrators = c.cic_arrays.ensures.0;
+      combs = c.cic_arrays.ensures.1;
+      taps = c.fir_arrays.ensures.0;
+      fir_delay = c.fir_arrays.ensures.1;
+      delays = c.half_band_arrays.ensures.0;
+      held = c.half_band_arrays.ensures.1;
+      counts = c.half_band_arrays.ensures.2;
+      delay = c.resampler_arrays.ensures.0;
+      prototype = c.resampler_arrays.ensures.1;
     } in
     let sheet : List ℕ = P.parked present (E.entries_of s.d s.f s.s s.p s.cuts) in
-    let n : c.before.before.before.before.before.sheet-bytes.result ≡ length sheet = c.before.before.before.before.before.sheet-bytes.ensures ∙ ap (λ (q : P.Settings). 58 + S.sum (P.sizes q)) c.before.before.before.before.before.before.settings-in.ensures ∙ sym (sheet_long s.d s.f s.s s.p s.cuts a c.before.before.before.before.before.before.before.before.before.before.before.before.requires) in
+    let n : c.sheet_bytes-n.result ≡ length sheet = c.sheet_bytes-n.ensures ∙ ap (λ (q : P.Settings). 58 + S.sum (P.sizes q)) c.settings_in.ensures ∙ sym (sheet_long s.d s.f s.s s.p s.cuts a c.requires) in
     let o = s.span.now in
-    let t : c.before.before.before.before.before.sheet-bytes.result ≤ length o = c.before.before.before.before.if1.false in
+    let t : c.sheet_bytes-n.result ≤ length o = c.if-span-n.false in
     let h : leb (length sheet) (length o) ≡ true = le-leb (length sheet) (length o) (omega arith) in
-    rw h (ap {B = Answer ℕ} (λ (k : ℕ). record { number = 0; value = k }) n, c.before.before.put-line.ensures ∙ laid_front sheet o)
+    rw h (ap {B = Answer ℕ} (λ (k : ℕ). record { number = 0; value = k }) n, c.put_line.ensures ∙ laid_front sheet o)
 
-pub park-parts-spec : {M : Type 1} → statement M
-park-parts-spec =
+pub park_parts_spec : {M : Type 1} → statement M
+park_parts_spec =
     tie.close
     (tie.spec
     cic-arrays-requires

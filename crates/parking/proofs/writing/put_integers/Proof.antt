@@ -9,40 +9,40 @@ use borrow.Author.Rules.{rules}
 use Rattle.parking.proofs.writing.put_integers.Statement.{statement}
 use Rattle.parking.proofs.writing.put_integers.Tie as tie
 
-cic-arrays-requires : tie.Need-cic-arrays-requires
+cic-arrays-requires : tie.Need-cic_arrays-requires
 cic-arrays-requires c κs = search rules
 
-fir-arrays-requires : tie.Need-fir-arrays-requires
+fir-arrays-requires : tie.Need-fir_arrays-requires
 fir-arrays-requires c κs = search rules
 
-put-cic-of-requires : tie.Need-put-cic-of-requires
+put-cic-of-requires : tie.Need-put_cic_of-requires
 put-cic-of-requires c κs = search rules
 
-mul-put-fir-of : tie.Need-overflow-mul-put-fir-of
+mul-put-fir-of : tie.Need-overflow_mul-n
 mul-put-fir-of c = search rules
 
-add-put-fir-of : tie.Need-overflow-add-put-fir-of
+add-put-fir-of : tie.Need-overflow_add-n
 add-put-fir-of c = search rules
 
-add-put-fir-of-2 : tie.Need-overflow-add-put-fir-of-2
+add-put-fir-of-2 : tie.Need-overflow_add-at
 add-put-fir-of-2 c = search rules
 
-put-fir-of-requires : tie.Need-put-fir-of-requires
+put-fir-of-requires : tie.Need-put_fir_of-requires
 put-fir-of-requires c κs = search rules
 
-same_length : tie.Need-same-length
+same_length : tie.Need-shape_of-span
 same_length c = search rules
 
 returns : tie.Need-returns
 returns c =
-    let s = c.before.before.before.before.before.before.before.before.before.before.before.args in
-    let l = cic_long s.d c.before.before.before.before.before.before.before.before.before.before.before.requires.0 c.before.before.before.before.before.before.before.before.before.cic-arrays.ensures.0 c.before.before.before.before.before.before.before.before.before.cic-arrays.ensures.1 in
-    let m = fir_long s.f c.before.before.before.before.before.before.before.before.before.before.before.requires.1 c.before.before.before.before.before.before.before.before.fir-arrays.ensures.0 c.before.before.before.before.before.before.before.before.fir-arrays.ensures.1 in
-    let p = c.before.before.before.before.before.before.before.before.before.before.before.requires.2 in
-    laid_two s.at (s.at + (2 + 8 * s.d.stages)) (E.cic_bytes s.d) (E.tap_bytes s.f ++ E.delay_bytes s.f) s.span.now _ _ c.before.before.before.before.before.before.put-cic-of.ensures c.before.before.put-fir-of.ensures (omega arith) (omega arith)
+    let s = c.args in
+    let l = cic_long s.d c.requires.0 c.cic_arrays.ensures.0 c.cic_arrays.ensures.1 in
+    let m = fir_long s.f c.requires.1 c.fir_arrays.ensures.0 c.fir_arrays.ensures.1 in
+    let p = c.requires.2 in
+    laid_two s.at (s.at + (2 + 8 * s.d.stages)) (E.cic_bytes s.d) (E.tap_bytes s.f ++ E.delay_bytes s.f) s.span.now _ _ c.put_cic_of.ensures c.put_fir_of.ensures (omega arith) (omega arith)
 
-pub put-integers-spec : {M : Type 1} → statement M
-put-integers-spec =
+pub put_integers_spec : {M : Type 1} → statement M
+put_integers_spec =
     tie.close
     (tie.spec
     cic-arrays-requires

@@ -15,104 +15,104 @@ use borrow.Author.Rules.{rules}
 use Rattle.parking.proofs.writing.put_line.Statement.{statement}
 use Rattle.parking.proofs.writing.put_line.Tie as tie
 
-cic-arrays-requires : tie.Need-cic-arrays-requires
+cic-arrays-requires : tie.Need-cic_arrays-requires
 cic-arrays-requires c κs = search rules
 
-fir-arrays-requires : tie.Need-fir-arrays-requires
+fir-arrays-requires : tie.Need-fir_arrays-requires
 fir-arrays-requires c κs = search rules
 
-half-band-arrays-requires : tie.Need-half-band-arrays-requires
+half-band-arrays-requires : tie.Need-half_band_arrays-requires
 half-band-arrays-requires c κs = search rules
 
-resampler-arrays-requires : tie.Need-resampler-arrays-requires
+resampler-arrays-requires : tie.Need-resampler_arrays-requires
 resampler-arrays-requires c κs = search rules
 
-settings-in-requires : tie.Need-settings-in-requires
+settings-in-requires : tie.Need-settings_in-q-requires
 settings-in-requires c κs = search rules
 
-mul_at : tie.Need-overflow-mul-at
+mul_at : tie.Need-overflow_mul-at
 unfolding E.settings_in
 mul_at c =
-    let x = c.before.before.before.before.before.before.before.requires.0.stages in
-    let y = c.before.before.before.before.before.before.before.requires.0.taps in
+    let x = c.requires.0.stages in
+    let y = c.requires.0.taps in
     record { fits = omega arith }
 
-add_at : tie.Need-overflow-add-at
+add_at : tie.Need-overflow_add-at
 unfolding E.settings_in
 add_at c =
-    let x = c.before.before.before.before.before.before.before.requires.0.stages in
-    let y = c.before.before.before.before.before.before.before.requires.0.taps in
+    let x = c.requires.0.stages in
+    let y = c.requires.0.taps in
     record { fits = omega arith }
 
-mul-at-2 : tie.Need-overflow-mul-at-2
+mul-at-2 : tie.Need-overflow_mul-at-2
 unfolding E.settings_in
 mul-at-2 c =
-    let x = c.before.before.before.before.before.before.before.before.requires.0.stages in
-    let y = c.before.before.before.before.before.before.before.before.requires.0.taps in
+    let x = c.requires.0.stages in
+    let y = c.requires.0.taps in
     record { fits = omega arith }
 
-add-at-2 : tie.Need-overflow-add-at-2
+add-at-2 : tie.Need-overflow_add-at-2
 unfolding E.settings_in
 add-at-2 c =
-    let x = c.before.before.before.before.before.before.before.before.requires.0.stages in
-    let y = c.before.before.before.before.before.before.before.before.requires.0.taps in
+    let x = c.requires.0.stages in
+    let y = c.requires.0.taps in
     record { fits = omega arith }
 
-add-at-3 : tie.Need-overflow-add-at-3
+add-at-3 : tie.Need-overflow_add-at-3
 unfolding E.settings_in
 add-at-3 c =
-    let x = c.before.before.before.before.before.before.before.before.requires.0.stages in
-    let y = c.before.before.before.before.before.before.before.before.requires.0.taps in
+    let x = c.requires.0.stages in
+    let y = c.requires.0.taps in
     record { fits = omega arith }
 
-add-at-4 : tie.Need-overflow-add-at-4
+add-at-4 : tie.Need-overflow_add-at-4
 unfolding E.settings_in
 add-at-4 c =
-    let x = c.before.before.before.before.before.before.before.before.requires.0.stages in
-    let y = c.before.before.before.before.before.before.before.before.requires.0.taps in
+    let x = c.requires.0.stages in
+    let y = c.requires.0.taps in
     record { fits = omega arith }
 
-put-front-requires : tie.Need-put-front-requires
+put-front-requires : tie.Need-put_front-requires
 put-front-requires c κs =
-    let r = c.before.before.before.before.before.before.before.before.before.requires.1 in
-    (subst InLimits (sym c.before.before.before.settings-in.ensures) c.before.before.before.before.before.before.before.before.before.requires.0, omega arith)
+    let r = c.requires.1 in
+    (subst InLimits (sym c.settings_in-q.ensures) c.requires.0, omega arith)
 
-put-integers-requires : tie.Need-put-integers-requires
+put-integers-requires : tie.Need-put_integers-requires
 unfolding E.settings_in
 put-integers-requires c κs =
-    let r = c.before.before.before.before.before.before.before.before.before.before.before.before.before.requires.1 in
-    (c.before.before.before.before.before.before.before.before.before.before.before.before.before.requires.0.stages, c.before.before.before.before.before.before.before.before.before.before.before.before.before.requires.0.taps, omega arith)
+    let r = c.requires.1 in
+    (c.requires.0.stages, c.requires.0.taps, omega arith)
 
-put-floats-requires : tie.Need-put-floats-requires
+put-floats-requires : tie.Need-put_floats-requires
 unfolding E.settings_in
 put-floats-requires c κs =
-    let r = c.before.before.before.before.before.before.before.before.before.before.before.before.before.before.before.before.before.requires.1 in
-    (c.before.before.before.before.before.before.before.before.before.before.before.before.before.before.before.before.before.requires.0.depth, c.before.before.before.before.before.before.before.before.before.before.before.before.before.before.before.before.before.requires.0.phases, c.before.before.before.before.before.before.before.before.before.before.before.before.before.before.before.before.before.requires.0.cells, omega arith)
+    let r = c.requires.1 in
+    (c.requires.0.depth, c.requires.0.phases, c.requires.0.cells, omega arith)
 
-same_length : tie.Need-same-length
+same_length : tie.Need-shape_of-span
 same_length c = search rules
 
 returns : tie.Need-returns
 returns c =
-    let s = c.before.before.before.before.before.before.before.before.before.before.before.before.before.before.before.before.before.before.before.before.args in
+    let s = c.args in
     let a : Arrays s.d s.f s.s s.p = record {
-      integrators = c.before.before.before.before.before.before.before.before.before.before.before.before.before.before.before.before.before.before.cic-arrays.ensures.0;
-      combs = c.before.before.before.before.before.before.before.before.before.before.before.before.before.before.before.before.before.before.cic-arrays.ensures.1;
-      taps = c.before.before.before.before.before.before.before.before.before.before.before.before.before.before.before.before.before.fir-arrays.ensures.0;
-      fir-delay = c.before.before.before.before.before.before.before.before.before.before.before.before.before.before.before.before.before.fir-arrays.ensures.1;
-      delays = c.before.before.before.before.before.before.before.before.before.before.before.before.before.before.before.before.half-band-arrays.ensures.0;
-      held = c.before.before.before.before.before.before.before.before.before.before.before.before.before.before.before.before.half-band-arrays.ensures.1;
-      counts = c.before.before.before.before.before.before.before.before.before.before.before.before.before.before.before.before.half-band-arrays.ensures.2;
-      delay = c.before.before.before.before.before.before.before.before.before.before.before.before.before.before.before.resampler-arrays.ensures.0;
-      prototype = c.before.before.before.before.before.before.before.before.before.before.before.before.before.before.before.resampler-arrays.ensures.1;
+      integrators = c.cic_arrays.ensures.0;
+      combs = c.cic_arrays.ensures.1;
+      taps = c.fir_arrays.ensures.0;
+      fir_delay = c.fir_arrays.ensures.1;
+      delays = c.half_band_arrays.ensures.0;
+      held = c.half_band_arrays.ensures.1;
+      counts = c.half_band_arrays.ensures.2;
+      delay = c.resampler_arrays.ensures.0;
+      prototype = c.resampler_arrays.ensures.1;
     } in
-    let e = c.before.before.before.before.before.before.before.before.before.before.before.before.before.before.settings-in.ensures in
-    sheet_laid s.d s.f s.s s.p s.cuts a c.before.before.before.before.before.before.before.before.before.before.before.before.before.before.before.before.before.before.before.before.requires.0 (82 + (2 + 8 * s.d.stages + (2 + 4 * s.f.tap_count))) s.span.now _ _ _
-    (c.before.before.before.before.before.before.before.before.before.before.put_front.ensures ∙ ap (λ (q : P.Settings). laid 0 (bytes16 (count_word present 7) ++ (S.pairs_from 58 (P.sizes q) ++ P.settings_bytes q)) s.span.now) e)
-    c.before.before.before.before.before.before.put-integers.ensures c.before.before.put-floats.ensures refl c.before.before.before.before.before.before.before.before.before.before.before.before.before.before.before.before.before.before.before.before.requires.1
+    let e = c.settings_in-q.ensures in
+    sheet_laid s.d s.f s.s s.p s.cuts a c.requires.0 (82 + (2 + 8 * s.d.stages + (2 + 4 * s.f.tap_count))) s.span.now _ _ _
+    (c.put_front.ensures ∙ ap (λ (q : P.Settings). laid 0 (bytes16 (count_word present 7) ++ (S.pairs_from 58 (P.sizes q) ++ P.settings_bytes q)) s.span.now) e)
+    c.put_integers.ensures c.put_floats.ensures refl c.requires.1
 
-pub put-line-spec : {M : Type 1} → statement M
-put-line-spec =
+pub put_line_spec : {M : Type 1} → statement M
+put_line_spec =
     tie.close
     (tie.spec
     cic-arrays-requires

@@ -13,73 +13,73 @@ at_most_one : (b : Bool) (n : ℕ) → n ≡ cond b 0 1 → n ≤ 1
 at_most_one true n e = omega arith
 at_most_one false n e = omega arith
 
-abbrev invariant-loop : tie.invariant-loop
+abbrev invariant-loop : tie.invariant-loop-written
 invariant-loop piece places c₀ taken₀ written₀ c taken written = Going c₀ piece places c taken written × Runs c
 
-abbrev decreases-loop : tie.decreases-loop
+abbrev decreases-loop : tie.decreases-loop-written
 decreases-loop piece places c₀ taken₀ written₀ c taken written = piece - taken + (places - written)
 
-loop-holds : tie.Need-loop-init invariant-loop decreases-loop
+loop-holds : tie.Need-loop-written-init invariant-loop decreases-loop
 loop-holds c = (going_start _ _ _, c.requires)
 
 due-requires : tie.Need-due-requires invariant-loop decreases-loop
 due-requires c κs = search rules
 
-add-written : tie.Need-overflow-add-written invariant-loop decreases-loop
+add-written : tie.Need-overflow_add-written invariant-loop decreases-loop
 add-written c = search rules
 
-loop-less : tie.Need-loop-smaller invariant-loop decreases-loop
+loop-less : tie.Need-loop-written-smaller-then-due invariant-loop decreases-loop
 loop-less c = search rules
 
-loop-again : tie.Need-loop-preserved invariant-loop decreases-loop
+loop-again : tie.Need-loop-written-preserved-then-due invariant-loop decreases-loop
 unfolding ticking
 loop-again c =
-    let i = c.before.before.before.before.loop.invariant in
-    (going_due _ _ _ _ _ _ i.0 (sym c.before.before.due.ensures ∙ c.before.if1.true) c.before.before.before.loop-test.true, i.1)
+    let i = c.loop-written.invariant in
+    (going_due _ _ _ _ _ _ i.0 (sym c.due.ensures ∙ c.if-due.true) c.loop-written-test.true, i.1)
 
-sub-rest : tie.Need-overflow-sub-rest invariant-loop decreases-loop
-sub-rest c = c.before.before.before.loop.invariant.0.some_taken
+sub-rest : tie.Need-overflow_sub-rest invariant-loop decreases-loop
+sub-rest c = c.loop-written.invariant.0.some_taken
 
-sub-c : tie.Need-overflow-sub-c invariant-loop decreases-loop
-sub-c c = omega (arith, c.before.if2.true)
+sub-c : tie.Need-overflow_sub-c invariant-loop decreases-loop
+sub-c c = omega (arith, c.if-rest-c.true)
 
-returns : tie.Need-returns invariant-loop decreases-loop
+returns : tie.Need-returns-then-rest-c invariant-loop decreases-loop
 unfolding ticking
 returns c =
-    let i = c.before.before.before.before.before.before.loop.invariant in
-    let not-due = sym c.before.before.before.before.due.ensures ∙ c.before.before.before.if1.false in
-    done_rest _ _ _ _ _ _ i.0 not-due c.before.before.before.before.before.loop-test.true i.1 c.before.if2.true
+    let i = c.loop-written.invariant in
+    let not-due = sym c.due.ensures ∙ c.if-due.false in
+    done_rest _ _ _ _ _ _ i.0 not-due c.loop-written-test.true i.1 c.if-rest-c.true
 
-add-taken : tie.Need-overflow-add-taken invariant-loop decreases-loop
-add-taken c = omega (arith, c.before.if2.false, c.before.before.before.before.before.before.loop.invariant.0.some_taken)
+add-taken : tie.Need-overflow_add-taken invariant-loop decreases-loop
+add-taken c = omega (arith, c.if-rest-c.false, c.loop-written.invariant.0.some_taken)
 
-at-once-requires : tie.Need-at-once-requires invariant-loop decreases-loop
+at-once-requires : tie.Need-at_once-written-requires invariant-loop decreases-loop
 at-once-requires c κs = search rules
 
-add-written-2 : tie.Need-overflow-add-written-2 invariant-loop decreases-loop
-add-written-2 c = omega (arith, at_most_one c.before.before.before.before.before.before.before.loop.c.on c.at_once.result c.at_once.ensures, c.before.before.before.before.before.before.loop-test.true)
+add-written-2 : tie.Need-overflow_add-written-else-due invariant-loop decreases-loop
+add-written-2 c = omega (arith, at_most_one c.loop-written.c.on c.at_once-written.result c.at_once-written.ensures, c.loop-written-test.true)
 
-arrived-requires : tie.Need-arrived-requires invariant-loop decreases-loop
+arrived-requires : tie.Need-arrived-c-requires invariant-loop decreases-loop
 arrived-requires c κs = search rules
 
-loop-less-2 : tie.Need-loop-smaller-2 invariant-loop decreases-loop
+loop-less-2 : tie.Need-loop-written-smaller invariant-loop decreases-loop
 loop-less-2 c =
-    let i = c.before.before.before.before.before.before.before.before.loop.invariant in
-    omega (arith, i.1.0, i.0.some_taken, c.before.before.before.if2.false)
+    let i = c.loop-written.invariant in
+    omega (arith, i.1.0, i.0.some_taken, c.if-rest-c.false)
 
-loop-again-2 : tie.Need-loop-preserved-2 invariant-loop decreases-loop
+loop-again-2 : tie.Need-loop-written-preserved invariant-loop decreases-loop
 unfolding ticking
 loop-again-2 c =
-    let i = c.before.before.before.before.before.before.before.before.loop.invariant in
-    let not-due = sym c.before.before.before.before.before.before.due.ensures ∙ c.before.before.before.before.before.if1.false in
-    rw (c.arrived.ensures, c.before.at_once.ensures)
-    (going_value _ _ _ _ _ _ i.0 not-due c.before.before.before.before.before.before.before.loop-test.true i.1.0 c.before.before.before.if2.false, (i.1.1, i.1.1))
+    let i = c.loop-written.invariant in
+    let not-due = sym c.due.ensures ∙ c.if-due.false in
+    rw (c.arrived-c.ensures, c.at_once-written.ensures)
+    (going_value _ _ _ _ _ _ i.0 not-due c.loop-written-test.true i.1.0 c.if-rest-c.false, (i.1.1, i.1.1))
 
-returns-2 : tie.Need-returns-2 invariant-loop decreases-loop
-returns-2 c = done_full _ _ _ _ _ _ c.before.loop.invariant.0 c.before.loop.invariant.1 c.loop-test.false
+returns-2 : tie.Need-returns invariant-loop decreases-loop
+returns-2 c = done_full _ _ _ _ _ _ c.loop-written.invariant.0 c.loop-written.invariant.1 c.loop-written-test.false
 
-pub feed-counted-spec : {M : Type 1} → statement M
-feed-counted-spec =
+pub feed_counted_spec : {M : Type 1} → statement M
+feed_counted_spec =
     tie.close
     (tie.spec
     invariant-loop

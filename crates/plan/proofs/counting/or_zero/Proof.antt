@@ -4,11 +4,11 @@ use borrow.Author.Tests.{eq-eqb, ne_eqb}
 use Rattle.plan.proofs.counting.or_zero.Statement.{statement}
 use Rattle.plan.proofs.counting.or_zero.Tie as tie
 
-returns : tie.Need-returns
-returns c = rw (eq-eqb c.before.args.phases 0 c.if1.true) refl
+returns : tie.Need-returns-then-phases-eq0
+returns c = rw (eq-eqb c.args.phases 0 c.if-phases-eq0.true) refl
 
-returns-2 : tie.Need-returns-2
-returns-2 c = rw (ne_eqb c.before.args.phases 0 c.if1.false) refl
+returns-2 : tie.Need-returns
+returns-2 c = rw (ne_eqb c.args.phases 0 c.if-phases-eq0.false) refl
 
 pub or_zero_spec : {M : Type 1} → statement M
 or_zero_spec = tie.close (tie.spec returns returns-2)

@@ -24,38 +24,38 @@ none_left : (l : List ℕ) (i : ℕ) → length l ≤ i → lengths_fine (drop i
 unfolding lengths_fine
 none_left l i h = ap lengths_fine (drop_of_length-le l h)
 
-abbrev invariant-loop : tie.invariant-loop
+abbrev invariant-loop : tie.invariant-loop-i
 invariant-loop lengths i₀ i = lengths_fine lengths ≡ lengths_fine (drop i lengths)
 
-abbrev decreases-loop : tie.decreases-loop
+abbrev decreases-loop : tie.decreases-loop-i
 decreases-loop lengths i₀ i = length lengths - i
 
-loop-holds : tie.Need-loop-init invariant-loop decreases-loop
+loop-holds : tie.Need-loop-i-init invariant-loop decreases-loop
 loop-holds c = refl
 
-mul-if1 : tie.Need-overflow-mul-if1 invariant-loop decreases-loop
+mul-if1 : tie.Need-offset_bounds-lengths-i invariant-loop decreases-loop
 mul-if1 c = search rules
 
-shared-slice-read-if1 : tie.Need-shared-slice-read-if1 invariant-loop decreases-loop
+shared-slice-read-if1 : tie.Need-bounds-lengths-i invariant-loop decreases-loop
 shared-slice-read-if1 c = search rules
 
-returns : tie.Need-returns invariant-loop decreases-loop
-returns c = sym (c.before.before.before.loop.invariant ∙ past _ _ c.before.before.loop-test.true c.if1.true)
+returns : tie.Need-returns-then-lengths-i-gt-MOST_BLOCK invariant-loop decreases-loop
+returns c = sym (c.loop-i.invariant ∙ past _ _ c.loop-i-test.true c.if-lengths-i-gt-MOST_BLOCK.true)
 
-add-i : tie.Need-overflow-add-i invariant-loop decreases-loop
+add-i : tie.Need-overflow_add-i invariant-loop decreases-loop
 add-i c = search rules
 
-loop-less : tie.Need-loop-smaller invariant-loop decreases-loop
+loop-less : tie.Need-loop-i-smaller invariant-loop decreases-loop
 loop-less c = search rules
 
-loop-again : tie.Need-loop-preserved invariant-loop decreases-loop
-loop-again c = c.before.before.before.loop.invariant ∙ fine _ _ c.before.before.loop-test.true c.if1.false
+loop-again : tie.Need-loop-i-preserved invariant-loop decreases-loop
+loop-again c = c.loop-i.invariant ∙ fine _ _ c.loop-i-test.true c.if-lengths-i-gt-MOST_BLOCK.false
 
-returns-2 : tie.Need-returns-2 invariant-loop decreases-loop
-returns-2 c = sym (c.before.loop.invariant ∙ none_left _ _ c.loop-test.false)
+returns-2 : tie.Need-returns invariant-loop decreases-loop
+returns-2 c = sym (c.loop-i.invariant ∙ none_left _ _ c.loop-i-test.false)
 
-pub lengths-fine-spec : {M : Type 1} → statement M
-lengths-fine-spec =
+pub lengths_fine_spec : {M : Type 1} → statement M
+lengths_fine_spec =
     tie.close
     (tie.spec
     invariant-loop

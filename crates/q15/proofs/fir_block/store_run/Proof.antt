@@ -15,45 +15,45 @@ use mir.Facts.{to_z-of_z}
 use Rattle.q15.specs.Fixed.{at}
 use Rattle.q15.specs.FirDecimator.{stored}
 use Rattle.q15.specs.FirBlock.{stored_run}
-use Rattle.q15.proofs.FirBlock.{stored_snoc}
+use Rattle.q15.proofs.FirBlocks.{stored_snoc}
 use Rattle.q15.proofs.fir_block.store_run.Statement.{statement}
 use Rattle.q15.proofs.fir_block.store_run.Tie as tie
 
-abbrev invariant-loop : tie.invariant-loop
+abbrev invariant-loop : tie.invariant-loop-i
 invariant-loop delay₀ t wait src i₀ delay i = (i ≤ length src) × (delay ≡ stored_run t wait (take i src) delay₀)
 
-abbrev decreases-loop : tie.decreases-loop
+abbrev decreases-loop : tie.decreases-loop-i
 decreases-loop delay₀ t wait src i₀ delay i = length src - i
 
-loop-holds : tie.Need-loop-init invariant-loop decreases-loop
+loop-holds : tie.Need-loop-i-init invariant-loop decreases-loop
 loop-holds c = (omega arith, refl)
 
-sub-store : tie.Need-overflow-sub-store invariant-loop decreases-loop
-sub-store c = omega (arith, c.before.loop-test.true, c.before.before.before.requires)
+sub-store : tie.Need-overflow_sub-wait invariant-loop decreases-loop
+sub-store c = omega (arith, c.loop-i-test.true, c.requires)
 
-mul-store : tie.Need-overflow-mul-store invariant-loop decreases-loop
+mul-store : tie.Need-offset_bounds-src-i invariant-loop decreases-loop
 mul-store c = search rules
 
-shared-slice-copy-out-store : tie.Need-shared-slice-copy-out-store invariant-loop decreases-loop
+shared-slice-copy-out-store : tie.Need-bounds-src-i invariant-loop decreases-loop
 shared-slice-copy-out-store c = search rules
 
 store-requires : tie.Need-store-requires invariant-loop decreases-loop
 store-requires c κs = tt
 
-add-i : tie.Need-overflow-add-i invariant-loop decreases-loop
+add-i : tie.Need-overflow_add-i invariant-loop decreases-loop
 add-i c = search rules
 
-loop-less : tie.Need-loop-smaller invariant-loop decreases-loop
+loop-less : tie.Need-loop-i-smaller invariant-loop decreases-loop
 loop-less c = search rules
 
-loop-again : tie.Need-loop-preserved invariant-loop decreases-loop
+loop-again : tie.Need-loop-i-preserved invariant-loop decreases-loop
 loop-again c =
-    let v = c.before.before.before.before.loop in
-    let a = c.before.before.before.before.before.args in
+    let v = c.loop-i in
+    let a = c.args in
     let src : List ℤ = a.src.now in
     let x : ℤ = at src v.i in
-    let test = c.before.before.before.loop-test.true in
-    let e : to_z w16 (of_z w16 x) ≡ x = to_z-of_z {w = w16} {z = x} (record { sfits = c.before.store-arg2.given }) in
+    let test = c.loop-i-test.true in
+    let e : to_z w16 (of_z w16 x) ≡ x = to_z-of_z {w = w16} {z = x} (record { sfits = c.store-arg-in-loop-i-1.given }) in
     let n : length (take v.i a.src.now) ≡ v.i = length-take-le v.i a.src.now v.invariant.0 in (
       omega (arith, test),
       c.store.ensures
@@ -66,12 +66,12 @@ loop-again c =
 
 returns : tie.Need-returns invariant-loop decreases-loop
 returns c =
-    let a = c.before.before.args in
-    let v = c.before.loop in
-    v.invariant.1 ∙ ap (λ (l : List ℤ). stored_run a.t a.wait l a.delay.now) (ap (λ (k : ℕ). take k a.src.now) (le_antisymm v.invariant.0 c.loop-test.false) ∙ take-length a.src.now)
+    let a = c.args in
+    let v = c.loop-i in
+    v.invariant.1 ∙ ap (λ (l : List ℤ). stored_run a.t a.wait l a.delay.now) (ap (λ (k : ℕ). take k a.src.now) (le_antisymm v.invariant.0 c.loop-i-test.false) ∙ take-length a.src.now)
 
-pub store-run-spec : {M : Type 1} → statement M
-store-run-spec =
+pub store_run_spec : {M : Type 1} → statement M
+store_run_spec =
     tie.close
     (tie.spec
     invariant-loop

@@ -9,31 +9,37 @@ use Rattle.q15.proofs.Rows.{not_zero}
 use Rattle.q15.proofs.fir_decimator.fir_valid.Statement.{statement}
 use Rattle.q15.proofs.fir_decimator.fir_valid.Tie as tie
 
-settings-answer-requires : tie.Need-settings-answer-requires
+settings-answer-requires : tie.Need-settings_answer-settings-requires
 settings-answer-requires c κs = tt
 
-enum_told : tie.Need-enum-told
+enum_told : tie.Need-enum_told-1
 enum_told c = search rules
 
-enum-told-2 : tie.Need-enum-told-2
+enum-told-2 : tie.Need-enum_told-in-Opened
 enum-told-2 c = search rules
 
-wait-is-bad-requires : tie.Need-wait-is-bad-requires
+wait-is-bad-requires : tie.Need-wait_is_bad-requires
 wait-is-bad-requires c κs = tt
 
-returns : tie.Need-returns
+returns : tie.Need-returns-in-Refused
 unfolding fir_valid
 returns c =
-    let s = c.before.before.before in
-    let e = sym (ap opening_number c.enum_told.given.1) ∙ c.before.before.settings-answer.ensures in
-    rw (ne_eqb (settings_number s.args.t s.args.factor) 0 (not_zero _ c.enum_told.given.0.0 e))
+    let s = c.before.before in
+    let e = sym (ap opening_number c.in-Refused.is) ∙ c.settings_answer-settings.ensures in
+    rw (ne_eqb (settings_number s.args.t s.args.factor) 0 (not_zero _ c.in-Refused.field-0 e))
 
-returns-2 : tie.Need-returns-2
+returns-2 : tie.Need-returns-in-Opened
 unfolding fir_valid
 returns-2 c =
-    let s = c.before.before.before.before in
-    let e = sym c.before.before.before.settings-answer.ensures ∙ ap opening_number c.before.enum-told2.given.1 in
-    rw (eq-eqb (settings_number s.args.t s.args.factor) 0 e) (ap not c.wait-is-bad.ensures)
+    let s = c.before.before.before in
+    let e = sym c.settings_answer-settings.ensures ∙ ap opening_number c.in-Opened.is in
+    rw (eq-eqb (settings_number s.args.t s.args.factor) 0 e) (ap not c.wait_is_bad.ensures)
 
-pub fir-valid-spec : {M : Type 1} → statement M
-fir-valid-spec = tie.close (tie.spec settings-answer-requires enum_told enum-told-2 wait-is-bad-requires returns returns-2)
+pub fir_valid_spec : {M : Type 1} → statement M
+fir_valid_spec = tie.close (tie.spec
+    settings-answer-requires
+    enum_told
+    enum-told-2
+    wait-is-bad-requires
+    returns
+    returns-2)

@@ -4,16 +4,16 @@ use Rattle.q15.specs.FirDecimator.{fir_valid_in_line}
 use Rattle.q15.proofs.fir_decimator.fir_valid_in_line.Statement.{statement}
 use Rattle.q15.proofs.fir_decimator.fir_valid_in_line.Tie as tie
 
-returns : tie.Need-returns
+returns : tie.Need-returns-then-t-eq0
 unfolding fir_valid_in_line
-returns c = rw (eq-eqb c.before.args.t 0 c.if1.true)
+returns c = rw (eq-eqb c.args.t 0 c.if-t-eq0.true)
 
-fir-valid-requires : tie.Need-fir-valid-requires
+fir-valid-requires : tie.Need-fir_valid-requires
 fir-valid-requires c κs = tt
 
-returns-2 : tie.Need-returns-2
+returns-2 : tie.Need-returns
 unfolding fir_valid_in_line
-returns-2 c = rw (ne_eqb c.before.before.args.t 0 c.before.if1.false) c.fir-valid.ensures
+returns-2 c = rw (ne_eqb c.args.t 0 c.if-t-eq0.false) c.fir_valid.ensures
 
-pub fir-valid-in-line-spec : {M : Type 1} → statement M
-fir-valid-in-line-spec = tie.close (tie.spec returns fir-valid-requires returns-2)
+pub fir_valid_in_line_spec : {M : Type 1} → statement M
+fir_valid_in_line_spec = tie.close (tie.spec returns fir-valid-requires returns-2)

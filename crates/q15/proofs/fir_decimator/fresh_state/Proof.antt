@@ -7,15 +7,15 @@ use Rattle.q15.specs.FirDecimator.{most_taps, fir_state, fresh}
 use Rattle.q15.proofs.fir_decimator.fresh_state.Statement.{statement}
 use Rattle.q15.proofs.fir_decimator.fresh_state.Tie as tie
 
-pad-requires : tie.Need-pad-requires
+pad-requires : tie.Need-pad-a-requires
 pad-requires c κs = c.requires
 
 returns : tie.Need-returns
 unfolding fresh
 returns c =
-    let a = c.before.args in
+    let a = c.args in
     let T = length a.taps.now in
-    ap (λ (p : List ℤ). fir_state p T a.factor (replicate most_taps (pos 0)) T) c.pad.ensures
+    ap (λ (p : List ℤ). fir_state p T a.factor (replicate most_taps (pos 0)) T) c.pad-a.ensures
 
-pub fresh-state-spec : {M : Type 1} → statement M
-fresh-state-spec = tie.close (tie.spec pad-requires returns)
+pub fresh_state_spec : {M : Type 1} → statement M
+fresh_state_spec = tie.close (tie.spec pad-requires returns)

@@ -5,17 +5,21 @@ use Rattle.q15.specs.FirDecimator.{made_value}
 use Rattle.q15.proofs.fir_decimator.output_of.Statement.{statement}
 use Rattle.q15.proofs.fir_decimator.output_of.Tie as tie
 
-enum_told : tie.Need-enum-told
+enum_told : tie.Need-enum_told-1
 enum_told c = search rules
 
-enum-known-made : tie.Need-enum-known-made
+enum-known-made : tie.Need-enum_known-made
 enum-known-made c = search rules
 
-returns : tie.Need-returns
+returns : tie.Need-returns-in-Nothing
 returns c = search rules
 
-returns-2 : tie.Need-returns-2
-returns-2 c = (refl, sym (ap made_value c.before.made.given.1))
+returns-2 : tie.Need-returns-in-Value
+returns-2 c = (refl, sym (ap made_value c.in-Value.is))
 
-pub output-of-spec : {M : Type 1} → statement M
-output-of-spec = tie.close (tie.spec enum_told enum-known-made returns returns-2)
+pub output_of_spec : {M : Type 1} → statement M
+output_of_spec = tie.close (tie.spec
+    enum_told
+    enum-known-made
+    returns
+    returns-2)

@@ -15,51 +15,51 @@ use Rattle.q15.proofs.Filling.{Filled, none_filled, next_filled, all_filled, lis
 use Rattle.q15.proofs.fir_decimator.pad.Statement.{statement}
 use Rattle.q15.proofs.fir_decimator.pad.Tie as tie
 
-abbrev invariant-loop : tie.invariant-loop
+abbrev invariant-loop : tie.invariant-loop-i
 invariant-loop taps a₀ i₀ a i = Filled (at taps) (replicate most_taps (pos 0)) (length taps) a i
 
-abbrev decreases-loop : tie.decreases-loop
+abbrev decreases-loop : tie.decreases-loop-i
 decreases-loop taps a₀ i₀ a i = length taps - i
 
-loop-holds : tie.Need-loop-init invariant-loop decreases-loop
+loop-holds : tie.Need-loop-i-init invariant-loop decreases-loop
 loop-holds c = none_filled _ _ _
 
-mul-a : tie.Need-overflow-mul-a invariant-loop decreases-loop
+mul-a : tie.Need-offset_bounds-taps-i invariant-loop decreases-loop
 mul-a c = search rules
 
-shared-slice-copy-out-a : tie.Need-shared-slice-copy-out-a invariant-loop decreases-loop
+shared-slice-copy-out-a : tie.Need-bounds-taps-i invariant-loop decreases-loop
 shared-slice-copy-out-a c = search rules
 
-mul-a-2 : tie.Need-overflow-mul-a-2 invariant-loop decreases-loop
+mul-a-2 : tie.Need-offset_bounds-a-i invariant-loop decreases-loop
 mul-a-2 c = search rules
 
-array-set-from-a : tie.Need-array-set-from-a invariant-loop decreases-loop
-array-set-from-a c = omega (arith, c.before.loop-test.true, c.before.before.before.requires)
+array-set-from-a : tie.Need-bounds-a-i invariant-loop decreases-loop
+array-set-from-a c = omega (arith, c.loop-i-test.true, c.requires)
 
-add-i : tie.Need-overflow-add-i invariant-loop decreases-loop
+add-i : tie.Need-overflow_add-i invariant-loop decreases-loop
 add-i c = search rules
 
-loop-less : tie.Need-loop-smaller invariant-loop decreases-loop
+loop-less : tie.Need-loop-i-smaller invariant-loop decreases-loop
 loop-less c = search rules
 
-loop-again : tie.Need-loop-preserved invariant-loop decreases-loop
+loop-again : tie.Need-loop-i-preserved invariant-loop decreases-loop
 loop-again c =
-    let v = c.before.before.loop in
+    let v = c.loop-i in
     let s = c.before.before.before in
     let taps = s.args.taps.now in
-    next_filled (at taps) (replicate most_taps (pos 0)) (length taps) v.a v.i _ c.before.loop-test.true s.requires
-    (to_z-of_z {w = w16} {z = at taps v.i} (record { sfits = c.a.given })) v.invariant
+    next_filled (at taps) (replicate most_taps (pos 0)) (length taps) v.a v.i _ c.loop-i-test.true s.requires
+    (to_z-of_z {w = w16} {z = at taps v.i} (record { sfits = c.a-1.given })) v.invariant
 
 returns : tie.Need-returns invariant-loop decreases-loop
 unfolding padded
 returns c =
-    let taps = c.before.before.args.taps.now in
-    all_filled _ _ _ _ _ c.loop-test.false c.before.loop.invariant
+    let taps = c.args.taps.now in
+    all_filled _ _ _ _ _ c.loop-i-test.false c.loop-i.invariant
     ∙ ap (λ (l : List ℤ). l ++ drop (length taps) (replicate most_taps (pos 0))) (listed_take (pos 0) (length taps) taps (omega arith) ∙ take-length taps)
-    ∙ ap (λ (l : List ℤ). taps ++ l) (drop_replicate (pos 0) (length taps) most_taps c.before.before.requires)
+    ∙ ap (λ (l : List ℤ). taps ++ l) (drop_replicate (pos 0) (length taps) most_taps c.requires)
 
-pub pad-spec : {M : Type 1} → statement M
-pad-spec =
+pub pad_spec : {M : Type 1} → statement M
+pad_spec =
     tie.close
     (tie.spec
     invariant-loop

@@ -10,31 +10,37 @@ use Rattle.q15.specs.FirDecimator.{stored}
 use Rattle.q15.proofs.fir_decimator.store.Statement.{statement}
 use Rattle.q15.proofs.fir_decimator.store.Tie as tie
 
-array-length-requires : tie.Need-array-length-requires
+array-length-requires : tie.Need-array_length-requires
 array-length-requires c κs = tt
 
-mul-x : tie.Need-overflow-mul-x
+mul-x : tie.Need-offset_bounds-delay-t
 mul-x c = search rules
 
-element-set-from-x : tie.Need-element-set-from-x
+element-set-from-x : tie.Need-bounds-delay-t
 element-set-from-x c = search rules
 
-returns : tie.Need-returns
+returns : tie.Need-returns-then-t-wait-lt-MOST_TAPS
 unfolding stored
 returns c =
     let s = c.before.before.before.before in
-    rw (le-leb s.args.wait s.args.t c.before.if1.true, to_z-of_z s.ranges.x)
+    rw (le-leb s.args.wait s.args.t c.if-wait-t.true, to_z-of_z s.ranges.x)
 
-returns-2 : tie.Need-returns-2
+returns-2 : tie.Need-returns-else-t-wait-lt-MOST_TAPS
 unfolding stored
 returns-2 c =
-    let a = c.before.before.before.before.args in
-    rw (le-leb a.wait a.t c.before.if1.true)
-    (sym (set_out a.delay.now (a.t - a.wait) a.x (omega (arith, c.if2.false, c.before.before.array_length.ensures))))
+    let a = c.args in
+    rw (le-leb a.wait a.t c.if-wait-t.true)
+    (sym (set_out a.delay.now (a.t - a.wait) a.x (omega (arith, c.if-t-wait-lt-MOST_TAPS.false, c.array_length.ensures))))
 
-returns-3 : tie.Need-returns-3
+returns-3 : tie.Need-returns-else-wait-t
 unfolding stored
-returns-3 c = let a = c.before.before.before.args in rw (lt-leb a.wait a.t c.if1.false)
+returns-3 c = let a = c.args in rw (lt-leb a.wait a.t c.if-wait-t.false)
 
 pub store_spec : {M : Type 1} → statement M
-store_spec = tie.close (tie.spec array-length-requires mul-x element-set-from-x returns returns-2 returns-3)
+store_spec = tie.close (tie.spec
+    array-length-requires
+    mul-x
+    element-set-from-x
+    returns
+    returns-2
+    returns-3)

@@ -33,34 +33,39 @@ inside_kept : (x : ℤ) → Inside x → x ≡ cut w16 x
 unfolding cut
 inside_kept x i = rw (i.over, i.under) refl
 
-outside-q15-requires : tie.Need-outside-q15-requires
+outside-q15-requires : tie.Need-outside_q15-requires
 outside-q15-requires c κs = search rules
 
 -- what was said of the number
-is_cut : (c : tie.Then1) → is_cut w16 c.before.before.args.x ≡ true
-is_cut c = sym (rw (to_z-of_z c.before.before.ranges.x) at c.before.outside-q15.ensures) ∙ c.if1.true
+is_cut_lem : (c : tie.Then-outside_q15) → is_cut w16 c.args.x ≡ true
+is_cut_lem c = sym (rw (to_z-of_z c.ranges.x) at c.outside_q15.ensures) ∙ c.if-outside_q15.true
 
-not_cut : (c : tie.Else1) → is_cut w16 c.before.before.args.x ≡ false
-not_cut c = sym (rw (to_z-of_z c.before.before.ranges.x) at c.before.outside-q15.ensures) ∙ c.if1.false
+not_cut : (c : tie.Else-outside_q15) → is_cut w16 c.args.x ≡ false
+not_cut c = sym (rw (to_z-of_z c.ranges.x) at c.outside_q15.ensures) ∙ c.if-outside_q15.false
 
-nearest-end-requires : tie.Need-nearest-end-requires
-nearest-end-requires c κs = rw (to_z-of_z c.before.before.ranges.x) (is_cut c)
+nearest-end-requires : tie.Need-nearest_end-end-requires
+nearest-end-requires c κs = rw (to_z-of_z c.ranges.x) (is_cut_lem c)
 
-returns : tie.Need-returns
+returns : tie.Need-returns-then-outside_q15
 returns c =
     let t = c.before in
-    let f : SFits w16 c.nearest-end.result = record { sfits = c.nearest-end.type-inv } in
-    (to_z-of_z f ∙ rw (to_z-of_z t.before.before.ranges.x) at c.nearest-end.ensures, sym (is_cut t))
+    let f : SFits w16 c.nearest_end-end.result = record { sfits = c.nearest_end-end.type_inv } in
+    (to_z-of_z f ∙ rw (to_z-of_z t.ranges.x) at c.nearest_end-end.ensures, sym (is_cut_lem t))
 
-cast-t5 : tie.Need-overflow-cast-t5
-cast-t5 c = rw (to_z-of_z c.before.before.ranges.x) (inside_fits _ (inside_of _ (not_cut c)))
+cast-t5 : tie.Need-overflow_cast-result
+cast-t5 c = rw (to_z-of_z c.ranges.x) (inside_fits _ (inside_of _ (not_cut c)))
 
-returns-2 : tie.Need-returns-2
+returns-2 : tie.Need-returns
 returns-2 c =
-    let x = c.before.before.args.x in
+    let x = c.args.x in
     let i = inside_of x (not_cut c) in
-    (rw (to_z-of_z c.before.before.ranges.x, to_z-of_z (inside_fits x i)) (inside_kept x i), sym (not_cut c))
+    (rw (to_z-of_z c.ranges.x, to_z-of_z (inside_fits x i)) (inside_kept x i), sym (not_cut c))
 
-pub cut-q15-spec : {M : Type 1} → statement M
-cut-q15-spec =
-    tie.close (tie.spec outside-q15-requires nearest-end-requires returns cast-t5 returns-2)
+pub cut_q15_spec : {M : Type 1} → statement M
+cut_q15_spec =
+    tie.close (tie.spec
+    outside-q15-requires
+    nearest-end-requires
+    returns
+    cast-t5
+    returns-2)

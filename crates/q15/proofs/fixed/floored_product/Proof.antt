@@ -23,18 +23,22 @@ module _ (c : tie.Start) where
   quotient : SFits w32 (floored_product c.args.s c.args.c)
   quotient = fits_of (floored_product c.args.s c.args.c) (omega (arith, floor_within c.args.s c.args.c c.ranges.s c.ranges.c))
 
-cast-result : tie.Need-overflow-cast-result
+cast-result : tie.Need-overflow_cast-result
 cast-result c = rw (to_z-of_z c.ranges.s) (s32 c)
 
-cast-result-2 : tie.Need-overflow-cast-result-2
+cast-result-2 : tie.Need-overflow_cast-result-2
 cast-result-2 c = rw (to_z-of_z c.ranges.c) (c32 c)
 
-mul-result : tie.Need-overflow-mul-result
+mul-result : tie.Need-overflow_mul-result
 mul-result c = rw (to_z-of_z c.ranges.s, to_z-of_z (s32 c), to_z-of_z c.ranges.c, to_z-of_z (c32 c)) (product c)
 
 returns : tie.Need-returns
 unfolding floored_product
 returns c = rw (to_z-of_z c.ranges.s, to_z-of_z (s32 c), to_z-of_z c.ranges.c, to_z-of_z (c32 c), to_z-of_z (product c), to_z-of_z (quotient c))
 
-pub floored-product-spec : {M : Type 1} → statement M
-floored-product-spec = tie.close (tie.spec cast-result cast-result-2 mul-result returns)
+pub floored_product_spec : {M : Type 1} → statement M
+floored_product_spec = tie.close (tie.spec
+    cast-result
+    cast-result-2
+    mul-result
+    returns)

@@ -28,11 +28,11 @@ above x e n = go (lt_z (pos 32767) x) (lt_z x (negsuc 32767)) refl e
     go false true under e = absurd (omega (ints, lt_true x (negsuc 32767) under, lt_false x (pos 0) n))
     go false false under e = absurd (false≢true e)
 
-returns : tie.Need-returns
-returns c = let s = c.before in below s.args.x s.requires (rw (to_z-of_z s.ranges.x) at c.if1.true)
+returns : tie.Need-returns-then-x-lt0
+returns c = let s = c.before in below s.args.x s.requires (rw (to_z-of_z s.ranges.x) at c.if-x-lt0.true)
 
-returns-2 : tie.Need-returns-2
-returns-2 c = let s = c.before in above s.args.x s.requires (rw (to_z-of_z s.ranges.x) at c.if1.false)
+returns-2 : tie.Need-returns
+returns-2 c = let s = c.before in above s.args.x s.requires (rw (to_z-of_z s.ranges.x) at c.if-x-lt0.false)
 
-pub nearest-end-spec : {M : Type 1} → statement M
-nearest-end-spec = tie.close (tie.spec returns returns-2)
+pub nearest_end_spec : {M : Type 1} → statement M
+nearest_end_spec = tie.close (tie.spec returns returns-2)

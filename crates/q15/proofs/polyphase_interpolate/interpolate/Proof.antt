@@ -18,14 +18,14 @@ use Rattle.q15.proofs.CutFilling.{listed_few, listed_joined}
 use Rattle.q15.proofs.polyphase_interpolate.interpolate.Statement.{statement}
 use Rattle.q15.proofs.polyphase_interpolate.interpolate.Tie as tie
 
-abbrev invariant-loop : tie.invariant-loop
+abbrev invariant-loop : tie.invariant-loop-j
 invariant-loop src coeffs l k count dst₀ i₀ j₀ cuts₀ dst i j cuts = Filled (λ n. phase_output coeffs l k src (n / l) (n % l)) dst₀ count dst j × (j ≡ min (i * l) count) × (cuts ≡ cut_count w16 (listed j (λ n. phase_sum coeffs l k src (n / l) (n % l))))
 
-abbrev decreases-loop : tie.decreases-loop
+abbrev decreases-loop : tie.decreases-loop-j
 decreases-loop src coeffs l k count dst₀ i₀ j₀ cuts₀ dst i j cuts = count - j
 
 -- the places that the facts below come from: each path is counted once
-abbrev turned : tie.After-dst invariant-loop decreases-loop → tie.In-loop invariant-loop decreases-loop
+abbrev turned : tie.After-dst-1 invariant-loop decreases-loop → tie.In-loop-j invariant-loop decreases-loop
 turned c = c.before.before.before.before
 
 abbrev outputs : tie.Start invariant-loop decreases-loop → ℕ → ℤ
@@ -42,42 +42,42 @@ placed j i p l e h =
     (q, omega (arith, m, div-add-mod' j l))
 
 -- where an output is left, those of the first i samples are whole
-whole : (c : tie.In-loop invariant-loop decreases-loop) → c.before.loop.j ≡ c.before.loop.i * c.before.before.args.l
-whole c = omega (arith, c.loop-test.true, c.before.loop.invariant.1)
+whole : (c : tie.In-loop-j invariant-loop decreases-loop) → c.loop-j.j ≡ c.loop-j.i * c.args.l
+whole c = omega (arith, c.loop-j-test.true, c.loop-j.invariant.1)
 
-samples : (c : tie.In-loop invariant-loop decreases-loop) → c.before.loop.i + c.before.before.args.k ≤ length c.before.before.args.src.now
-samples c = c.before.before.requires.7 c.before.loop.i 0 (omega (arith, c.loop-test.true, whole c))
+samples : (c : tie.In-loop-j invariant-loop decreases-loop) → c.loop-j.i + c.args.k ≤ length c.args.src.now
+samples c = c.requires.7 c.loop-j.i 0 (omega (arith, c.loop-j-test.true, whole c))
 
-inside : (c : tie.In-loop invariant-loop decreases-loop) → c.before.loop.j ≤ length c.before.loop.dst
-inside c = omega (arith, c.loop-test.true, c.before.loop.invariant.0.long, c.before.before.requires.0)
+inside : (c : tie.In-loop-j invariant-loop decreases-loop) → c.loop-j.j ≤ length c.loop-j.dst
+inside c = omega (arith, c.loop-j-test.true, c.loop-j.invariant.0.long, c.requires.0)
 
-loop-holds : tie.Need-loop-init invariant-loop decreases-loop
+loop-holds : tie.Need-loop-j-init invariant-loop decreases-loop
 loop-holds c = (none_filled _ _ _, omega (arith, zero-mul c.args.l), refl)
 
-sub-least : tie.Need-overflow-sub-least invariant-loop decreases-loop
-sub-least c = omega (arith, c.loop-test.true)
+sub-least : tie.Need-overflow_sub-count invariant-loop decreases-loop
+sub-least c = omega (arith, c.loop-j-test.true)
 
-least-requires : tie.Need-least-requires invariant-loop decreases-loop
+least-requires : tie.Need-least-m-requires invariant-loop decreases-loop
 least-requires c κs = tt
 
-mul-outputs-of : tie.Need-overflow-mul-outputs-of invariant-loop decreases-loop
+mul-outputs-of : tie.Need-offset_bounds-dst-j invariant-loop decreases-loop
 mul-outputs-of c = search rules
 
-sub-outputs-of : tie.Need-overflow-sub-outputs-of invariant-loop decreases-loop
+sub-outputs-of : tie.Need-slice_bounds-outputs_of-count invariant-loop decreases-loop
 sub-outputs-of c = inside c.before
 
-part-outputs-of-start : tie.Need-slice-bounds-outputs-of-start invariant-loop decreases-loop
+part-outputs-of-start : tie.Need-slice_bounds-outputs_of-start invariant-loop decreases-loop
 part-outputs-of-start c = inside c.before
 
-part-outputs-of-end : tie.Need-slice-bounds-outputs-of-end invariant-loop decreases-loop
+part-outputs-of-end : tie.Need-slice_bounds-outputs_of-end invariant-loop decreases-loop
 part-outputs-of-end c = search rules
 
-outputs-of-requires : tie.Need-outputs-of-requires invariant-loop decreases-loop
+outputs-of-requires : tie.Need-outputs_of-more-requires invariant-loop decreases-loop
 outputs-of-requires c κs =
     let k = c.before.before in
-    let v = k.before.loop in
-    let r = k.before.before.requires in
-    let m = c.before.least.ensures in
+    let v = k.loop-j in
+    let r = k.requires in
+    let m = c.least-m.ensures in
     let n = length v.dst - v.j in (
       omega (arith, m, length-take n (drop v.j v.dst), length-drop v.j v.dst, v.invariant.0.long, r.0),
       omega (arith, m),
@@ -87,60 +87,60 @@ outputs-of-requires c κs =
       samples k,
     )
 
-add-i : tie.Need-overflow-add-i invariant-loop decreases-loop
+add-i : tie.Need-overflow_add-i invariant-loop decreases-loop
 add-i c =
-    let k = turned c in omega (arith, samples k, k.before.before.pre.6)
+    let k = turned c in omega (arith, samples k, k.requires.6)
 
-add-j : tie.Need-overflow-add-j invariant-loop decreases-loop
+add-j : tie.Need-overflow_add-j invariant-loop decreases-loop
 add-j c =
-    let k = turned c in omega (arith, k.loop-test.taken, c.before.before.before.least.ensures)
+    let k = turned c in omega (arith, k.loop-j-test.true, c.least-m.ensures)
 
-add-cuts : tie.Need-overflow-add-cuts invariant-loop decreases-loop
+add-cuts : tie.Need-overflow_add-cuts invariant-loop decreases-loop
 add-cuts c =
     let k = turned c in
-    let v = k.before.loop in
-    let a = k.before.before.args in
-    let m = c.before.before.before.least.result in
+    let v = k.loop-j in
+    let a = k.args in
+    let m = c.least-m.result in
     let few = listed_few v.j (sums k.before.before) in
     let more = listed_few m (phase_sum a.coeffs.now a.l a.k a.src.now v.i) in
-    omega (arith, k.loop-test.taken, c.before.before.before.least.ensures, v.inv.2, few, c.before.outputs-of.ensures.1, more, k.before.before.pre.8)
+    omega (arith, k.loop-j-test.true, c.least-m.ensures, v.invariant.2, few, c.outputs_of-more.ensures.1, more, k.requires.8)
 
-loop-less : tie.Need-loop-smaller invariant-loop decreases-loop
+loop-less : tie.Need-loop-j-smaller invariant-loop decreases-loop
 loop-less c =
-    let k = turned c in omega (arith, k.loop-test.taken, c.before.before.before.least.ensures, k.before.before.pre.1)
+    let k = turned c in omega (arith, k.loop-j-test.true, c.least-m.ensures, k.requires.1)
 
-loop-again : tie.Need-loop-preserved invariant-loop decreases-loop
+loop-again : tie.Need-loop-j-preserved invariant-loop decreases-loop
 unfolding phase_output
 loop-again c =
     let k = turned c in
-    let v = k.before.loop in
+    let v = k.loop-j in
     let s = k.before.before in
     let a = s.args in
-    let m = c.before.before.before.least.result in
-    let e = c.before.before.before.least.ensures in
+    let m = c.least-m.result in
+    let e = c.least-m.ensures in
     let same : (p : ℕ) → p < m → phase_sum a.coeffs.now a.l a.k a.src.now v.i p ≡ sums s (v.j + p) = (λ p h.
     let place = placed (v.j + p) v.i p a.l (omega (arith, whole k)) (omega (arith, e)) in
     ap (λ (n : ℕ). phase_sum a.coeffs.now a.l a.k a.src.now n p) (sym place.0)
     ∙ ap (λ (n : ℕ). phase_sum a.coeffs.now a.l a.k a.src.now ((v.j + p) / a.l) n) (sym place.1))
     in (
-      more_filled (outputs s) a.dst.now a.count v.dst v.j m _ (omega (arith, k.loop-test.taken, e)) s.pre.0 v.inv.0
-          (c.before.outputs-of.ensures.0
+      more_filled (outputs s) a.dst.now a.count v.dst v.j m _ (omega (arith, k.loop-j-test.true, e)) s.requires.0 v.invariant.0
+          (c.outputs_of-more.ensures.0
           ∙ ap (λ (o : List ℤ). o ++ drop m (take (length v.dst - v.j) (drop v.j v.dst))) (listed_ext m _ _ (λ p h. ap (cut w16) (same p h)))),
       omega (arith, e, whole k, suc-mul v.i a.l),
-      ap₂ {C = ℕ} (λ (x y : ℕ). x + y) v.inv.2 (c.before.outputs-of.ensures.1 ∙ ap (cut_count w16) (listed_ext m _ _ same)) ∙ sym (listed_joined v.j m (sums s)),
+      ap₂ {C = ℕ} (λ (x y : ℕ). x + y) v.invariant.2 (c.outputs_of-more.ensures.1 ∙ ap (cut_count w16) (listed_ext m _ _ same)) ∙ sym (listed_joined v.j m (sums s)),
     )
 
-same_length : tie.Need-same-length invariant-loop decreases-loop
-same_length c = c.before.loop.invariant.0.long
+same_length : tie.Need-shape_of-dst invariant-loop decreases-loop
+same_length c = c.loop-j.invariant.0.long
 
 returns : tie.Need-returns invariant-loop decreases-loop
 returns c =
-    let v = c.before.loop in
-    let e : v.j ≡ c.before.before.args.count = omega (arith, c.loop-test.false, v.invariant.0.within) in
-    (all_filled _ _ _ _ _ c.loop-test.false v.invariant.0, v.invariant.2 ∙ ap (λ (n : ℕ). cut_count w16 (listed n (sums c.before.before))) e)
+    let v = c.loop-j in
+    let e : v.j ≡ c.args.count = omega (arith, c.loop-j-test.false, v.invariant.0.within) in
+    (all_filled _ _ _ _ _ c.loop-j-test.false v.invariant.0, v.invariant.2 ∙ ap (λ (n : ℕ). cut_count w16 (listed n (sums c.before.before))) e)
 
-pub interpolate-spec : {M : Type 1} → statement M
-interpolate-spec =
+pub interpolate_spec : {M : Type 1} → statement M
+interpolate_spec =
     tie.close
     (tie.spec
     invariant-loop

@@ -25,49 +25,49 @@ one_product c l s i p =
     (+ℤ_idl (floored_product (at s (i + 0)) (at c (0 * l + p))) ∙ ap (λ (n : ℕ). floored_product (at s n) (at c (0 * l + p))) (add-zero i)
     ∙ ap (λ (n : ℕ). floored_product (at s i) (at c n)) e)
 
-mul-one-tap : tie.Need-overflow-mul-one-tap
+mul-one-tap : tie.Need-offset_bounds-src-i
 mul-one-tap c = search rules
 
-shared-slice-copy-out-one-tap : tie.Need-shared-slice-copy-out-one-tap
-shared-slice-copy-out-one-tap c = omega (arith, c.match.keys1, c.before.requires.5)
+shared-slice-copy-out-one-tap : tie.Need-bounds-src-i
+shared-slice-copy-out-one-tap c = omega (arith, c.in-1.is, c.requires.5)
 
-one-tap-requires : tie.Need-one-tap-requires
+one-tap-requires : tie.Need-one_tap-requires
 one-tap-requires c κs =
     let k = c.before.before in
-    let r = k.before.requires in
-    let f : 1 * k.before.args.l ≤ _ = rw k.match.keys1 at r.3 in
-    (r.0, omega (arith, r.1, f, one-mul k.before.args.l), r.2, r.1)
+    let r = k.requires in
+    let f : 1 * k.args.l ≤ _ = rw k.in-1.is at r.3 in
+    (r.0, omega (arith, r.1, f, one-mul k.args.l), r.2, r.1)
 
 phases-requires : tie.Need-phases-requires
-phases-requires c κs = c.before.before.requires
+phases-requires c κs = c.requires
 
-same_length : tie.Need-same-length
+same_length : tie.Need-shape_of-dst-in-1
 same_length c = search rules
 
-returns : tie.Need-returns
+returns : tie.Need-returns-in-1
 unfolding phase_output
 returns c =
     let k = c.before.before.before.before in
-    let a = k.before.args in
-    let x : SFits w16 (at a.src.now a.i) = record { sfits = c.before.before.before.one-tap-arg.given } in
+    let a = k.args in
+    let x : SFits w16 (at a.src.now a.i) = record { sfits = c.one_tap-arg-1.given } in
     let sums = phase_sum a.coeffs.now a.l 1 a.src.now a.i in
     let one : (p : ℕ) → pos a.l *ℤ floored_product (at a.src.now a.i) (at a.coeffs.now p) ≡ sums p =
     (λ p. sym (one_product a.coeffs.now a.l a.src.now a.i p))
     in
-    rw k.match.keys1 (
-      c.before.one-tap.ensures.0
+    rw k.in-1.is (
+      c.one_tap.ensures.0
           ∙ rw (to_z-of_z x) (ap (λ (o : List ℤ). o ++ drop a.m a.dst.now) (listed_ext a.m _ (λ p. cut w16 (sums p)) (λ p h. ap (cut w16) (one p)))),
-      c.before.one-tap.ensures.1 ∙ rw (to_z-of_z x) (ap (cut_count w16) (listed_ext a.m _ sums (λ p h. one p))),
+      c.one_tap.ensures.1 ∙ rw (to_z-of_z x) (ap (cut_count w16) (listed_ext a.m _ sums (λ p h. one p))),
     )
 
-same-length-2 : tie.Need-same-length-2
+same-length-2 : tie.Need-shape_of-dst-in_default
 same-length-2 c = search rules
 
-returns-2 : tie.Need-returns-2
-returns-2 c = c.before.phases.ensures
+returns-2 : tie.Need-returns-in_default
+returns-2 c = c.phases.ensures
 
-pub outputs-of-spec : {M : Type 1} → statement M
-outputs-of-spec =
+pub outputs_of_spec : {M : Type 1} → statement M
+outputs_of_spec =
     tie.close
     (tie.spec
     mul-one-tap

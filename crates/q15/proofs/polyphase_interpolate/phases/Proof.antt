@@ -13,83 +13,83 @@ use Rattle.q15.proofs.CutFilling.{CutFilled, none_cut, few_cut, next_cut, all_cu
 use Rattle.q15.proofs.polyphase_interpolate.phases.Statement.{statement}
 use Rattle.q15.proofs.polyphase_interpolate.phases.Tie as tie
 
-abbrev invariant-loop : tie.invariant-loop
+abbrev invariant-loop : tie.invariant-loop-p
 invariant-loop src i coeffs l k m dst₀ p₀ cuts₀ dst p cuts = CutFilled (phase_sum coeffs l k src i) dst₀ m dst p cuts
 
-abbrev decreases-loop : tie.decreases-loop
+abbrev decreases-loop : tie.decreases-loop-p
 decreases-loop src i coeffs l k m dst₀ p₀ cuts₀ dst p cuts = m - p
 
-loop-holds : tie.Need-loop-init invariant-loop decreases-loop
+loop-holds : tie.Need-loop-p-init invariant-loop decreases-loop
 loop-holds c = none_cut _ _ _
 
-phase-sum-requires : tie.Need-phase-sum-requires invariant-loop decreases-loop
+phase-sum-requires : tie.Need-phase_sum-sum-requires invariant-loop decreases-loop
 phase-sum-requires c κs =
-    let r = c.before.before.requires in
-    (omega (arith, c.loop-test.true, r.1), r.3, r.5, r.4)
+    let r = c.requires in
+    (omega (arith, c.loop-p-test.true, r.1), r.3, r.5, r.4)
 
-times-requires : tie.Need-times-requires invariant-loop decreases-loop
+times-requires : tie.Need-times-scaled-requires invariant-loop decreases-loop
 times-requires c κs =
-    rw (to_z-of_z {w = w64} {z = c.phase-sum.result} (record { sfits = c.phase-sum.type-inv }))
-    (c.before.before.before.requires.2, c.phase-sum.ensures.1, c.phase-sum.ensures.2)
+    rw (to_z-of_z {w = w64} {z = c.phase_sum-sum.result} (record { sfits = c.phase_sum-sum.type_inv }))
+    (c.requires.2, c.phase_sum-sum.ensures.1, c.phase_sum-sum.ensures.2)
 
-cut-q15-requires : tie.Need-cut-q15-requires invariant-loop decreases-loop
+cut-q15-requires : tie.Need-cut_q15-made-requires invariant-loop decreases-loop
 cut-q15-requires c κs = tt
 
-mul-bits : tie.Need-overflow-mul-bits invariant-loop decreases-loop
+mul-bits : tie.Need-offset_bounds-dst-p invariant-loop decreases-loop
 mul-bits c = search rules
 
-module _ (c : tie.After-struct-told invariant-loop decreases-loop) where
-  abbrev turn : tie.In-loop invariant-loop decreases-loop
+module _ (c : tie.After-struct_told-1 invariant-loop decreases-loop) where
+  abbrev turn : tie.In-loop-p invariant-loop decreases-loop
   turn = c.before.before.before.before.before
 
-  abbrev loop : tie.At-loop invariant-loop decreases-loop
+  abbrev loop : tie.At-loop-p invariant-loop decreases-loop
   loop = turn.before
 
   abbrev start : tie.Start invariant-loop decreases-loop
   start = loop.before
 
-  scaled : let a = start.args in to_z w64 (of_z w64 c.before.before.before.times.result) ≡ phase_sum a.coeffs.now a.l a.k a.src.now a.i loop.loop.p
+  scaled : let a = start.args in to_z w64 (of_z w64 c.times-scaled.result) ≡ phase_sum a.coeffs.now a.l a.k a.src.now a.i loop.loop-p.p
   scaled =
-      let sum = c.before.before.before.before.phase-sum in
-      let made = c.before.before.before.times in
-      to_z-of_z {w = w64} {z = made.result} (record { sfits = made.type-inv }) ∙ made.ensures
-      ∙ ap (λ (z : ℤ). pos start.args.l *ℤ z) (to_z-of_z {w = w64} {z = sum.result} (record { sfits = sum.type-inv }) ∙ sum.ensures.0)
+      let sum = c.phase_sum-sum in
+      let made = c.times-scaled in
+      to_z-of_z {w = w64} {z = made.result} (record { sfits = made.type_inv }) ∙ made.ensures
+      ∙ ap (λ (z : ℤ). pos start.args.l *ℤ z) (to_z-of_z {w = w64} {z = sum.result} (record { sfits = sum.type_inv }) ∙ sum.ensures.0)
 
-  bits : to_z w16 (of_z w16 c.before.before.cut-q15.result.value.0) ≡ c.before.before.cut-q15.result.value.0
+  bits : to_z w16 (of_z w16 c.cut_q15-made.result.value.0) ≡ c.cut_q15-made.result.value.0
   bits = search rules
 
-  value : let a = start.args in to_z w16 (of_z w16 c.before.before.cut-q15.result.value.0) ≡ cut w16 (phase_sum a.coeffs.now a.l a.k a.src.now a.i loop.loop.p)
-  value = bits ∙ c.before.before.cut-q15.ensures.0 ∙ ap (cut w16) scaled
+  value : let a = start.args in to_z w16 (of_z w16 c.cut_q15-made.result.value.0) ≡ cut w16 (phase_sum a.coeffs.now a.l a.k a.src.now a.i loop.loop-p.p)
+  value = bits ∙ c.cut_q15-made.ensures.0 ∙ ap (cut w16) scaled
 
-slice-set-from-bits : tie.Need-slice-set-from-bits invariant-loop decreases-loop
-slice-set-from-bits c = omega (arith, (turn c).loop-test.true, (loop c).loop.invariant.filled.long, (start c).requires.0)
+slice-set-from-bits : tie.Need-bounds-dst-p invariant-loop decreases-loop
+slice-set-from-bits c = omega (arith, (turn c).loop-p-test.true, (loop c).loop-p.invariant.filled.long, (start c).requires.0)
 
-one-more-requires : tie.Need-one-more-requires invariant-loop decreases-loop
+one-more-requires : tie.Need-one_more-cuts-requires invariant-loop decreases-loop
 one-more-requires c κs =
-    let few = few_cut _ _ _ _ _ _ (loop c).loop.invariant in
-    omega (arith, few, (turn c).loop-test.true, (start c).requires.1, (start c).requires.2)
+    let few = few_cut _ _ _ _ _ _ (loop c).loop-p.invariant in
+    omega (arith, few, (turn c).loop-p-test.true, (start c).requires.1, (start c).requires.2)
 
-add-p : tie.Need-overflow-add-p invariant-loop decreases-loop
+add-p : tie.Need-overflow_add-p invariant-loop decreases-loop
 add-p c = search rules
 
-loop-less : tie.Need-loop-smaller invariant-loop decreases-loop
-loop-less c = omega (arith, (turn c.before).loop-test.taken)
+loop-less : tie.Need-loop-p-smaller invariant-loop decreases-loop
+loop-less c = omega (arith, (turn c.before).loop-p-test.true)
 
-loop-again : tie.Need-loop-preserved invariant-loop decreases-loop
+loop-again : tie.Need-loop-p-preserved invariant-loop decreases-loop
 loop-again c =
     let t = c.before in
-    next_cut _ _ _ _ _ _ _ _ _ (turn t).loop-test.true (start t).requires.0 (value t) (t.before.before.cut-q15.ensures.1 ∙ ap (is_cut w16) (scaled t)) c.one_more.ensures
-    (loop t).loop.invariant
+    next_cut _ _ _ _ _ _ _ _ _ (turn t).loop-p-test.true (start t).requires.0 (value t) (t.cut_q15-made.ensures.1 ∙ ap (is_cut w16) (scaled t)) c.one_more-cuts.ensures
+    (loop t).loop-p.invariant
 
-same_length : tie.Need-same-length invariant-loop decreases-loop
-same_length c = c.before.loop.invariant.filled.long
+same_length : tie.Need-shape_of-dst invariant-loop decreases-loop
+same_length c = c.loop-p.invariant.filled.long
 
 returns : tie.Need-returns invariant-loop decreases-loop
 unfolding phase_output
-returns c = all_cut _ _ _ _ _ _ c.loop-test.false c.before.loop.invariant
+returns c = all_cut _ _ _ _ _ _ c.loop-p-test.false c.loop-p.invariant
 
-pub phases-spec : {M : Type 1} → statement M
-phases-spec =
+pub phases_spec : {M : Type 1} → statement M
+phases_spec =
     tie.close
     (tie.spec
     invariant-loop

@@ -15,27 +15,27 @@ use Rattle.q15.proofs.Rows.{BlockIn, interpolate_in, block_refused, refused_coun
 use Rattle.q15.proofs.polyphase_interpolate.polyphase_interpolate_q15.Statement.{statement}
 use Rattle.q15.proofs.polyphase_interpolate.polyphase_interpolate_q15.Tie as tie
 
-interpolate-rows-requires : tie.Need-interpolate-rows-requires
+interpolate-rows-requires : tie.Need-interpolate_rows-rows-requires
 interpolate-rows-requires c κs = tt
 
-enum-known-rows : tie.Need-enum-known-rows
+enum-known-rows : tie.Need-enum_known-rows
 enum-known-rows c = search rules
 
-enum_told : tie.Need-enum-told
+enum_told : tie.Need-enum_told-1
 enum_told c = search rules
 
-module _ (c : tie.After-enum-told) where
+module _ (c : tie.In-Passed) where
   abbrev start : tie.Start
-  start = c.before.before.before
+  start = c.before.before
 
   abbrev L : ℕ
-  L = start.args.interpolation-factor
+  L = start.args.interpolation_factor
 
   abbrev T : ℕ
   T = length start.args.coeffs.now
 
   none : interpolate_number L T (length start.args.src.now) (length start.args.dst.now) ≡ 0
-  none = sym c.before.before.interpolate-rows.ensures ∙ ap rows_number c.enum_told.given.1
+  none = sym c.interpolate_rows-rows.ensures ∙ ap rows_number c.in-Passed.is
 
   limits : BlockIn L T (length start.args.src.now) (length start.args.dst.now)
   limits = (interpolate_in _ _ _ _ none).0
@@ -43,10 +43,10 @@ module _ (c : tie.After-enum-told) where
   multiple : T % L ≡ 0
   multiple = (interpolate_in _ _ _ _ none).1
 
-div-k : tie.Need-nonzero-div-k
+div-k : tie.Need-nonzero_div-k
 div-k c = omega (arith, (limits c).factor.least)
 
-interpolated-count-requires : tie.Need-interpolated-count-requires
+interpolated-count-requires : tie.Need-interpolated_count-count-requires
 interpolated-count-requires c κs = ((limits c).rest.most, (limits c).factor.most)
 
 -- a multiple above zero has a quotient above zero
@@ -61,10 +61,10 @@ some_taps t l h z =
           absurd (omega (arith, e, m, z, h)))
     ]
 
-interpolate-requires : tie.Need-interpolate-requires
+interpolate-requires : tie.Need-interpolate-cuts-requires
 interpolate-requires c κs =
     let e = c.before.before in
-    let r = c.before.interpolated-count.ensures in (
+    let r = c.interpolated_count-count.ensures in (
       omega (arith, r),
       (limits e).factor.least,
       (limits e).factor.most,
@@ -76,27 +76,27 @@ interpolate-requires c κs =
       omega (arith, r, (limits e).rest.span_most),
     )
 
-cast-cuts : tie.Need-overflow-cast-cuts
+cast-cuts : tie.Need-overflow_cast-cuts
 cast-cuts c = search rules
 
-returns : tie.Need-returns
+returns : tie.Need-returns-in-Refused
 returns c =
-    let e = sym (ap rows_number c.before.rows.given.1) ∙ c.before.before.before.interpolate-rows.ensures in
-    let q = c.before.rows.given.0.0 in
+    let e = sym (ap rows_number c.in-Refused.is) ∙ c.interpolate_rows-rows.ensures in
+    let q = c.in-Refused.q in
     let b = block_refused _ q e _ _ _ in
     (b.0, (b.1, refused_count _ q e _ _))
 
-same_length : tie.Need-same-length
+same_length : tie.Need-shape_of-dst
 same_length c = search rules
 
-returns-2 : tie.Need-returns-2
+returns-2 : tie.Need-returns-in-Passed
 unfolding phase_output interpolated phase_sums
 returns-2 c =
-    block_cut _ _ _ _ _ _ _ _ (none c.before.before.before.before) refl c.before.before.before.interpolated-count.ensures c.before.interpolate.ensures.0
-    c.before.interpolate.ensures.1
+    block_cut _ _ _ _ _ _ _ _ (none c.before.before.before.before) refl c.interpolated_count-count.ensures c.interpolate-cuts.ensures.0
+    c.interpolate-cuts.ensures.1
 
-pub polyphase-interpolate-q15-spec : {M : Type 1} → statement M
-polyphase-interpolate-q15-spec =
+pub polyphase_interpolate_q15_spec : {M : Type 1} → statement M
+polyphase_interpolate_q15_spec =
     tie.close
     (tie.spec
     interpolate-rows-requires

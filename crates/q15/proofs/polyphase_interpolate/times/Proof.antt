@@ -21,14 +21,14 @@ module _ (c : tie.Start) where
   told : to_z w64 c.args.l ≡ pos c.args.l
   told = to_z-of_z factor
 
-cast-result : tie.Need-overflow-cast-result
+cast-result : tie.Need-overflow_cast-result
 cast-result c = factor c
 
-mul-result : tie.Need-overflow-mul-result
+mul-result : tie.Need-overflow_mul-result
 mul-result c = rw (told c, to_z-of_z c.ranges.sum) (product c)
 
 returns : tie.Need-returns
 returns c = rw (told c, to_z-of_z c.ranges.sum, to_z-of_z (product c))
 
-pub times-spec : {M : Type 1} → statement M
-times-spec = tie.close (tie.spec cast-result mul-result returns)
+pub times_spec : {M : Type 1} → statement M
+times_spec = tie.close (tie.spec cast-result mul-result returns)

@@ -20,14 +20,14 @@ module _ (c : tie.Start) where
   told : to_z w32 c.args.l ≡ pos c.args.l
   told = to_z-of_z factor
 
-cast-result : tie.Need-overflow-cast-result
+cast-result : tie.Need-overflow_cast-result
 cast-result c = factor c
 
-mul-result : tie.Need-overflow-mul-result
+mul-result : tie.Need-overflow_mul-result
 mul-result c = rw (told c, to_z-of_z c.ranges.product) (product c)
 
 returns : tie.Need-returns
 returns c = rw (told c, to_z-of_z c.ranges.product, to_z-of_z (product c))
 
-pub times-one-spec : {M : Type 1} → statement M
-times-one-spec = tie.close (tie.spec cast-result mul-result returns)
+pub times_one_spec : {M : Type 1} → statement M
+times_one_spec = tie.close (tie.spec cast-result mul-result returns)

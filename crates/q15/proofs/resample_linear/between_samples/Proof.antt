@@ -12,57 +12,64 @@ use Rattle.q15.proofs.Between.{apart, between_fits}
 use Rattle.q15.proofs.resample_linear.between_samples.Statement.{statement}
 use Rattle.q15.proofs.resample_linear.between_samples.Tie as tie
 
-wide-i16-requires : tie.Need-wide-i16-requires
+wide-i16-requires : tie.Need-wide_i16-x-requires
 wide-i16-requires c κs = tt
 
-wide-i16-requires-2 : tie.Need-wide-i16-requires-2
+wide-i16-requires-2 : tie.Need-wide_i16-y-requires
 wide-i16-requires-2 c κs = tt
 
-module _ (c : tie.After-wide-i162) where
+module _ (c : tie.After-wide_i16-y) where
   abbrev start : tie.Start
   start = c.before.before
 
-  x : to_z w64 (of_z w64 c.before.wide-i16.result) ≡ start.args.a
-  x = to_z-of_z {w = w64} {z = c.before.wide-i16.result} (record { sfits = c.before.wide-i16.type-inv }) ∙ c.before.wide-i16.ensures ∙ to_z-of_z start.fits.a
+  x : to_z w64 (of_z w64 c.wide_i16-x.result) ≡ start.args.a
+  x = to_z-of_z {w = w64} {z = c.wide_i16-x.result} (record { sfits = c.wide_i16-x.type_inv }) ∙ c.wide_i16-x.ensures ∙ to_z-of_z start.ranges.a
 
-  y : to_z w64 (of_z w64 c.wide-i162.result) ≡ start.args.b
-  y = to_z-of_z {w = w64} {z = c.wide-i162.result} (record { sfits = c.wide-i162.type-inv }) ∙ c.wide-i162.ensures ∙ to_z-of_z start.fits.b
+  y : to_z w64 (of_z w64 c.wide_i16-y.result) ≡ start.args.b
+  y = to_z-of_z {w = w64} {z = c.wide_i16-y.result} (record { sfits = c.wide_i16-y.type_inv }) ∙ c.wide_i16-y.ensures ∙ to_z-of_z start.ranges.b
 
   near : (up (start.args.b -ℤ start.args.a) ≤ 65535) × (dn (start.args.b -ℤ start.args.a) ≤ 65535)
-  near = apart start.args.a start.args.b start.fits.a start.fits.b
+  near = apart start.args.a start.args.b start.ranges.a start.ranges.b
 
   difference : SFits w64 (start.args.b -ℤ start.args.a)
   difference = fits_of (start.args.b -ℤ start.args.a) (omega (arith, near))
 
-sub-part-of : tie.Need-overflow-sub-part-of
+sub-part-of : tie.Need-overflow_sub-y
 sub-part-of c = rw (x c, y c) (difference c)
 
-part-of-requires : tie.Need-part-of-requires
-part-of-requires c κs = rw (x c, y c, to_z-of_z (difference c)) (c.before.before.requires, (near c).0, (near c).1)
+part-of-requires : tie.Need-part_of-part-requires
+part-of-requires c κs = rw (x c, y c, to_z-of_z (difference c)) (c.requires, (near c).0, (near c).1)
 
-module _ (c : tie.After-part-of) where
+module _ (c : tie.After-part_of-part) where
   abbrev begun : tie.Start
   begun = start c.before
 
-  part : to_z w64 (of_z w64 c.part_of.result) ≡ part_of (begun.args.b -ℤ begun.args.a) begun.args.frac
+  part : to_z w64 (of_z w64 c.part_of-part.result) ≡ part_of (begun.args.b -ℤ begun.args.a) begun.args.frac
   part =
-      to_z-of_z {w = w64} {z = c.part_of.result} (record { sfits = c.part_of.type-inv })
-      ∙ c.part_of.ensures
+      to_z-of_z {w = w64} {z = c.part_of-part.result} (record { sfits = c.part_of-part.type_inv })
+      ∙ c.part_of-part.ensures
       ∙ rw (x c.before, y c.before, to_z-of_z (difference c.before))
 
   whole : SFits w16 (begun.args.a +ℤ part_of (begun.args.b -ℤ begun.args.a) begun.args.frac)
   unfolding between
-  whole = between_fits begun.args.a begun.args.b begun.fits.a begun.fits.b begun.args.frac begun.pre
+  whole = between_fits begun.args.a begun.args.b begun.ranges.a begun.ranges.b begun.args.frac begun.requires
 
-add-t7 : tie.Need-overflow-add-t7
+add-t7 : tie.Need-overflow_add-result
 add-t7 c = rw (x c.before, part c) (sfits_widen {w = w16} {w' = w64} tt (whole c))
 
-cast-t8 : tie.Need-overflow-cast-t8
+cast-t8 : tie.Need-overflow_cast-result
 cast-t8 c = rw (x c.before, part c, to_z-of_z (sfits_widen {w = w16} {w' = w64} tt (whole c))) (whole c)
 
 returns : tie.Need-returns
 unfolding between
 returns c = rw (x c.before, part c, to_z-of_z (sfits_widen {w = w16} {w' = w64} tt (whole c)), to_z-of_z (whole c))
 
-pub between-samples-spec : {M : Type 1} → statement M
-between-samples-spec = tie.close (tie.spec wide-i16-requires wide-i16-requires-2 sub-part-of part-of-requires add-t7 cast-t8 returns)
+pub between_samples_spec : {M : Type 1} → statement M
+between_samples_spec = tie.close (tie.spec
+    wide-i16-requires
+    wide-i16-requires-2
+    sub-part-of
+    part-of-requires
+    add-t7
+    cast-t8
+    returns)

@@ -12,54 +12,54 @@ use Rattle.q15.specs.ResampleLinear.{between, linear_at}
 use Rattle.q15.proofs.resample_linear.linear_at.Statement.{statement}
 use Rattle.q15.proofs.resample_linear.linear_at.Tie as tie
 
-sub-t7 : tie.Need-overflow-sub-t7
+sub-t7 : tie.Need-overflow_sub-result
 sub-t7 c = search rules
 
-mul-t8 : tie.Need-overflow-mul-t8
+mul-t8 : tie.Need-offset_bounds-src-n
 mul-t8 c = search rules
 
-shared-slice-copy-out-t10 : tie.Need-shared-slice-copy-out-t10
+shared-slice-copy-out-t10 : tie.Need-bounds-src-n
 shared-slice-copy-out-t10 c = search rules
 
-returns : tie.Need-returns
+returns : tie.Need-returns-then-n-i
 unfolding linear_at
 returns c =
-    let a = c.before.before.args in
+    let a = c.args in
     let s = a.src.now in
-    rw (le-leb (length s) (a.position / 65536) c.before.if1.true, to_z-of_z {w = w16} {z = at s (length s - 1)} (record { sfits = c.t10.given }))
+    rw (le-leb (length s) (a.position / 65536) c.if-n-i.true, to_z-of_z {w = w16} {z = at s (length s - 1)} (record { sfits = c.result-1.given }))
 
-next-index-requires : tie.Need-next-index-requires
+next-index-requires : tie.Need-next_index-next-requires
 next-index-requires c κs = search rules
 
-mul-between-samples : tie.Need-overflow-mul-between-samples
+mul-between-samples : tie.Need-offset_bounds-src-i
 mul-between-samples c = search rules
 
-shared-slice-copy-out-between-samples : tie.Need-shared-slice-copy-out-between-samples
+shared-slice-copy-out-between-samples : tie.Need-bounds-src-i
 shared-slice-copy-out-between-samples c = search rules
 
-mul-between-samples-2 : tie.Need-overflow-mul-between-samples-2
-mul-between-samples-2 c = omega (arith, c.before.next-index.ensures.1)
+mul-between-samples-2 : tie.Need-offset_bounds-src-next
+mul-between-samples-2 c = omega (arith, c.next_index-next.ensures.1)
 
-shared-slice-copy-out-between-samples-2 : tie.Need-shared-slice-copy-out-between-samples-2
-shared-slice-copy-out-between-samples-2 c = c.before.next-index.ensures.1
+shared-slice-copy-out-between-samples-2 : tie.Need-bounds-src-next
+shared-slice-copy-out-between-samples-2 c = c.next_index-next.ensures.1
 
-between-samples-requires : tie.Need-between-samples-requires
+between-samples-requires : tie.Need-between_samples-requires
 between-samples-requires c κs = search rules
 
-returns-2 : tie.Need-returns-2
+returns-2 : tie.Need-returns
 unfolding linear_at
 returns-2 c =
-    let a = c.before.before.before.before.before.args in
+    let a = c.args in
     let s = a.src.now in
     let i = a.position / 65536 in
-    let n = c.before.before.before.next-index in
-    rw (lt-leb (length s) i c.before.before.before.before.if1.false)
-    (c.between-samples.ensures
-    ∙ rw (to_z-of_z {w = w16} {z = at s i} (record { sfits = c.before.before.between-samples-arg.given }), to_z-of_z {w = w16} {z = at s n.result} (record { sfits = c.before.between-samples-arg2.given }))
+    let n = c.next_index-next in
+    rw (lt-leb (length s) i c.if-n-i.false)
+    (c.between_samples.ensures
+    ∙ rw (to_z-of_z {w = w16} {z = at s i} (record { sfits = c.between_samples-arg-1.given }), to_z-of_z {w = w16} {z = at s n.result} (record { sfits = c.between_samples-arg-2-1.given }))
     (ap (λ (k : ℕ). between (at s i) (at s k) (a.position % 65536)) n.ensures.0))
 
-pub linear-at-spec : {M : Type 1} → statement M
-linear-at-spec =
+pub linear_at_spec : {M : Type 1} → statement M
+linear_at_spec =
     tie.close
     (tie.spec
     sub-t7

@@ -23,15 +23,15 @@ module _ (c : tie.Start) where
   part : SFits w64 (part_of c.args.d c.args.frac)
   part = part_fits c.args.d c.args.frac c.requires.0 (c.requires.1, c.requires.2)
 
-cast-p : tie.Need-overflow-cast-p
+cast-p : tie.Need-overflow_cast-p
 cast-p c = frac c
 
-mul-p : tie.Need-overflow-mul-p
+mul-p : tie.Need-overflow_mul-p
 mul-p c = rw (told c, to_z-of_z c.ranges.d) (product c)
 
 returns : tie.Need-returns
 unfolding part_of
 returns c = rw (told c, to_z-of_z c.ranges.d, to_z-of_z (product c), to_z-of_z (part c))
 
-pub part-of-spec : {M : Type 1} → statement M
-part-of-spec = tie.close (tie.spec cast-p mul-p returns)
+pub part_of_spec : {M : Type 1} → statement M
+part_of_spec = tie.close (tie.spec cast-p mul-p returns)

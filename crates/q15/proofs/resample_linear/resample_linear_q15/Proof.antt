@@ -21,63 +21,63 @@ use Rattle.q15.proofs.Rows.{linear_in, block_refused}
 use Rattle.q15.proofs.resample_linear.resample_linear_q15.Statement.{statement}
 use Rattle.q15.proofs.resample_linear.resample_linear_q15.Tie as tie
 
-linear-rows-requires : tie.Need-linear-rows-requires
+linear-rows-requires : tie.Need-linear_rows-rows-requires
 linear-rows-requires c κs = tt
 
-enum-known-rows : tie.Need-enum-known-rows
+enum-known-rows : tie.Need-enum_known-rows
 enum-known-rows c = search rules
 
-enum_told : tie.Need-enum-told
+enum_told : tie.Need-enum_told-1
 enum_told c = search rules
 
-module _ (c : tie.After-enum-told) where
+module _ (c : tie.In-Passed) where
   abbrev start : tie.Start
-  start = c.before.before.before
+  start = c.before.before
 
-  none : linear_number (length start.args.src.now) (length start.args.dst.now) start.args.ratio-q16 ≡ 0
+  none : linear_number (length start.args.src.now) (length start.args.dst.now) start.args.ratio_q16 ≡ 0
   none =
-      ap (linear_number (length start.args.src.now) (length start.args.dst.now)) (sym (to_z-of_z start.fits.ratio-q16))
-      ∙ sym c.before.before.linear-rows.ensures
-      ∙ ap rows_number c.enum_told.given.1
+      ap (linear_number (length start.args.src.now) (length start.args.dst.now)) (sym (to_z-of_z start.ranges.ratio_q16))
+      ∙ sym c.linear_rows-rows.ensures
+      ∙ ap rows_number c.in-Passed.is
 
   limits : Lengths (length start.args.src.now) (length start.args.dst.now)
   limits = (linear_in _ _ _ none).0
 
-  ratio : (T (non_neg start.args.ratio-q16) × Fits w64 (nat_abs start.args.ratio-q16)) × (nat_abs start.args.ratio-q16 < 2 ^ 31)
-  ratio = ratio_fits start.args.ratio-q16 start.fits.ratio-q16 (linear_in _ _ _ none).1
+  ratio : (T (non_neg start.args.ratio_q16) × Fits w64 (nat_abs start.args.ratio_q16)) × (nat_abs start.args.ratio_q16 < 2 ^ 31)
+  ratio = ratio_fits start.args.ratio_q16 start.ranges.ratio_q16 (linear_in _ _ _ none).1
 
-cast-resample : tie.Need-overflow-cast-resample
-cast-resample c = rw (to_z-of_z (start c).ranges.ratio-q16) (ratio c).0
+cast-resample : tie.Need-overflow_cast-ratio_q16
+cast-resample c = rw (to_z-of_z (start c).ranges.ratio_q16) (ratio c).0
 
 resample-requires : tie.Need-resample-requires
 resample-requires c κs =
     let e = c.before in
-    rw (to_z-of_z (start e).ranges.ratio-q16) ((limits e).least, (limits e).most, (ratio e).1, (limits e).span_most)
+    rw (to_z-of_z (start e).ranges.ratio_q16) ((limits e).least, (limits e).most, (ratio e).1, (limits e).span_most)
 
-returns : tie.Need-returns
+returns : tie.Need-returns-in-Refused
 returns c =
-    let s = c.before.before.before.before in
+    let s = c.before.before in
     let e =
-    sym (ap rows_number c.before.rows.given.1)
-    ∙ c.before.before.before.linear-rows.ensures
-    ∙ ap (linear_number (length s.args.src.now) (length s.args.dst.now)) (to_z-of_z s.ranges.ratio-q16) in
-    block_refused _ c.before.rows.given.0.0 e _ _ _
+    sym (ap rows_number c.in-Refused.is)
+    ∙ c.linear_rows-rows.ensures
+    ∙ ap (linear_number (length s.args.src.now) (length s.args.dst.now)) (to_z-of_z s.ranges.ratio_q16) in
+    block_refused _ c.in-Refused.q e _ _ _
 
-same_length : tie.Need-same-length
+same_length : tie.Need-shape_of-dst
 same_length c = search rules
 
-returns-2 : tie.Need-returns-2
+returns-2 : tie.Need-returns-in-Passed
 unfolding resampled
 returns-2 c =
     let e = c.before.before.before in
     let a = (start e).args in
     let whole : length a.dst.now ≡ min (length a.dst.now) (length a.dst.now) = omega arith in
     block_filled _ _ _ _ _ _ _ (none e) whole refl
-    (c.before.resample.ensures
-    ∙ ap (λ (r : ℤ). listed (length a.dst.now) (λ i. linear_at a.src.now (i * nat_abs r)) ++ drop (length a.dst.now) a.dst.now) (to_z-of_z (start e).ranges.ratio-q16))
+    (c.resample.ensures
+    ∙ ap (λ (r : ℤ). listed (length a.dst.now) (λ i. linear_at a.src.now (i * nat_abs r)) ++ drop (length a.dst.now) a.dst.now) (to_z-of_z (start e).ranges.ratio_q16))
 
-pub resample-linear-q15-spec : {M : Type 1} → statement M
-resample-linear-q15-spec =
+pub resample_linear_q15_spec : {M : Type 1} → statement M
+resample_linear_q15_spec =
     tie.close
     (tie.spec
     linear-rows-requires

@@ -3,38 +3,38 @@ use Rattle.std.proofs.Common.{rules}
 use Rattle.records.proofs.answers.same_counts.Statement.{statement}
 use Rattle.records.proofs.answers.same_counts.Tie as tie
 
-enum-known-answer : tie.Need-enum-known-answer
+enum-known-answer : tie.Need-enum_known-answer
 enum-known-answer c = search rules
 
 same-requires : tie.Need-same-requires
 same-requires c κs = search rules
 
-same-long-requires : tie.Need-same-long-requires
+same-long-requires : tie.Need-same_long-next-requires
 same-long-requires c κs = search rules
 
-same-long-requires-2 : tie.Need-same-long-requires-2
+same-long-requires-2 : tie.Need-same_long-requires
 same-long-requires-2 c κs = search rules
 
-enum-known-answer-2 : tie.Need-enum-known-answer-2
+enum-known-answer-2 : tie.Need-enum_known-answer-in-Refused-1
 enum-known-answer-2 c = search rules
 
-same-refusal-requires : tie.Need-same-refusal-requires
+same-refusal-requires : tie.Need-same_refusal-requires
 same-refusal-requires c κs = search rules
 
-same-long-requires-3 : tie.Need-same-long-requires-3
+same-long-requires-3 : tie.Need-same_long-next-requires-in-Refused
 same-long-requires-3 c κs = search rules
 
-same-long-requires-4 : tie.Need-same-long-requires-4
+same-long-requires-4 : tie.Need-same_long-requires-in-Refused
 same-long-requires-4 c κs = search rules
 
-returns : tie.Need-returns
-returns c = rw c.before.before.before.before.answer.given.1 (rw (c.before.same-long.ensures, c.before.before.same.ensures) at c.same-long2.ensures)
+returns : tie.Need-returns-in-Moved
+returns c = rw c.in-Moved.is (rw (c.same_long-next.ensures, c.same.ensures) at c.same_long.ensures)
 
-returns-2 : tie.Need-returns-2
-returns-2 c = rw c.before.before.before.before.answer2.given.1 (rw (c.before.same-long3.ensures, c.before.before.same-refusal.ensures) at c.same-long4.ensures)
+returns-2 : tie.Need-returns-in-Refused
+returns-2 c = rw c.in-Refused.is (rw (c.same_long-next-in-Refused.ensures, c.same_refusal.ensures) at c.same_long-in-Refused.ensures)
 
-pub same-counts-spec : {M : Type 1} → statement M
-same-counts-spec =
+pub same_counts_spec : {M : Type 1} → statement M
+same_counts_spec =
     tie.close
     (tie.spec
     enum-known-answer

@@ -6,10 +6,10 @@ use Rattle.records.proofs.slices.behind.Tie as tie
 word-requires : tie.Need-word-requires
 word-requires c κs = search rules
 
-cast-rest : tie.Need-overflow-cast-rest
+cast-rest : tie.Need-overflow_cast-word
 cast-rest c = search rules
 
-add-rest : tie.Need-overflow-add-rest
+add-rest : tie.Need-overflow_add-word
 add-rest c = search rules
 
 rest-requires : tie.Need-rest-requires
@@ -18,5 +18,10 @@ rest-requires c κs = search rules
 returns : tie.Need-returns
 returns c = cc
 
-pub behind-spec : {M : Type 1} → statement M
-behind-spec = tie.close (tie.spec word-requires cast-rest add-rest rest-requires returns)
+pub behind_spec : {M : Type 1} → statement M
+behind_spec = tie.close (tie.spec
+    word-requires
+    cast-rest
+    add-rest
+    rest-requires
+    returns)

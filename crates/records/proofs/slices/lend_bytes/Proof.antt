@@ -3,14 +3,14 @@ use Rattle.std.proofs.Common.{◌≡◌, ◌-◌, ◌≤◌, length, rules}
 use Rattle.records.proofs.slices.lend_bytes.Statement.{statement}
 use Rattle.records.proofs.slices.lend_bytes.Tie as tie
 
-abbrev invariant-loop : tie.invariant-loop
+abbrev invariant-loop : tie.invariant-loop-i
 invariant-loop lent places₀ stride pattern₀ i₀ places pattern i = (length places ≡ length places₀) × (i ≤ length places₀)
 
-abbrev decreases-loop : tie.decreases-loop
+abbrev decreases-loop : tie.decreases-loop-i
 decreases-loop lent places₀ stride pattern₀ i₀ places pattern i = length places₀ - i
 
-pub lend-bytes-spec : {M : Type 1} → statement M
-lend-bytes-spec =
+pub lend_bytes_spec : {M : Type 1} → statement M
+lend_bytes_spec =
     tie.close
     (tie.spec
     invariant-loop

@@ -3,14 +3,14 @@ use Rattle.std.proofs.Common.{◌-◌, ◌≤◌, length, rules}
 use Rattle.records.proofs.slices.same_bytes.Statement.{statement}
 use Rattle.records.proofs.slices.same_bytes.Tie as tie
 
-abbrev invariant-loop : tie.invariant-loop
+abbrev invariant-loop : tie.invariant-loop-i
 invariant-loop w at lent places listed stride pattern₀ next₀ i₀ pattern next i = i ≤ length places
 
-abbrev decreases-loop : tie.decreases-loop
+abbrev decreases-loop : tie.decreases-loop-i
 decreases-loop w at lent places listed stride pattern₀ next₀ i₀ pattern next i = length places - i
 
-pub same-bytes-spec : {M : Type 1} → statement M
-same-bytes-spec =
+pub same_bytes_spec : {M : Type 1} → statement M
+same_bytes_spec =
     tie.close
     (tie.spec
     invariant-loop

@@ -1,5 +1,5 @@
 -- `records::words::bits` meets its contract, and is safe: a value that equals itself is no NaN, so that it has bits.
-use Rattle.std.proofs.Common.{◌≡◌, Bool, true, not, T, sym, subst, rules}
+use Rattle.std.proofs.Common.{◌≡◌, true, not, T, sym, subst}
 use lib.Ieee.{Float, nan, inf, fin, eq, is_nan}
 use Rattle.records.specs.Comparison.{bits_of}
 use Rattle.records.proofs.words.bits.Statement.{statement}
@@ -11,18 +11,15 @@ no_nan nan e = subst T (sym e) tt
 no_nan (inf s) e = tt
 no_nan (fin s m k) e = tt
 
-returns : tie.Need-returns
+returns : tie.Need-returns-then-x
 unfolding bits_of
-returns c = rw c.if1.true
+returns c = rw c.if-x.true
 
-returns-2 : tie.Need-returns-2
+returns-2 : tie.Need-returns
 unfolding bits_of
-returns-2 c = rw c.if1.false
+returns-2 c = rw c.if-x.false
 
-pub bits-spec : {M : Type 1} → statement M
-bits-spec =
+pub bits_spec : {M : Type 1} → statement M
+bits_spec =
     tie.close
-    (tie.spec
-    (λ c. no_nan c.before.args.x c.if1.true)
-    returns
-    returns-2)
+    (tie.spec (λ c. no_nan c.args.x c.if-x.true) returns returns-2)

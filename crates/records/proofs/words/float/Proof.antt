@@ -1,6 +1,6 @@
 -- `records::words::float` meets its contract, and is safe: below its sign a NaN's pattern is above that of infinity, and no other is.
-use Rattle.std.proofs.Common.{◌≡◌, ℕ, ◌%◌, ◌≤◌, not, T, sym, refl, ◌∙◌, subst, rules, le-ltb, lt-ltb}
-use lib.Ieee.{Float, binary32, nan, nan_bits, of_bits, div}
+use Rattle.std.proofs.Common.{◌≡◌, ℕ, ◌%◌, ◌≤◌, not, T, sym, refl, ◌∙◌, subst, le-ltb, lt-ltb}
+use lib.Ieee.{binary32, nan, nan_bits, of_bits, div}
 use lib.Ieee.Bits.{nan_bits_above}
 use Rattle.records.specs.Comparison.{float_of}
 use Rattle.records.proofs.words.float.Statement.{statement}
@@ -13,18 +13,15 @@ no_number : div binary32 (of_bits binary32 0) (of_bits binary32 0) ≡ nan
 unfolding div of_bits
 no_number = refl
 
-returns : tie.Need-returns
+returns : tie.Need-returns-then-x-gt2139095040
 unfolding float_of
-returns c = rw (lt-ltb 2139095040 (c.before.args.x % 2147483648) c.if1.true) no_number
+returns c = rw (lt-ltb 2139095040 (c.args.x % 2147483648) c.if-x-gt2139095040.true) no_number
 
-returns-2 : tie.Need-returns-2
+returns-2 : tie.Need-returns
 unfolding float_of
-returns-2 c = rw (le-ltb 2139095040 (c.before.args.x % 2147483648) c.if1.false)
+returns-2 c = rw (le-ltb 2139095040 (c.args.x % 2147483648) c.if-x-gt2139095040.false)
 
-pub float-spec : {M : Type 1} → statement M
-float-spec =
+pub float_spec : {M : Type 1} → statement M
+float_spec =
     tie.close
-    (tie.spec
-    returns
-    (λ c. no_pattern c.before.args.x c.if1.false)
-    returns-2)
+    (tie.spec returns (λ c. no_pattern c.args.x c.if-x-gt2139095040.false) returns-2)

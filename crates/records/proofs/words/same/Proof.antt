@@ -4,27 +4,33 @@ use Rattle.records.specs.Comparison.{after}
 use Rattle.records.proofs.words.same.Statement.{statement}
 use Rattle.records.proofs.words.same.Tie as tie
 
-mul-if2 : tie.Need-overflow-mul-if2
+mul-if2 : tie.Need-offset_bounds-w-at
 mul-if2 c = search rules
 
-shared-slice-read-if2 : tie.Need-shared-slice-read-if2
+shared-slice-read-if2 : tie.Need-bounds-w-at
 shared-slice-read-if2 c = search rules
 
-add-result : tie.Need-overflow-add-result
+add-result : tie.Need-overflow_add-result
 add-result c = search rules
 
-returns : tie.Need-returns
+returns : tie.Need-returns-then-w-at
 unfolding after
-returns c = rw (lt-ltb _ _ c.before.before.if1.true, eq-eqb _ _ c.if2.true)
+returns c = rw (lt-ltb _ _ c.if-at-w.true, eq-eqb _ _ c.if-w-at.true)
 
-returns-2 : tie.Need-returns-2
+returns-2 : tie.Need-returns-else-w-at
 unfolding after
-returns-2 c = rw (lt-ltb _ _ c.before.before.if1.true, ne_eqb _ _ c.if2.false)
+returns-2 c = rw (lt-ltb _ _ c.if-at-w.true, ne_eqb _ _ c.if-w-at.false)
 
-returns-3 : tie.Need-returns-3
+returns-3 : tie.Need-returns-else-at-w
 unfolding after
-returns-3 c = rw (le-ltb _ _ c.if1.false)
+returns-3 c = rw (le-ltb _ _ c.if-at-w.false)
 
 pub same_spec : {M : Type 1} → statement M
 same_spec =
-    tie.close (tie.spec mul-if2 shared-slice-read-if2 add-result returns returns-2 returns-3)
+    tie.close (tie.spec
+    mul-if2
+    shared-slice-read-if2
+    add-result
+    returns
+    returns-2
+    returns-3)

@@ -9,11 +9,15 @@ same-requires c κs = search rules
 same-requires-2 : tie.Need-same-requires-2
 same-requires-2 c κs = search rules
 
-returns : tie.Need-returns
-returns c = rw c.before.if1.true c.same.ensures
+returns : tie.Need-returns-then-x
+returns c = rw c.if-x.true c.same.ensures
 
-returns-2 : tie.Need-returns-2
-returns-2 c = rw c.before.if1.false c.same2.ensures
+returns-2 : tie.Need-returns
+returns-2 c = rw c.if-x.false c.same-2.ensures
 
-pub same-flag-spec : {M : Type 1} → statement M
-same-flag-spec = tie.close (tie.spec same-requires returns same-requires-2 returns-2)
+pub same_flag_spec : {M : Type 1} → statement M
+same_flag_spec = tie.close (tie.spec
+    same-requires
+    returns
+    same-requires-2
+    returns-2)

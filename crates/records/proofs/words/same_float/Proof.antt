@@ -12,5 +12,5 @@ same-requires c κs = search rules
 returns : tie.Need-returns
 returns c = cc
 
-pub same-float-spec : {M : Type 1} → statement M
-same-float-spec = tie.close (tie.spec bits-requires same-requires returns)
+pub same_float_spec : {M : Type 1} → statement M
+same_float_spec = tie.close (tie.spec bits-requires same-requires returns)

@@ -3,20 +3,25 @@ use Rattle.std.proofs.Common.{rules}
 use Rattle.records.proofs.words.same_long.Statement.{statement}
 use Rattle.records.proofs.words.same_long.Tie as tie
 
-cast_same : tie.Need-overflow-cast-same
+cast_same : tie.Need-overflow_cast-x
 cast_same c = search rules
 
-same-requires : tie.Need-same-requires
+same-requires : tie.Need-same-next-requires
 same-requires c κs = search rules
 
-cast-same-2 : tie.Need-overflow-cast-same-2
+cast-same-2 : tie.Need-overflow_cast-x-2
 cast-same-2 c = search rules
 
-same-requires-2 : tie.Need-same-requires-2
+same-requires-2 : tie.Need-same-requires
 same-requires-2 c κs = search rules
 
 returns : tie.Need-returns
 returns c = cc
 
-pub same-long-spec : {M : Type 1} → statement M
-same-long-spec = tie.close (tie.spec cast_same same-requires cast-same-2 same-requires-2 returns)
+pub same_long_spec : {M : Type 1} → statement M
+same_long_spec = tie.close (tie.spec
+    cast_same
+    same-requires
+    cast-same-2
+    same-requires-2
+    returns)

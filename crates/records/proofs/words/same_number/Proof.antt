@@ -13,14 +13,19 @@ word-requires c κs = search rules
 same-requires : tie.Need-same-requires
 same-requires c κs = search rules
 
-returns : tie.Need-returns
+returns : tie.Need-returns-then-number-x
 unfolding after_if
-returns c = rw (eq-eqb _ _ (rw c.before.before.before.number.ensures at c.before.before.if1.true)) (rw c.before.word.ensures at c.same.ensures)
+returns c = rw (eq-eqb _ _ (rw c.number.ensures at c.if-number-x.true)) (rw c.word.ensures at c.same.ensures)
 
-returns-2 : tie.Need-returns-2
+returns-2 : tie.Need-returns
 unfolding after_if
-returns-2 c = rw (ne_eqb _ _ (rw c.before.number.ensures at c.if1.false))
+returns-2 c = rw (ne_eqb _ _ (rw c.number.ensures at c.if-number-x.false))
 
-pub same-number-spec : {M : Type 1} → statement M
-same-number-spec =
-    tie.close (tie.spec number-requires word-requires same-requires returns returns-2)
+pub same_number_spec : {M : Type 1} → statement M
+same_number_spec =
+    tie.close (tie.spec
+    number-requires
+    word-requires
+    same-requires
+    returns
+    returns-2)

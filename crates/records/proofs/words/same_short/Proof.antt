@@ -10,21 +10,27 @@ word-requires c κs = search rules
 short-requires : tie.Need-short-requires
 short-requires c κs = search rules
 
-word-requires-2 : tie.Need-word-requires-2
+word-requires-2 : tie.Need-word-requires-then-short-x
 word-requires-2 c κs = search rules
 
 same-requires : tie.Need-same-requires
 same-requires c κs = search rules
 
-returns : tie.Need-returns
+returns : tie.Need-returns-then-short-x
 unfolding after_if
-returns c = rw (eq-eqb _ _ (rw (c.before.before.before.short.ensures, c.before.before.before.before.word.ensures) at c.before.before.if1.true)) (rw c.before.word2.ensures at c.same.ensures)
+returns c = rw (eq-eqb _ _ (rw (c.short.ensures, c.word.ensures) at c.if-short-x.true)) (rw c.word-then-short-x.ensures at c.same.ensures)
 
-returns-2 : tie.Need-returns-2
+returns-2 : tie.Need-returns
 unfolding after_if
-returns-2 c = rw (ne_eqb _ _ (rw (c.before.short.ensures, c.before.before.word.ensures) at c.if1.false))
+returns-2 c = rw (ne_eqb _ _ (rw (c.short.ensures, c.word.ensures) at c.if-short-x.false))
 
-pub same-short-spec : {M : Type 1} → statement M
-same-short-spec =
+pub same_short_spec : {M : Type 1} → statement M
+same_short_spec =
     tie.close
-    (tie.spec word-requires short-requires word-requires-2 same-requires returns returns-2)
+    (tie.spec
+    word-requires
+    short-requires
+    word-requires-2
+    same-requires
+    returns
+    returns-2)

@@ -3,22 +3,27 @@ use Rattle.std.proofs.Common.{◌≡◌, ◌-◌, ap, arith, w64, to_z, rules}
 use Rattle.records.proofs.words.signed_long.Statement.{statement}
 use Rattle.records.proofs.words.signed_long.Tie as tie
 
-cast-result : tie.Need-overflow-cast-result
+cast-result : tie.Need-overflow_cast-result
 cast-result c = search rules
 
-returns : tie.Need-returns
+returns : tie.Need-returns-then-x-lt9223372036854775808
 returns c = search rules
 
-sub-result : tie.Need-overflow-sub-result
+sub-result : tie.Need-overflow_sub-result
 sub-result c = search rules
 
-cast-result-2 : tie.Need-overflow-cast-result-2
+cast-result-2 : tie.Need-overflow_cast-result-2
 cast-result-2 c = search rules
 
-returns-2 : tie.Need-returns-2
+returns-2 : tie.Need-returns
 returns-2 c =
-    let e : 18446744073709551615 - (18446744073709551615 - c.before.args.x) ≡ c.before.args.x = omega arith in
+    let e : 18446744073709551615 - (18446744073709551615 - c.args.x) ≡ c.args.x = omega arith in
     ap (to_z w64) e
 
-pub signed-long-spec : {M : Type 1} → statement M
-signed-long-spec = tie.close (tie.spec cast-result returns sub-result cast-result-2 returns-2)
+pub signed_long_spec : {M : Type 1} → statement M
+signed_long_spec = tie.close (tie.spec
+    cast-result
+    returns
+    sub-result
+    cast-result-2
+    returns-2)

@@ -4,17 +4,21 @@ use lib.ListN.{get_or-eq_default}
 use Rattle.records.proofs.words.word.Statement.{statement}
 use Rattle.records.proofs.words.word.Tie as tie
 
-mul-result : tie.Need-overflow-mul-result
+mul-result : tie.Need-offset_bounds-w-at
 mul-result c = search rules
 
-shared-slice-read-result : tie.Need-shared-slice-read-result
+shared-slice-read-result : tie.Need-bounds-w-at
 shared-slice-read-result c = search rules
 
-returns : tie.Need-returns
+returns : tie.Need-returns-then-at-w
 returns c = search rules
 
-returns-2 : tie.Need-returns-2
-returns-2 c = sym (get_or-eq_default c.before.args.w.now 0 c.if1.false)
+returns-2 : tie.Need-returns-else-at-w
+returns-2 c = sym (get_or-eq_default c.args.w.now 0 c.if-at-w.false)
 
-pub word-spec : {M : Type 1} → statement M
-word-spec = tie.close (tie.spec mul-result shared-slice-read-result returns returns-2)
+pub word_spec : {M : Type 1} → statement M
+word_spec = tie.close (tie.spec
+    mul-result
+    shared-slice-read-result
+    returns
+    returns-2)

@@ -5,14 +5,14 @@ use borrow.Author.Rules.{rules}
 use Rattle.replay_integer.proofs.numbers.same_numbers.Statement.{statement}
 use Rattle.replay_integer.proofs.numbers.same_numbers.Tie as tie
 
-abbrev invariant-loop : tie.invariant-loop
+abbrev invariant-loop : tie.invariant-loop-i
 invariant-loop w at numbers next₀ i₀ next i = i ≤ length numbers
 
-abbrev decreases-loop : tie.decreases-loop
+abbrev decreases-loop : tie.decreases-loop-i
 decreases-loop w at numbers next₀ i₀ next i = length numbers - i
 
-pub same-numbers-spec : {M : Type 1} → statement M
-same-numbers-spec =
+pub same_numbers_spec : {M : Type 1} → statement M
+same_numbers_spec =
     tie.close
     (tie.spec
     invariant-loop

@@ -3,14 +3,14 @@ use borrow.Author.Rules.{rules}
 use Rattle.replay_line.proofs.gauge_line.same_feeds.Statement.{statement}
 use Rattle.replay_line.proofs.gauge_line.same_feeds.Tie as tie
 
-abbrev invariant-loop : tie.invariant-loop
+abbrev invariant-loop : tie.invariant-loop-feeds
 invariant-loop w line₀ left₀ feeds₀ line left feeds = Unit {0}
 
-abbrev decreases-loop : tie.decreases-loop
+abbrev decreases-loop : tie.decreases-loop-feeds
 decreases-loop w line₀ left₀ feeds₀ line left feeds = feeds
 
-pub same-feeds-spec : {M : Type 1} → statement M
-same-feeds-spec =
+pub same_feeds_spec : {M : Type 1} → statement M
+same_feeds_spec =
     tie.close
     (tie.spec
     invariant-loop

@@ -4,8 +4,8 @@ use borrow.Author.Rules.{rules}
 use Rattle.replay_phase.proofs.blocks.call.Statement.{statement}
 use Rattle.replay_phase.proofs.blocks.call.Tie as tie
 
-pub call-spec : {M : Type 1} → statement M
-call-spec =
+pub call_spec : {M : Type 1} → statement M
+call_spec =
     tie.close
     (tie.spec
     (λ c κs. search rules)

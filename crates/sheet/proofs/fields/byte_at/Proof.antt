@@ -6,17 +6,21 @@ use borrow.Author.Rules.{rules}
 use Rattle.sheet.proofs.fields.byte_at.Statement.{statement}
 use Rattle.sheet.proofs.fields.byte_at.Tie as tie
 
-shared-slice-read-wide : tie.Need-shared-slice-read-wide
+shared-slice-read-wide : tie.Need-bounds-bytes-at
 shared-slice-read-wide c = search rules
 
 wide-requires : tie.Need-wide-requires
 wide-requires c κs = search rules
 
-returns : tie.Need-returns
+returns : tie.Need-returns-then-at-bytes
 returns c = search rules
 
-returns-2 : tie.Need-returns-2
-returns-2 c = (sym (get_or-eq_default c.before.before.args.bytes.now 0 c.if1.false), omega arith)
+returns-2 : tie.Need-returns
+returns-2 c = (sym (get_or-eq_default c.args.bytes.now 0 c.if-at-bytes.false), omega arith)
 
-pub byte-at-spec : {M : Type 1} → statement M
-byte-at-spec = tie.close (tie.spec shared-slice-read-wide wide-requires returns returns-2)
+pub byte_at_spec : {M : Type 1} → statement M
+byte_at_spec = tie.close (tie.spec
+    shared-slice-read-wide
+    wide-requires
+    returns
+    returns-2)

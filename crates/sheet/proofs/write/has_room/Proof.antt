@@ -14,14 +14,14 @@ moved at n places h = elim (dec_le (at + n) places) [
   | no l ↦ rw (lt-leb (at + n) places (omega arith)) (lt-leb at (places - n) (omega arith))
 ]
 
-returns : tie.Need-returns
+returns : tie.Need-returns-then-places-n
 returns c =
-    let s = c.before.args in
+    let s = c.args in
     let h : s.places < s.at + s.n = omega arith in
     sym (lt-leb (s.at + s.n) s.places h)
 
-returns-2 : tie.Need-returns-2
-returns-2 c = let s = c.before.args in moved s.at s.n s.places c.if1.false
+returns-2 : tie.Need-returns
+returns-2 c = let s = c.args in moved s.at s.n s.places c.if-places-n.false
 
-pub has-room-spec : {M : Type 1} → statement M
-has-room-spec = tie.close (tie.spec returns returns-2)
+pub has_room_spec : {M : Type 1} → statement M
+has_room_spec = tie.close (tie.spec returns returns-2)

@@ -15,77 +15,75 @@ use borrow.Author.Rules.{rules}
 use Rattle.taking_up.proofs.get.get_i32s.Statement.{statement}
 use Rattle.taking_up.proofs.get.get_i32s.Tie as tie
 
-abbrev invariant-loop : tie.invariant-loop
+abbrev invariant-loop : tie.invariant-loop-i
 invariant-loop bytes at n into₀ i₀ into i = (i ≤ n) × ((into ≡ laid 0 (values_at i32_at 4 bytes at i) into₀) × (length into ≡ length into₀))
 
-abbrev decreases-loop : tie.decreases-loop
+abbrev decreases-loop : tie.decreases-loop-i
 decreases-loop bytes at n into₀ i₀ into i = n - i
 
 -- src/get.rt:47:5
-loop-holds : tie.Need-loop-init invariant-loop decreases-loop
-loop-holds c = let s = c.before.args in (zero-le, (get_first i32_at 4 s.bytes.now s.at 0 s.into.now, refl))
+loop-holds : tie.Need-loop-i-init invariant-loop decreases-loop
+loop-holds c = let s = c.args in (zero-le, (get_first i32_at 4 s.bytes.now s.at 0 s.into.now, refl))
 
 -- src/get.rt:48:49
-mul-le32-at : tie.Need-overflow-mul-le32-at invariant-loop decreases-loop
+mul-le32-at : tie.Need-overflow_mul-i invariant-loop decreases-loop
 mul-le32-at c = search rules
 
 -- src/get.rt:48:44
-add-le32-at : tie.Need-overflow-add-le32-at invariant-loop decreases-loop
+add-le32-at : tie.Need-overflow_add-at invariant-loop decreases-loop
 add-le32-at c = search rules
 
 -- src/get.rt:48:29
-le32-at-requires : tie.Need-le32-at-requires invariant-loop decreases-loop
+le32-at-requires : tie.Need-le32_at-requires invariant-loop decreases-loop
 le32-at-requires c κs = search rules
 
 -- src/get.rt:48:13
-narrow32-requires : tie.Need-narrow32-requires invariant-loop decreases-loop
+narrow32-requires : tie.Need-narrow32-word-requires invariant-loop decreases-loop
 narrow32-requires c κs = search rules
 
 -- src/get.rt:49:19
-i32-of-bits-requires : tie.Need-i32-of-bits-requires invariant-loop decreases-loop
+i32-of-bits-requires : tie.Need-i32_of_bits-requires invariant-loop decreases-loop
 i32-of-bits-requires c κs = search rules
 
 -- src/get.rt:49:9
-mul-t8 : tie.Need-overflow-mul-t8 invariant-loop decreases-loop
+mul-t8 : tie.Need-offset_bounds-into-i invariant-loop decreases-loop
 mul-t8 c = search rules
 
 -- src/get.rt:49:9
-slice-set-from-into : tie.Need-slice-set-from-into invariant-loop decreases-loop
+slice-set-from-into : tie.Need-bounds-into-i invariant-loop decreases-loop
 slice-set-from-into c = search rules
 
 -- src/get.rt:50:9
-add-i : tie.Need-overflow-add-i invariant-loop decreases-loop
+add-i : tie.Need-overflow_add-i invariant-loop decreases-loop
 add-i c = search rules
 
 -- src/get.rt:47:5
-loop-less : tie.Need-loop-smaller invariant-loop decreases-loop
+loop-less : tie.Need-loop-i-smaller invariant-loop decreases-loop
 loop-less c = search rules
 
 -- src/get.rt:47:5
-loop-again : tie.Need-loop-preserved invariant-loop decreases-loop
+loop-again : tie.Need-loop-i-preserved invariant-loop decreases-loop
 loop-again c =
-    let a = c.before.before.before.before in
-    let s = a.before.before.args in
-    let i = a.loop.i in
-    let h : i < s.n = c.before.before.before.loop-test.true in
-    let value : to_z w32 (of_z w32 c.i32-of-bits.result) ≡ i32_at s.bytes.now (s.at + 4 * i) = to_z-of_z {w = w32} {z = c.i32-of-bits.result} (record { sfits = c.i32-of-bits.type-inv }) ∙ c.i32-of-bits.ensures ∙ ap (to_z w32) (c.before.narrow32.ensures ∙ c.before.before.le32-at.ensures.0) in
-    let y : ℤ = to_z w32 (of_z w32 c.i32-of-bits.result) in
-    (search rules, (ap (λ (v : ℤ). set a.loop.into (i) v) value ∙ ap (λ (k : ℕ). set a.loop.into k (i32_at s.bytes.now (s.at + 4 * i))) (sym (zero-add i)) ∙ get_one i32_at 4 s.bytes.now s.at 0 i s.into.now a.loop.into a.loop.invariant.1.0 (omega arith), length-set a.loop.into (i) y ∙ a.loop.invariant.1.1))
+    let s = c.args in
+    let i = c.loop-i.i in
+    let h : i < s.n = c.loop-i-test.true in
+    let value : to_z w32 (of_z w32 c.i32_of_bits.result) ≡ i32_at s.bytes.now (s.at + 4 * i) = to_z-of_z {w = w32} {z = c.i32_of_bits.result} (record { sfits = c.i32_of_bits.type_inv }) ∙ c.i32_of_bits.ensures ∙ ap (to_z w32) (c.narrow32-word.ensures ∙ c.le32_at.ensures.0) in
+    let y : ℤ = to_z w32 (of_z w32 c.i32_of_bits.result) in
+    (search rules, (ap (λ (v : ℤ). set c.loop-i.into (i) v) value ∙ ap (λ (k : ℕ). set c.loop-i.into k (i32_at s.bytes.now (s.at + 4 * i))) (sym (zero-add i)) ∙ get_one i32_at 4 s.bytes.now s.at 0 i s.into.now c.loop-i.into c.loop-i.invariant.1.0 (omega arith), length-set c.loop-i.into (i) y ∙ c.loop-i.invariant.1.1))
 
 -- src/get.rt:42:1
-same_length : tie.Need-same-length invariant-loop decreases-loop
+same_length : tie.Need-shape_of-into invariant-loop decreases-loop
 same_length c = search rules
 
 -- src/get.rt:42:1
 returns : tie.Need-returns invariant-loop decreases-loop
 returns c =
-    let a = c.before in
-    let s = a.before.before.args in
-    let e : a.loop.i ≡ s.n = omega arith in
-    a.loop.invariant.1.0 ∙ ap (λ (k : ℕ). laid 0 (values_at i32_at 4 s.bytes.now s.at k) s.into.now) e
+    let s = c.args in
+    let e : c.loop-i.i ≡ s.n = omega arith in
+    c.loop-i.invariant.1.0 ∙ ap (λ (k : ℕ). laid 0 (values_at i32_at 4 s.bytes.now s.at k) s.into.now) e
 
-pub get-i32s-spec : {M : Type 1} → statement M
-get-i32s-spec =
+pub get_i32s_spec : {M : Type 1} → statement M
+get_i32s_spec =
     tie.close
     (tie.spec
     invariant-loop

@@ -10,73 +10,73 @@ use borrow.Author.Rules.{rules}
 use Rattle.taking_up.proofs.reading.held_from.Statement.{statement}
 use Rattle.taking_up.proofs.reading.held_from.Tie as tie
 
-abbrev invariant-loop : tie.invariant-loop
+abbrev invariant-loop : tie.invariant-loop-k
 invariant-loop e n held₀ k₀ held k = (k ≤ n) × (held ≡ E.held_from e k)
 
-abbrev decreases-loop : tie.decreases-loop
+abbrev decreases-loop : tie.decreases-loop-k
 decreases-loop e n held₀ k₀ held k = n - k
 
-loop-holds : tie.Need-loop-init invariant-loop decreases-loop
+loop-holds : tie.Need-loop-k-init invariant-loop decreases-loop
 unfolding E.held_from
 loop-holds c =
     (zero-le, refl)
 
-half-band-bytes-requires : tie.Need-half-band-bytes-requires invariant-loop decreases-loop
+half-band-bytes-requires : tie.Need-half_band_bytes-from-requires invariant-loop decreases-loop
 half-band-bytes-requires c κs = search rules
 
-add-le32-at : tie.Need-overflow-add-le32-at invariant-loop decreases-loop
+add-le32-at : tie.Need-overflow_add-from invariant-loop decreases-loop
 add-le32-at c =
-    let k = c.before.before.loop.k in
-    let n = c.before.before.before.before.args.n in
-    let r = stage_room n k (length c.before.before.before.before.args.e.now) c.before.before.before.before.requires.0 c.before.loop-test.true c.before.before.before.before.requires.1 in
-    let e = c.half-band-bytes.ensures in
-    let z = c.before.before.before.shared-slice-known.given in
+    let k = c.loop-k.k in
+    let n = c.args.n in
+    let r = stage_room n k (length c.args.e.now) c.requires.0 c.loop-k-test.true c.requires.1 in
+    let e = c.half_band_bytes-from.ensures in
+    let z = c.shared_slice_known-1.given in
     record { fits = omega arith }
 
-le32-at-requires : tie.Need-le32-at-requires invariant-loop decreases-loop
+le32-at-requires : tie.Need-le32_at-requires invariant-loop decreases-loop
 le32-at-requires c κs =
-    let k = c.before.before.loop.k in
-    let n = c.before.before.before.before.args.n in
-    let r = stage_room n k (length c.before.before.before.before.args.e.now) c.before.before.before.before.requires.0 c.before.loop-test.true c.before.before.before.before.requires.1 in
-    let e = c.half-band-bytes.ensures in
+    let k = c.loop-k.k in
+    let n = c.args.n in
+    let r = stage_room n k (length c.args.e.now) c.requires.0 c.loop-k-test.true c.requires.1 in
+    let e = c.half_band_bytes-from.ensures in
     omega arith
 
-narrow32-requires : tie.Need-narrow32-requires invariant-loop decreases-loop
+narrow32-requires : tie.Need-narrow32-word-requires invariant-loop decreases-loop
 narrow32-requires c κs = search rules
 
-f32-of-bits-requires : tie.Need-f32-of-bits-requires invariant-loop decreases-loop
+f32-of-bits-requires : tie.Need-f32_of_bits-requires invariant-loop decreases-loop
 f32-of-bits-requires c κs = search rules
 
-mul-held : tie.Need-overflow-mul-held invariant-loop decreases-loop
+mul-held : tie.Need-offset_bounds-held-k invariant-loop decreases-loop
 mul-held c = search rules
 
-array-write-held : tie.Need-array-write-held invariant-loop decreases-loop
+array-write-held : tie.Need-bounds-held-k invariant-loop decreases-loop
 array-write-held c = search rules
 
-add-k : tie.Need-overflow-add-k invariant-loop decreases-loop
+add-k : tie.Need-overflow_add-k invariant-loop decreases-loop
 add-k c = search rules
 
-loop-less : tie.Need-loop-smaller invariant-loop decreases-loop
+loop-less : tie.Need-loop-k-smaller invariant-loop decreases-loop
 loop-less c = search rules
 
-loop-again : tie.Need-loop-preserved invariant-loop decreases-loop
+loop-again : tie.Need-loop-k-preserved invariant-loop decreases-loop
 unfolding E.held_from
 loop-again c =
-    let a = c.before.before.before.before.before.loop in
-    let t = c.before.before.before.before.loop-test.true in
-    (omega arith, rw (add-one a.k, a.invariant.1, c.f32-of-bits.ensures, c.before.narrow32.ensures, c.before.before.le32-at.ensures.0, c.before.before.before.half-band-bytes.ensures))
+    let a = c.loop-k in
+    let t = c.loop-k-test.true in
+    (omega arith, rw (add-one a.k, a.invariant.1, c.f32_of_bits.ensures, c.narrow32-word.ensures, c.le32_at.ensures.0, c.half_band_bytes-from.ensures))
 
 returns : tie.Need-returns invariant-loop decreases-loop
 returns c =
-    let a = c.before.loop in
-    let s = c.before.before.before.args in
-    let p = c.before.before.before.requires.0 in
-    let t = c.loop-test.false in
+    let a = c.loop-k in
+    let s = c.args in
+    let p = c.requires.0 in
+    let t = c.loop-k-test.false in
     let e : a.k ≡ s.n = omega arith in
     a.invariant.1 ∙ ap (E.held_from s.e.now) e
 
-pub held-from-spec : {M : Type 1} → statement M
-held-from-spec =
+pub held_from_spec : {M : Type 1} → statement M
+held_from_spec =
     tie.close
     (tie.spec
     invariant-loop

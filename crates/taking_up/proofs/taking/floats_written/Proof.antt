@@ -1,25 +1,25 @@
 -- `floats_written` meets its contract.
 use Rattle.taking_up.specs.Taking as T
 use mathlib.Core.Path.{◌≡◌}
-use Prim.Native.Nat.{◌-◌, min}
+use Prim.Native.Nat.{min}
 use native.Mathlib.Omega.{arith}
 use borrow.Author.Rules.{rules}
 use Rattle.taking_up.proofs.taking.floats_written.Statement.{statement}
 use Rattle.taking_up.proofs.taking.floats_written.Tie as tie
 
-mul-m : tie.Need-overflow-mul-m
+mul-m : tie.Need-overflow_mul-m
 mul-m c = search rules
 
-add-n : tie.Need-overflow-add-n
+add-n : tie.Need-overflow_add-n
 add-n c = search rules
 
-stages-written-requires : tie.Need-stages-written-requires
+stages-written-requires : tie.Need-stages_written-stages-requires
 stages-written-requires c κs = search rules
 
-floats-at-requires : tie.Need-floats-at-requires
+floats-at-requires : tie.Need-floats_at-prototype-requires
 floats-at-requires c κs = search rules
 
-floats-at-requires-2 : tie.Need-floats-at-requires-2
+floats-at-requires-2 : tie.Need-floats_at-last-requires
 floats-at-requires-2 c κs = search rules
 
 both-requires : tie.Need-both-requires
@@ -31,12 +31,12 @@ both-requires-2 c κs = search rules
 returns : tie.Need-returns
 unfolding T.floats_written
 returns c =
-    let p = c.before.before.before.before.before.before.before.before.before.before.requires.0.depth in
-    let m : min c.before.before.before.before.before.before.before.before.before.before.args.q.depth 5 ≡ c.before.before.before.before.before.before.before.before.before.before.args.q.depth = omega arith in
-    rw (m, c.both2.ensures, c.before.both.ensures, c.before.before.floats-at2.ensures, c.before.before.before.Floats-at.ensures, c.before.before.before.before.stages_written_lem.ensures)
+    let p = c.requires.0.depth in
+    let m : min c.args.q.depth 5 ≡ c.args.q.depth = omega arith in
+    rw (m, c.both-2.ensures, c.both.ensures, c.floats_at-last.ensures, c.floats_at-prototype.ensures, c.stages_written-stages.ensures)
 
-pub floats-written-spec : {M : Type 1} → statement M
-floats-written-spec =
+pub floats_written_spec : {M : Type 1} → statement M
+floats_written_spec =
     tie.close
     (tie.spec
     mul-m

@@ -11,5 +11,5 @@ returns : tie.Need-returns
 unfolding fresh
 returns c = rw c.packed.ensures
 
-pub fresh-spec : {M : Type 1} → statement M
-fresh-spec = tie.close (tie.spec packed-requires returns)
+pub fresh_spec : {M : Type 1} → statement M
+fresh_spec = tie.close (tie.spec packed-requires returns)

@@ -13,58 +13,58 @@ use borrow.Author.Rules.{rules}
 use Rattle.half_band.proofs.hbf_dec.HbfDec.process.Statement.{statement}
 use Rattle.half_band.proofs.hbf_dec.HbfDec.process.Tie as tie
 
-abbrev begun : tie.Else1 → tie.Start
+abbrev begun : tie.Else-outside → tie.Start
 begun c = c.before.before.before.before
 
-fine : (c : tie.Else1) → dec_refused (begun c).args.self ≡ false
-fine c = sym c.before.outside.ensures ∙ c.if1.false
+fine : (c : tie.Else-outside) → dec_refused (begun c).args.self ≡ false
+fine c = sym c.outside.ensures ∙ c.if-outside.false
 
-usable : (c : tie.Else1) → Usable (begun c).args.self
-usable c = let b = within _ _ _ (fine c) in record { least = b.least; most = b.most; coeffs-long = search rules; delay-long = search rules }
+usable : (c : tie.Else-outside) → Usable (begun c).args.self
+usable c = let b = within _ _ _ (fine c) in record { least = b.least; most = b.most; coeffs_long = search rules; delay_long = search rules }
 
-in_limits_lem : (c : tie.Else2) → let a = (begun c.before.before).args in samples_refused (length a.src.now) (length a.dst.now) ≡ false
-in_limits_lem c = sym c.before.samples-refused.ensures ∙ c.if2.false
+in_limits_lem : (c : tie.Else-samples_refused) → let a = (begun c.before.before).args in samples_refused (length a.src.now) (length a.dst.now) ≡ false
+in_limits_lem c = sym c.samples_refused.ensures ∙ c.if-samples_refused.false
 
 -- the test of the state that led here
-abbrev tested : tie.After-smaller → tie.Else1
+abbrev tested : tie.After-smaller-n → tie.Else-outside
 tested c = c.before.before.before.before
 
-count : (c : tie.After-smaller) → let a = (begun (tested c)).args in c.smaller.result ≡ min (length a.dst.now) (length a.src.now / 2)
-count c = c.smaller.ensures ∙ ap (min (length (begun (tested c)).args.dst.now)) c.before.pairs-in.ensures
+count : (c : tie.After-smaller-n) → let a = (begun (tested c)).args in c.smaller-n.result ≡ min (length a.dst.now) (length a.src.now / 2)
+count c = c.smaller-n.ensures ∙ ap (min (length (begun (tested c)).args.dst.now)) c.pairs_in.ensures
 
 outside-requires : tie.Need-outside-requires
 outside-requires c κs = search rules
 
-returns : tie.Need-returns
-returns c = let e = sym c.before.outside.ensures ∙ c.if1.true in (chosen _ _ _ e, chosen _ _ _ e)
+returns : tie.Need-returns-then-outside
+returns c = let e = sym c.outside.ensures ∙ c.if-outside.true in (chosen _ _ _ e, chosen _ _ _ e)
 
-samples-refused-requires : tie.Need-samples-refused-requires
+samples-refused-requires : tie.Need-samples_refused-requires
 samples-refused-requires c κs = search rules
 
-returns-2 : tie.Need-returns-2
+returns-2 : tie.Need-returns-then-samples_refused
 returns-2 c = let e = fine c.before.before in
-    let f = sym c.before.samples-refused.ensures ∙ c.if2.true in
+    let f = sym c.samples_refused.ensures ∙ c.if-samples_refused.true in
     (second _ _ _ _ _ e f, second _ _ _ _ _ e f)
 
-pairs-in-requires : tie.Need-pairs-in-requires
+pairs-in-requires : tie.Need-pairs_in-requires
 pairs-in-requires c κs = search rules
 
-smaller-requires : tie.Need-smaller-requires
+smaller-requires : tie.Need-smaller-n-requires
 smaller-requires c κs = search rules
 
-mul-delay : tie.Need-overflow-mul-delay
+mul-delay : tie.Need-overflow_mul-delay
 mul-delay c = omega (arith, usable (tested c.before.before))
 
-array-borrow-prefix-delay : tie.Need-array-borrow-prefix-delay
+array-borrow-prefix-delay : tie.Need-slice_bounds-delay-end
 array-borrow-prefix-delay c = omega (arith, usable (tested c.before.before))
 
-slice-aggregate-decimate : tie.Need-slice-aggregate-decimate
+slice-aggregate-decimate : tie.Need-slice_bounds-decimate-end
 slice-aggregate-decimate c = sym (window_long _ (usable (tested c.before.before.before)))
 
-array-share-prefix-coeffs : tie.Need-array-share-prefix-coeffs
+array-share-prefix-coeffs : tie.Need-slice_bounds-coeffs-end
 array-share-prefix-coeffs c = omega (arith, usable (tested c.before.before.before))
 
-slice-aggregate-decimate-2 : tie.Need-slice-aggregate-decimate-2
+slice-aggregate-decimate-2 : tie.Need-slice_bounds-decimate-end-2
 slice-aggregate-decimate-2 c = sym (taps_long _ (usable (tested c.before.before.before.before)))
 
 decimate-requires : tie.Need-decimate-requires
@@ -75,21 +75,21 @@ decimate-requires c κs = let k = c.before.before.before.before.before in
     let n = count k in
     (omega (arith, u.least), omega arith, omega arith, omega arith)
 
-same_length : tie.Need-same-length
+same_length : tie.Need-shape_of-dst
 same_length c = search rules
 
-returns-3 : tie.Need-returns-3
-returns-3 c = let o = c.before.before.before.decimate in
+returns-3 : tie.Need-returns
+returns-3 c = let o = c.decimate in
     let k = c.before.before.before.before.before.before.before.before.before in
     let e = tested k in
     let a = (begun e).args in
     let f = in_limits_lem k.before.before in (
-      block_answer_lem a.self (usable e) a.src.now a.dst.now k.smaller.result (fine e) f (count k) o.new.0 o.ensures.0,
-      block_span_lem a.self (usable e) a.src.now a.dst.now k.smaller.result (fine e) f (count k) o.new.1.1.1.0 o.ensures.1,
+      block_answer_lem a.self (usable e) a.src.now a.dst.now c.smaller-n.result (fine e) f (count k) o.new.window o.ensures.0,
+      block_span_lem a.self (usable e) a.src.now a.dst.now c.smaller-n.result (fine e) f (count k) o.new.dst o.ensures.1,
     )
 
-pub process-spec : {M : Type 1} → statement M
-process-spec =
+pub process_spec : {M : Type 1} → statement M
+process_spec =
     tie.close
     (tie.spec
     outside-requires

@@ -12,45 +12,45 @@ use borrow.Author.Rules.{rules}
 use Rattle.half_band.proofs.hbf_dec.HbfDec.process_pair.Statement.{statement}
 use Rattle.half_band.proofs.hbf_dec.HbfDec.process_pair.Tie as tie
 
-usable : (c : tie.Else1) → Usable c.before.before.args.self
+usable : (c : tie.Else-outside) → Usable c.args.self
 usable c =
-    let b = within _ _ _ (sym c.before.outside.ensures ∙ c.if1.false) in
-    record { least = b.least; most = b.most; coeffs-long = search rules; delay-long = search rules }
+    let b = within _ _ _ (sym c.outside.ensures ∙ c.if-outside.false) in
+    record { least = b.least; most = b.most; coeffs_long = search rules; delay_long = search rules }
 
 outside-requires : tie.Need-outside-requires
 outside-requires c κs = search rules
 
-returns : tie.Need-returns
-returns c = rw (sym c.before.outside.ensures ∙ c.if1.true)
+returns : tie.Need-returns-then-outside
+returns c = rw (sym c.outside.ensures ∙ c.if-outside.true)
 
-mul-delay : tie.Need-overflow-mul-delay
+mul-delay : tie.Need-overflow_mul-delay
 mul-delay c = omega (arith, usable c.before.before)
 
-array-borrow-prefix-delay : tie.Need-array-borrow-prefix-delay
+array-borrow-prefix-delay : tie.Need-slice_bounds-delay-end
 array-borrow-prefix-delay c = omega (arith, usable c.before.before)
 
-slice-aggregate-take-pair : tie.Need-slice-aggregate-take-pair
+slice-aggregate-take-pair : tie.Need-slice_bounds-take_pair-end
 slice-aggregate-take-pair c = sym (window_long _ (usable c.before.before.before))
 
-array-share-prefix-coeffs : tie.Need-array-share-prefix-coeffs
+array-share-prefix-coeffs : tie.Need-slice_bounds-coeffs-end
 array-share-prefix-coeffs c = omega (arith, usable c.before.before.before)
 
-slice-aggregate-take-pair-2 : tie.Need-slice-aggregate-take-pair-2
+slice-aggregate-take-pair-2 : tie.Need-slice_bounds-take_pair-end-2
 slice-aggregate-take-pair-2 c = sym (taps_long _ (usable c.before.before.before.before))
 
-take-pair-requires : tie.Need-take-pair-requires
+take-pair-requires : tie.Need-take_pair-y-requires
 take-pair-requires c κs = let u = usable c.before.before.before.before in let t = taps_long _ u in let w = window_long _ u in (omega (arith, u.least), omega arith)
 
-returns-2 : tie.Need-returns-2
+returns-2 : tie.Need-returns
 unfolding dec_next dec_out
-returns-2 c = let a = c.before.before.before.before.before.before.before.before.args in
-    let e = c.before.take-pair.ensures in
-    rw (sym c.before.before.before.before.before.before.before.outside.ensures ∙ c.before.before.before.before.before.before.if1.false)
-    (ap {B = Outcome Float HbfDec} (λ (w : List Float). record { number = 0; value = c.before.take-pair.result; state = with_dec_window a.self w }) e.0
+returns-2 c = let a = c.args in
+    let e = c.take_pair-y.ensures in
+    rw (sym c.outside.ensures ∙ c.if-outside.false)
+    (ap {B = Outcome Float HbfDec} (λ (w : List Float). record { number = 0; value = c.take_pair-y.result; state = with_dec_window a.self w }) e.0
     ∙ ap {B = Outcome Float HbfDec} (λ (y : Float). record { number = 0; value = y; state = dec_next a.self a.a a.b }) e.1)
 
-pub process-pair-spec : {M : Type 1} → statement M
-process-pair-spec =
+pub process_pair_spec : {M : Type 1} → statement M
+process_pair_spec =
     tie.close
     (tie.spec
     outside-requires

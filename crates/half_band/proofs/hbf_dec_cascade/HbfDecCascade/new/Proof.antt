@@ -16,26 +16,31 @@ use Rattle.half_band.proofs.hbf_dec_cascade.HbfDecCascade.new.Tie as tie
 outside-requires : tie.Need-outside-requires
 outside-requires c κs = search rules
 
-fresh-requires : tie.Need-fresh-requires
+fresh-requires : tie.Need-fresh-state-requires
 fresh-requires c κs = search rules
 
-returns : tie.Need-returns
-returns c = let d = c.before.before.before.args.depth in (
-  ap {B = Opened HbfDecCascade} (λ (s : HbfDecCascade). record { number = 11; state = s }) c.fresh.ensures
-      ∙ chosen _ (record { number = 11; state = dec_cascade_fresh 0 }) (record { number = 0; state = dec_cascade_fresh d }) (sym c.before.before.outside.ensures ∙ c.before.if1.true),
+returns : tie.Need-returns-then-outside
+returns c = let d = c.args.depth in (
+  ap {B = Opened HbfDecCascade} (λ (s : HbfDecCascade). record { number = 11; state = s }) c.fresh-state.ensures
+      ∙ chosen _ (record { number = 11; state = dec_cascade_fresh 0 }) (record { number = 0; state = dec_cascade_fresh d }) (sym c.outside.ensures ∙ c.if-outside.true),
   λ e. absurd (eqb-false 11 0 refl e),
 )
 
-fresh-requires-2 : tie.Need-fresh-requires-2
+fresh-requires-2 : tie.Need-fresh-state-requires-2
 fresh-requires-2 c κs = search rules
 
-returns-2 : tie.Need-returns-2
-returns-2 c = let d = c.before.before.before.args.depth in
-    let e = sym c.before.before.outside.ensures ∙ c.before.if1.false in (
-      ap {B = Opened HbfDecCascade} (λ (s : HbfDecCascade). record { number = 0; state = s }) c.fresh2.ensures
+returns-2 : tie.Need-returns
+returns-2 c = let d = c.args.depth in
+    let e = sym c.outside.ensures ∙ c.if-outside.false in (
+      ap {B = Opened HbfDecCascade} (λ (s : HbfDecCascade). record { number = 0; state = s }) c.fresh-state-2.ensures
           ∙ other _ (record { number = 11; state = dec_cascade_fresh 0 }) (record { number = 0; state = dec_cascade_fresh d }) e,
-      λ z. subst (λ (s : HbfDecCascade). DecCascadeMeets d s) (sym c.fresh2.ensures) (fresh_meets (stage_taps decimation) dec_stages d (within d 1 5 e)),
+      λ z. subst (λ (s : HbfDecCascade). DecCascadeMeets d s) (sym c.fresh-state-2.ensures) (fresh_meets (stage_taps decimation) dec_stages d (within d 1 5 e)),
     )
 
 pub new_spec : {M : Type 1} → statement M
-new_spec = tie.close (tie.spec outside-requires fresh-requires returns fresh-requires-2 returns-2)
+new_spec = tie.close (tie.spec
+    outside-requires
+    fresh-requires
+    returns
+    fresh-requires-2
+    returns-2)

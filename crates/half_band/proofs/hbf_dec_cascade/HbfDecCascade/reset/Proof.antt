@@ -8,14 +8,18 @@ use Rattle.half_band.proofs.hbf_dec_cascade.HbfDecCascade.reset.Tie as tie
 outside-requires : tie.Need-outside-requires
 outside-requires c κs = search rules
 
-returns : tie.Need-returns
-returns c = chosen _ _ _ (sym c.before.outside.ensures ∙ c.if1.true)
+returns : tie.Need-returns-then-outside
+returns c = chosen _ _ _ (sym c.outside.ensures ∙ c.if-outside.true)
 
 new-requires : tie.Need-new-requires
 new-requires c κs = search rules
 
-returns-2 : tie.Need-returns-2
-returns-2 c = c.new.ensures.0 ∙ other _ _ _ (sym c.before.before.outside.ensures ∙ c.before.if1.false)
+returns-2 : tie.Need-returns
+returns-2 c = c.new.ensures.0 ∙ other _ _ _ (sym c.outside.ensures ∙ c.if-outside.false)
 
-pub reset-spec : {M : Type 1} → statement M
-reset-spec = tie.close (tie.spec outside-requires returns new-requires returns-2)
+pub reset_spec : {M : Type 1} → statement M
+reset_spec = tie.close (tie.spec
+    outside-requires
+    returns
+    new-requires
+    returns-2)

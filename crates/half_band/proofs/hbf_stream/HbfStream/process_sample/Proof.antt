@@ -17,29 +17,34 @@ told_answered : (o : HbfOut) (s : HbfStream) → told_stream_out (answered o) s 
 told_answered made.Nothing s = refl
 told_answered (made.Value y) s = refl
 
-hbf-stream-refused-requires : tie.Need-hbf-stream-refused-requires
+hbf-stream-refused-requires : tie.Need-hbf_stream_refused-requires
 hbf-stream-refused-requires c κs = search rules
 
-returns : tie.Need-returns
-returns c = chosen _ _ _ (sym c.before.hbf-stream-refused.ensures ∙ c.if1.true)
+returns : tie.Need-returns-then-hbf_stream_refused
+returns c = chosen _ _ _ (sym c.hbf_stream_refused.ensures ∙ c.if-hbf_stream_refused.true)
 
-hbf-stream-at-requires : tie.Need-hbf-stream-at-requires
+hbf-stream-at-requires : tie.Need-hbf_stream_at-o-requires
 hbf-stream-at-requires c κs = search rules
 
-answer-requires : tie.Need-answer-requires
+answer-requires : tie.Need-answer-out-requires
 answer-requires c κs = search rules
 
-returns-2 : tie.Need-returns-2
-returns-2 c = let a = c.before.before.before.before.before.before.before.before.before.before.args in
-    let t = c.before.hbf-stream-at in
-    let s = stream_of a.self.depth t.new.1.0 t.new.1.1.0 t.new.1.1.1.0 in
-    ap (λ (o : HbfStreamOut). told_stream_out o s) c.answer.ensures
+returns-2 : tie.Need-returns
+returns-2 c = let a = c.args in
+    let t = c.hbf_stream_at-o in
+    let s = stream_of a.self.depth t.new.delays t.new.held t.new.counts in
+    ap (λ (o : HbfStreamOut). told_stream_out o s) c.answer-out.ensures
     ∙ told_answered t.result s
     ∙ ap {B = Outcome (Option Float) HbfStream} (λ (o : Option Float). record { number = 0; value = o; state = s }) t.ensures.0
     ∙ ap {B = Outcome (Option Float) HbfStream} (λ (u : HbfStream). record { number = 0; value = hbf_stream.out a.self a.x; state = u }) t.ensures.1
-    ∙ other _ _ _ (sym c.before.before.before.before.before.before.before.before.hbf-stream-refused.ensures ∙ c.before.before.before.before.before.before.before.if1.false)
+    ∙ other _ _ _ (sym c.hbf_stream_refused.ensures ∙ c.if-hbf_stream_refused.false)
 
-pub process-sample-spec : {M : Type 1} → statement M
-process-sample-spec =
+pub process_sample_spec : {M : Type 1} → statement M
+process_sample_spec =
     tie.close
-    (tie.spec hbf-stream-refused-requires returns hbf-stream-at-requires answer-requires returns-2)
+    (tie.spec
+    hbf-stream-refused-requires
+    returns
+    hbf-stream-at-requires
+    answer-requires
+    returns-2)

@@ -1,5 +1,5 @@
 -- `CicDecimator::gain_bits` meets its contract: it refuses where the state is not valid, and the bits are the least.
-use Rattle.std.proofs.Common.{◌≡◌, true, false, sym, refl, ap, ◌∙◌, arith, rules}
+use Rattle.std.proofs.Common.{◌≡◌, true, false, sym, ap, ◌∙◌, arith, rules}
 use mathlib.Core.Path.{subst⁻¹}
 use borrow.Author.Tests.{not-true, not-false}
 use Rattle.integer.specs.Gain.{bits_of, gain_of, Least}
@@ -12,26 +12,31 @@ use Rattle.integer.proofs.cic_decimator.CicDecimator.gain_bits.Tie as tie
 valid-requires : tie.Need-valid-requires
 valid-requires c κs = search rules
 
-returns : tie.Need-returns
+returns : tie.Need-returns-then-not-valid
 unfolding on_state
 returns c =
-    let v : valid c.before.before.args.self ≡ false = sym c.before.valid.ensures ∙ not-true _ c.if1.true in
+    let v : valid c.args.self ≡ false = sym c.valid.ensures ∙ not-true _ c.if-not-valid.true-raw in
     (rw v, λ e. absurd (omega arith))
 
-gain-of-requires : tie.Need-gain-of-requires
+gain-of-requires : tie.Need-gain_of-requires
 gain-of-requires c κs = search rules
 
-bits-of-requires : tie.Need-bits-of-requires
+bits-of-requires : tie.Need-bits_of-requires
 bits-of-requires c κs = search rules
 
-returns-2 : tie.Need-returns-2
+returns-2 : tie.Need-returns
 unfolding on_state
 returns-2 c =
-    let d = c.before.before.before.before.args.self in
-    let v : valid d ≡ true = sym c.before.before.before.valid.ensures ∙ not-false _ c.before.before.if1.false in
-    let e = c.bits_of.ensures ∙ ap bits_of c.before.gain-of.ensures in
+    let d = c.args.self in
+    let v : valid d ≡ true = sym c.valid.ensures ∙ not-false _ c.if-not-valid.false-raw in
+    let e = c.bits_of.ensures ∙ ap bits_of c.gain_of.ensures in
     (rw (v, e), λ n. subst⁻¹ (Least (gain_of d.stages d.r)) e (gain_least d.stages d.r))
 
-pub gain-bits-spec : {M : Type 1} → statement M
-gain-bits-spec =
-    tie.close (tie.spec valid-requires returns gain-of-requires bits-of-requires returns-2)
+pub gain_bits_spec : {M : Type 1} → statement M
+gain_bits_spec =
+    tie.close (tie.spec
+    valid-requires
+    returns
+    gain-of-requires
+    bits-of-requires
+    returns-2)

@@ -1,5 +1,5 @@
 -- `CicDecimator::process_sample` meets its contract: it refuses where the state is not valid, and else does what `sample_at` does.
-use Rattle.std.proofs.Common.{◌≡◌, true, false, sym, ap, ◌∙◌, to_z-of_z, rules}
+use Rattle.std.proofs.Common.{◌≡◌, true, false, sym, ◌∙◌, to_z-of_z, rules}
 use borrow.Author.Tests.{not-true, not-false}
 use Rattle.integer.specs.CicDecimator.{valid, step}
 use Rattle.integer.proofs.cic_decimator.CicDecimator.process_sample.Statement.{statement}
@@ -11,31 +11,37 @@ valid-requires c κs = search rules
 refused-requires : tie.Need-refused-requires
 refused-requires c κs = search rules
 
-returns : tie.Need-returns
+returns : tie.Need-returns-then-not-valid
 unfolding step
 returns c =
-    let v : valid c.before.before.before.args.self ≡ false = sym c.before.before.valid.ensures ∙ not-true _ c.before.if1.true in
+    let v : valid c.args.self ≡ false = sym c.valid.ensures ∙ not-true _ c.if-not-valid.true-raw in
     rw v c.refused.ensures
 
-sample-at-requires : tie.Need-sample-at-requires
+sample-at-requires : tie.Need-sample_at-at-requires
 sample-at-requires c κs = search rules
 
-output-of-requires : tie.Need-output-of-requires
+output-of-requires : tie.Need-output_of-output-requires
 output-of-requires c κs = search rules
 
-returns-2 : tie.Need-returns-2
+returns-2 : tie.Need-returns
 unfolding step
 returns-2 c =
-    let v : valid c.before.before.before.before.before.before.before.before.args.self ≡ true = sym c.before.before.before.before.before.before.before.valid.ensures ∙ not-false _ c.before.before.before.before.before.before.if1.false in
+    let v : valid c.args.self ≡ true = sym c.valid.ensures ∙ not-false _ c.if-not-valid.false-raw in
     rw (
       v,
-      c.output-of.ensures.0,
-      c.output-of.ensures.1,
-      c.before.sample-at.ensures.0,
-      c.before.sample-at.ensures.1,
-      to_z-of_z c.before.before.before.before.before.before.before.before.ranges.input,
+      c.output_of-output.ensures.0,
+      c.output_of-output.ensures.1,
+      c.sample_at-at.ensures.0,
+      c.sample_at-at.ensures.1,
+      to_z-of_z c.ranges.input,
     )
 
-pub process-sample-spec : {M : Type 1} → statement M
-process-sample-spec =
-    tie.close (tie.spec valid-requires refused-requires returns sample-at-requires output-of-requires returns-2)
+pub process_sample_spec : {M : Type 1} → statement M
+process_sample_spec =
+    tie.close (tie.spec
+    valid-requires
+    refused-requires
+    returns
+    sample-at-requires
+    output-of-requires
+    returns-2)

@@ -1,5 +1,5 @@
 -- `CicDecimator::process_sample_scaled` meets its contract: 15, then 3, and else the sum of `sample_at`, scaled.
-use Rattle.std.proofs.Common.{◌≡◌, true, false, leb, sym, ap, ◌∙◌, to_z-of_z, rules, le-leb}
+use Rattle.std.proofs.Common.{◌≡◌, true, false, sym, ap, ◌∙◌, to_z-of_z, rules, le-leb}
 use borrow.Author.Tests.{not-true, not-false, lt-leb}
 use Rattle.integer.specs.Gain.{bits_of, gain_bits}
 use Rattle.integer.specs.CicDecimator.{valid, scaled_decimator, scaled_step}
@@ -12,54 +12,54 @@ valid-requires c κs = search rules
 refused-requires : tie.Need-refused-requires
 refused-requires c κs = search rules
 
-returns : tie.Need-returns
+returns : tie.Need-returns-then-not-valid
 unfolding scaled_step
 returns c =
-    let v : valid c.before.before.before.args.self ≡ false = sym c.before.before.valid.ensures ∙ not-true _ c.before.if1.true in
+    let v : valid c.args.self ≡ false = sym c.valid.ensures ∙ not-true _ c.if-not-valid.true-raw in
     rw v c.refused.ensures
 
-gain-of-requires : tie.Need-gain-of-requires
+gain-of-requires : tie.Need-gain_of-requires
 gain-of-requires c κs = search rules
 
-bits-of-requires : tie.Need-bits-of-requires
+bits-of-requires : tie.Need-bits_of-bits-requires
 bits-of-requires c κs = search rules
 
-refused-requires-2 : tie.Need-refused-requires-2
+refused-requires-2 : tie.Need-refused-requires-then-bits-gt-MAX_BITS
 refused-requires-2 c κs = search rules
 
-returns-2 : tie.Need-returns-2
+returns-2 : tie.Need-returns-then-bits-gt-MAX_BITS
 unfolding scaled_step
 returns-2 c =
-    let d = c.before.before.before.before.before.before.args.self in
-    let v : valid d ≡ true = sym c.before.before.before.before.before.valid.ensures ∙ not-false _ c.before.before.before.before.if1.false in
-    let e : c.before.before.bits_of.result ≡ gain_bits d.stages d.r = c.before.before.bits_of.ensures ∙ ap bits_of c.before.before.before.gain-of.ensures in
-    rw (v, ← e, lt-leb _ _ c.before.if2.true) c.refused2.ensures
+    let d = c.args.self in
+    let v : valid d ≡ true = sym c.valid.ensures ∙ not-false _ c.if-not-valid.false-raw in
+    let e : c.bits_of-bits.result ≡ gain_bits d.stages d.r = c.bits_of-bits.ensures ∙ ap bits_of c.gain_of.ensures in
+    rw (v, ← e, lt-leb _ _ c.if-bits-gt-MAX_BITS.true) c.refused-then-bits-gt-MAX_BITS.ensures
 
-sample-at-requires : tie.Need-sample-at-requires
+sample-at-requires : tie.Need-sample_at-at-requires
 sample-at-requires c κs = search rules
 
-scaled-output-of-requires : tie.Need-scaled-output-of-requires
+scaled-output-of-requires : tie.Need-scaled_output_of-output-requires
 scaled-output-of-requires c κs = search rules
 
-returns-3 : tie.Need-returns-3
+returns-3 : tie.Need-returns
 unfolding scaled_step scaled_decimator
 returns-3 c =
-    let d = c.before.before.before.before.before.before.before.before.before.before.before.args.self in
-    let v : valid d ≡ true = sym c.before.before.before.before.before.before.before.before.before.before.valid.ensures ∙ not-false _ c.before.before.before.before.before.before.before.before.before.if1.false in
-    let e : c.before.before.before.before.before.before.before.bits_of.result ≡ gain_bits d.stages d.r = c.before.before.before.before.before.before.before.bits_of.ensures ∙ ap bits_of c.before.before.before.before.before.before.before.before.gain-of.ensures in
+    let d = c.args.self in
+    let v : valid d ≡ true = sym c.valid.ensures ∙ not-false _ c.if-not-valid.false-raw in
+    let e : c.bits_of-bits.result ≡ gain_bits d.stages d.r = c.bits_of-bits.ensures ∙ ap bits_of c.gain_of.ensures in
     rw (
       v,
       ← e,
-      le-leb _ _ c.before.before.before.before.before.before.if2.false,
-      c.scaled-output-of.ensures.0,
-      c.scaled-output-of.ensures.1,
-      c.before.sample-at.ensures.0,
-      c.before.sample-at.ensures.1,
-      to_z-of_z c.before.before.before.before.before.before.before.before.before.before.before.ranges.input,
+      le-leb _ _ c.if-bits-gt-MAX_BITS.false,
+      c.scaled_output_of-output.ensures.0,
+      c.scaled_output_of-output.ensures.1,
+      c.sample_at-at.ensures.0,
+      c.sample_at-at.ensures.1,
+      to_z-of_z c.ranges.input,
     )
 
-pub process-sample-scaled-spec : {M : Type 1} → statement M
-process-sample-scaled-spec =
+pub process_sample_scaled_spec : {M : Type 1} → statement M
+process_sample_scaled_spec =
     tie.close
     (tie.spec
     valid-requires

@@ -1,6 +1,5 @@
 -- `CicInterpolator::gain` meets its contract: it refuses where the state is not valid.
-use Rattle.std.proofs.Common.{◌≡◌, ◌≤◌, true, false, sym, refl, ap, ◌∙◌, arith, rules}
-use mathlib.Core.Path.{subst⁻¹}
+use Rattle.std.proofs.Common.{◌≡◌, true, false, sym, ◌∙◌, arith, rules}
 use borrow.Author.Tests.{not-true, not-false}
 use Rattle.integer.specs.Opening.{on_state}
 use Rattle.integer.specs.CicInterpolator.{valid}
@@ -9,27 +8,32 @@ use Rattle.integer.proofs.cic_interpolator.CicInterpolator.gain.Statement.{state
 use Rattle.integer.proofs.cic_interpolator.CicInterpolator.gain.Tie as tie
 
 -- the state is valid
-ok : (c : tie.Else1) → valid c.before.before.args.self ≡ true
-ok c = sym c.before.valid.ensures ∙ not-false _ c.if1.false
+ok : (c : tie.Else-not-valid) → valid c.args.self ≡ true
+ok c = sym c.valid.ensures ∙ not-false _ c.if-not-valid.false-raw
 
 valid-requires : tie.Need-valid-requires
 valid-requires c κs = search rules
 
-returns : tie.Need-returns
+returns : tie.Need-returns-then-not-valid
 unfolding on_state
 returns c =
-    let v : valid c.before.before.args.self ≡ false = sym c.before.valid.ensures ∙ not-true _ c.if1.true in
+    let v : valid c.args.self ≡ false = sym c.valid.ensures ∙ not-true _ c.if-not-valid.true-raw in
     rw v
 
-sub-gain-of : tie.Need-overflow-sub-gain-of
+sub-gain-of : tie.Need-overflow_sub-self
 sub-gain-of c = omega (arith, interpolator_stages _ _ (ok c.before))
 
-gain-of-requires : tie.Need-gain-of-requires
+gain-of-requires : tie.Need-gain_of-requires
 gain-of-requires c κs = search rules
 
-returns-2 : tie.Need-returns-2
+returns-2 : tie.Need-returns
 unfolding on_state
-returns-2 c = rw (ok c.before.before, c.gain-of.ensures)
+returns-2 c = rw (ok c.before.before, c.gain_of.ensures)
 
-pub gain-spec : {M : Type 1} → statement M
-gain-spec = tie.close (tie.spec valid-requires returns sub-gain-of gain-of-requires returns-2)
+pub gain_spec : {M : Type 1} → statement M
+gain_spec = tie.close (tie.spec
+    valid-requires
+    returns
+    sub-gain-of
+    gain-of-requires
+    returns-2)

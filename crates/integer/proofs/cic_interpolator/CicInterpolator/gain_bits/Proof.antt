@@ -1,5 +1,5 @@
 -- `CicInterpolator::gain_bits` meets its contract: it refuses where the state is not valid, and the bits are the least.
-use Rattle.std.proofs.Common.{◌≡◌, ◌-◌, true, false, sym, refl, ap, ◌∙◌, arith, rules}
+use Rattle.std.proofs.Common.{◌≡◌, ◌-◌, true, false, sym, ap, ◌∙◌, arith, rules}
 use mathlib.Core.Path.{subst⁻¹}
 use borrow.Author.Tests.{not-true, not-false}
 use Rattle.integer.specs.Gain.{bits_of, gain_of, Least}
@@ -11,35 +11,41 @@ use Rattle.integer.proofs.cic_interpolator.CicInterpolator.gain_bits.Statement.{
 use Rattle.integer.proofs.cic_interpolator.CicInterpolator.gain_bits.Tie as tie
 
 -- the state is valid
-ok : (c : tie.Else1) → valid c.before.before.args.self ≡ true
-ok c = sym c.before.valid.ensures ∙ not-false _ c.if1.false
+ok : (c : tie.Else-not-valid) → valid c.args.self ≡ true
+ok c = sym c.valid.ensures ∙ not-false _ c.if-not-valid.false-raw
 
 valid-requires : tie.Need-valid-requires
 valid-requires c κs = search rules
 
-returns : tie.Need-returns
+returns : tie.Need-returns-then-not-valid
 unfolding on_state
 returns c =
-    let v : valid c.before.before.args.self ≡ false = sym c.before.valid.ensures ∙ not-true _ c.if1.true in
+    let v : valid c.args.self ≡ false = sym c.valid.ensures ∙ not-true _ c.if-not-valid.true-raw in
     (rw v, λ e. absurd (omega arith))
 
-sub-gain-of : tie.Need-overflow-sub-gain-of
+sub-gain-of : tie.Need-overflow_sub-self
 sub-gain-of c = omega (arith, interpolator_stages _ _ (ok c.before))
 
-gain-of-requires : tie.Need-gain-of-requires
+gain-of-requires : tie.Need-gain_of-requires
 gain-of-requires c κs = search rules
 
-bits-of-requires : tie.Need-bits-of-requires
+bits-of-requires : tie.Need-bits_of-requires
 bits-of-requires c κs = search rules
 
-returns-2 : tie.Need-returns-2
+returns-2 : tie.Need-returns
 unfolding on_state
 returns-2 c =
-    let d = c.before.before.before.before.before.args.self in
-    let e = c.bits_of.ensures ∙ ap bits_of c.before.gain-of.ensures in
+    let d = c.args.self in
+    let e = c.bits_of.ensures ∙ ap bits_of c.gain_of.ensures in
     (rw (ok c.before.before.before, e), λ n. subst⁻¹ (Least (gain_of (d.stages - 1) d.r)) e (gain_least (d.stages - 1) d.r))
 
-pub gain-bits-spec : {M : Type 1} → statement M
-gain-bits-spec =
+pub gain_bits_spec : {M : Type 1} → statement M
+gain_bits_spec =
     tie.close
-    (tie.spec valid-requires returns sub-gain-of gain-of-requires bits-of-requires returns-2)
+    (tie.spec
+    valid-requires
+    returns
+    sub-gain-of
+    gain-of-requires
+    bits-of-requires
+    returns-2)

@@ -1,5 +1,5 @@
 -- `CicInterpolator::new` meets its contract: the two tests are those of the opening, and a fresh interpolator keeps what every stream must.
-use Rattle.std.proofs.Common.{◌≡◌, true, false, sym, refl, ap, ◌∙◌, arith, rules}
+use Rattle.std.proofs.Common.{◌≡◌, true, false, sym, ◌∙◌, arith, rules}
 use mathlib.Core.Path.{subst⁻¹}
 use borrow.Author.Tests.{not-true, not-false}
 use Rattle.integer.specs.Limits.{stages_ok, factor_ok}
@@ -9,42 +9,42 @@ use Rattle.integer.proofs.Interpolating.{streams}
 use Rattle.integer.proofs.cic_interpolator.CicInterpolator.new.Statement.{statement}
 use Rattle.integer.proofs.cic_interpolator.CicInterpolator.new.Tie as tie
 
-stages-ok-requires : tie.Need-stages-ok-requires
+stages-ok-requires : tie.Need-stages_ok-requires
 stages-ok-requires c κs = search rules
 
 zeros-requires : tie.Need-zeros-requires
 zeros-requires c κs = search rules
 
-returns : tie.Need-returns
+returns : tie.Need-returns-then-not-stages_ok
 unfolding opening
 returns c =
-    let s : stages_ok c.before.before.before.args.stages ≡ false = sym c.before.before.stages-ok.ensures ∙ not-true _ c.before.if1.true in
+    let s : stages_ok c.args.stages ≡ false = sym c.stages_ok.ensures ∙ not-true _ c.if-not-stages_ok.true-raw in
     (rw (s, c.zeros.ensures), λ e. absurd (omega arith))
 
-factor-ok-requires : tie.Need-factor-ok-requires
+factor-ok-requires : tie.Need-factor_ok-requires
 factor-ok-requires c κs = search rules
 
-zeros-requires-2 : tie.Need-zeros-requires-2
+zeros-requires-2 : tie.Need-zeros-requires-then-not-factor_ok
 zeros-requires-2 c κs = search rules
 
-returns-2 : tie.Need-returns-2
+returns-2 : tie.Need-returns-then-not-factor_ok
 unfolding opening
 returns-2 c =
-    let s : stages_ok c.before.before.before.before.before.args.stages ≡ true = sym c.before.before.before.before.stages-ok.ensures ∙ not-false _ c.before.before.before.if1.false in
-    let f : factor_ok c.before.before.before.before.before.args.r ≡ false = sym c.before.before.factor-ok.ensures ∙ not-true _ c.before.if2.true in
-    (rw (s, f, c.zeros2.ensures), λ e. absurd (omega arith))
+    let s : stages_ok c.args.stages ≡ true = sym c.stages_ok.ensures ∙ not-false _ c.if-not-stages_ok.false-raw in
+    let f : factor_ok c.args.r ≡ false = sym c.factor_ok.ensures ∙ not-true _ c.if-not-factor_ok.true-raw in
+    (rw (s, f, c.zeros-then-not-factor_ok.ensures), λ e. absurd (omega arith))
 
-zeros-requires-3 : tie.Need-zeros-requires-3
+zeros-requires-3 : tie.Need-zeros-requires-2
 zeros-requires-3 c κs = search rules
 
-returns-3 : tie.Need-returns-3
+returns-3 : tie.Need-returns
 unfolding opening
 returns-3 c =
-    let N = c.before.before.before.before.before.args.stages in
-    let r = c.before.before.before.before.before.args.r in
-    let s : stages_ok N ≡ true = sym c.before.before.before.before.stages-ok.ensures ∙ not-false _ c.before.before.before.if1.false in
-    let f : factor_ok r ≡ true = sym c.before.before.factor-ok.ensures ∙ not-false _ c.before.if2.false in
-    (rw (s, f, c.zeros3.ensures), λ e. subst⁻¹ (Streams N r) c.zeros3.ensures (streams N r s f))
+    let N = c.args.stages in
+    let r = c.args.r in
+    let s : stages_ok N ≡ true = sym c.stages_ok.ensures ∙ not-false _ c.if-not-stages_ok.false-raw in
+    let f : factor_ok r ≡ true = sym c.factor_ok.ensures ∙ not-false _ c.if-not-factor_ok.false-raw in
+    (rw (s, f, c.zeros-2.ensures), λ e. subst⁻¹ (Streams N r) c.zeros-2.ensures (streams N r s f))
 
 pub new_spec : {M : Type 1} → statement M
 new_spec =

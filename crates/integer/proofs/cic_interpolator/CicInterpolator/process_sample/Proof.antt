@@ -3,16 +3,16 @@ use Rattle.std.proofs.Common.{to_z-of_z, rules}
 use Rattle.integer.proofs.cic_interpolator.CicInterpolator.process_sample.Statement.{statement}
 use Rattle.integer.proofs.cic_interpolator.CicInterpolator.process_sample.Tie as tie
 
-sample-at-requires : tie.Need-sample-at-requires
+sample-at-requires : tie.Need-sample_at-written-requires
 sample-at-requires c κs = tt
 
-same_length : tie.Need-same-length
+same_length : tie.Need-shape_of-out_buf
 same_length c = search rules
 
 returns : tie.Need-returns
 returns c =
-    let x = to_z-of_z c.before.before.before.before.before.before.before.ranges.input in
-    (rw x at c.before.sample-at.ensures.0, rw x at c.before.sample-at.ensures.1)
+    let x = to_z-of_z c.ranges.input in
+    (rw x at c.sample_at-written.ensures.0, rw x at c.sample_at-written.ensures.1)
 
-pub process-sample-spec : {M : Type 1} → statement M
-process-sample-spec = tie.close (tie.spec sample-at-requires same_length returns)
+pub process_sample_spec : {M : Type 1} → statement M
+process_sample_spec = tie.close (tie.spec sample-at-requires same_length returns)

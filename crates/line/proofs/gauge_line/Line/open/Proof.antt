@@ -1,6 +1,5 @@
 -- `Line::open` meets its contract: zeros where it is refused, and else the fresh line.
-use mathlib.Core.Path.{◌≡◌, refl, sym, ap, ◌∙◌}
-use mathlib.Core.Bool.{true, false}
+use mathlib.Core.Path.{◌≡◌, sym, ap, ◌∙◌}
 use Prim.Native.Nat.{ℕ, zero, suc, ◌<◌}
 use native.Mathlib.Omega.{arith}
 use borrow.Author.Rules.{rules}
@@ -9,7 +8,7 @@ use Rattle.refusal.specs.Outcome.{Opened, opening_number}
 use Rattle.refusal.proofs.Table.{number_positive}
 use Rattle.line.specs.Line.{opened, opened_by}
 use Rattle.line.specs.Outputs.{Opening}
-use Rattle.line.specs.Line.{zeros, fresh, opening_number_of}
+use Rattle.line.specs.Line.{zeros, opening_number_of}
 use Rattle.line.specs.declared.gauge_line.Line.{Line}
 use Rattle.line.proofs.gauge_line.Line.open.Statement.{statement}
 use Rattle.line.proofs.gauge_line.Line.open.Tie as tie
@@ -20,36 +19,36 @@ unfolding opened
 refused_as o zero h e = absurd (omega arith)
 refused_as o (suc n) h e = sym (ap {B = Opened Line} (λ (k : ℕ). record { number = k; state = opened_by k o }) e)
 
-answer-requires : tie.Need-answer-requires
+answer-requires : tie.Need-answer-refusal-requires
 answer-requires c κs = search rules
 
-enum-known-refusal : tie.Need-enum-known-refusal
+enum-known-refusal : tie.Need-enum_known-refusal
 enum-known-refusal c = search rules
 
 zeros-requires : tie.Need-zeros-requires
 zeros-requires c κs = search rules
 
-enum_told : tie.Need-enum-told
+enum_told : tie.Need-enum_told-1
 enum_told c = search rules
 
 fresh-requires : tie.Need-fresh-requires
-fresh-requires c κs = sym c.before.before.answer.ensures ∙ ap opening_number c.enum_told.given.1
+fresh-requires c κs = sym c.answer-refusal.ensures ∙ ap opening_number c.in-Opened.is
 
-returns : tie.Need-returns
+returns : tie.Need-returns-in-Refused
 unfolding opened
 returns c =
-    let a = c.before.before.before.before.before.before.args in
+    let a = c.args in
     let o : Opening = record { settings = a.settings; taps = a.taps.now; prototype = a.prototype.now } in
-    let q = c.before.before.refusal.given.0.0 in
-    let e : opening_number_of o ≡ number_of q = sym c.before.before.before.before.answer.ensures ∙ ap opening_number c.before.before.refusal.given.1 in
+    let q = c.in-Refused.q in
+    let e : opening_number_of o ≡ number_of q = sym c.answer-refusal.ensures ∙ ap opening_number c.in-Refused.is in
     rw c.zeros.ensures (refused_as o (number_of q) (number_positive q) e)
 
-returns-2 : tie.Need-returns-2
+returns-2 : tie.Need-returns-in-Opened
 unfolding opened
 returns-2 c =
-    let a = c.before.before.before.before.before.args in
+    let a = c.args in
     let o : Opening = record { settings = a.settings; taps = a.taps.now; prototype = a.prototype.now } in
-    let e : opening_number_of o ≡ 0 = sym c.before.before.before.answer.ensures ∙ ap opening_number c.before.enum_told.given.1 in
+    let e : opening_number_of o ≡ 0 = sym c.answer-refusal.ensures ∙ ap opening_number c.in-Opened.is in
     rw c.fresh.ensures (sym (ap {B = Opened Line} (λ (n : ℕ). record { number = n; state = opened_by n o }) e))
 
 pub open_spec : {M : Type 1} → statement M

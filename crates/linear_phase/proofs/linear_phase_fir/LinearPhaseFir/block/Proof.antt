@@ -3,14 +3,14 @@ use borrow.Author.Rules.{rules}
 use Rattle.linear_phase.proofs.linear_phase_fir.LinearPhaseFir.block.Statement.{statement}
 use Rattle.linear_phase.proofs.linear_phase_fir.LinearPhaseFir.block.Tie as tie
 
-block-at-requires : tie.Need-block-at-requires
+block-at-requires : tie.Need-block_at-answer-requires
 block-at-requires c κs = search rules
 
-same_length : tie.Need-same-length
+same_length : tie.Need-shape_of-span
 same_length c = search rules
 
 returns : tie.Need-returns
-returns c = c.before.before.block_at.ensures
+returns c = c.block_at-answer.ensures
 
 pub block_spec : {M : Type 1} → statement M
 block_spec = tie.close (tie.spec block-at-requires same_length returns)

@@ -3,14 +3,14 @@ use borrow.Author.Rules.{rules}
 use Rattle.linear_phase.proofs.linear_phase_fir.LinearPhaseFir.inplace.Statement.{statement}
 use Rattle.linear_phase.proofs.linear_phase_fir.LinearPhaseFir.inplace.Tie as tie
 
-inplace-at-requires : tie.Need-inplace-at-requires
+inplace-at-requires : tie.Need-inplace_at-answer-requires
 inplace-at-requires c κs = search rules
 
-same_length : tie.Need-same-length
+same_length : tie.Need-shape_of-span
 same_length c = search rules
 
 returns : tie.Need-returns
-returns c = c.before.before.inplace-at.ensures
+returns c = c.inplace_at-answer.ensures
 
-pub inplace-spec : {M : Type 1} → statement M
-inplace-spec = tie.close (tie.spec inplace-at-requires same_length returns)
+pub inplace_spec : {M : Type 1} → statement M
+inplace_spec = tie.close (tie.spec inplace-at-requires same_length returns)

@@ -15,30 +15,34 @@ use borrow.Author.Rules.{rules}
 use Rattle.linear_phase.proofs.linear_phase_fir.LinearPhaseFir.new.Statement.{statement}
 use Rattle.linear_phase.proofs.linear_phase_fir.LinearPhaseFir.new.Tie as tie
 
-between : (c : tie.Else1) → Between 1 (length c.before.before.before.args.taps.now) 23
-between c = within _ _ _ (sym c.before.outside.ensures ∙ c.if1.false)
+between : (c : tie.Else-outside) → Between 1 (length c.args.taps.now) 23
+between c = within _ _ _ (sym c.outside.ensures ∙ c.if-outside.false)
 
 outside-requires : tie.Need-outside-requires
 outside-requires c κs = search rules
 
-returns : tie.Need-returns
+returns : tie.Need-returns-then-outside
 returns c =
-    let a = c.before.before.before.args in
-    (chosen _ (record { number = 19; state = phase_none }) (record { number = 0; state = phase_fresh a.odd a.antisymmetric a.taps.now }) (sym c.before.outside.ensures ∙ c.if1.true), λ e. absurd (eqb-false 19 0 refl e))
+    let a = c.args in
+    (chosen _ (record { number = 19; state = phase_none }) (record { number = 0; state = phase_fresh a.odd a.antisymmetric a.taps.now }) (sym c.outside.ensures ∙ c.if-outside.true), λ e. absurd (eqb-false 19 0 refl e))
 
-padded-requires : tie.Need-padded-requires
+padded-requires : tie.Need-padded-taps-requires
 padded-requires c κs = (between c).most
 
-returns-2 : tie.Need-returns-2
+returns-2 : tie.Need-returns
 returns-2 c =
-    let a = c.before.before.before.before.args in
+    let a = c.args in
     let l = a.taps.now in
     let build : List Float → LinearPhaseFir = λ t. record { m = length l; odd = a.odd; antisymmetric = a.antisymmetric; taps = t; delay = replicate 46 zero32 } in
-    let e : build c.padded.result ≡ phase_fresh a.odd a.antisymmetric l = ap build c.padded.ensures in (
+    let e : build c.padded-taps.result ≡ phase_fresh a.odd a.antisymmetric l = ap build c.padded-taps.ensures in (
       ap {B = Opened LinearPhaseFir} (λ (d : LinearPhaseFir). record { number = 0; state = d }) e
-          ∙ other _ (record { number = 19; state = phase_none }) (record { number = 0; state = phase_fresh a.odd a.antisymmetric l }) (sym c.before.before.outside.ensures ∙ c.before.if1.false),
+          ∙ other _ (record { number = 19; state = phase_none }) (record { number = 0; state = phase_fresh a.odd a.antisymmetric l }) (sym c.outside.ensures ∙ c.if-outside.false),
       λ z. subst (λ (d : LinearPhaseFir). PhaseStreams a.odd a.antisymmetric l d) (sym e) (fresh_streams a.odd a.antisymmetric l (between c.before)),
     )
 
 pub new_spec : {M : Type 1} → statement M
-new_spec = tie.close (tie.spec outside-requires returns padded-requires returns-2)
+new_spec = tie.close (tie.spec
+    outside-requires
+    returns
+    padded-requires
+    returns-2)

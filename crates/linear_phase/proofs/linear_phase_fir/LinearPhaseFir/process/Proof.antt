@@ -3,11 +3,11 @@ use borrow.Author.Rules.{rules}
 use Rattle.linear_phase.proofs.linear_phase_fir.LinearPhaseFir.process.Statement.{statement}
 use Rattle.linear_phase.proofs.linear_phase_fir.LinearPhaseFir.process.Tie as tie
 
-process-at-requires : tie.Need-process-at-requires
+process-at-requires : tie.Need-process_at-out-requires
 process-at-requires c κs = search rules
 
 returns : tie.Need-returns
-returns c = c.process-at.ensures
+returns c = c.process_at-out.ensures
 
-pub process-spec : {M : Type 1} → statement M
-process-spec = tie.close (tie.spec process-at-requires returns)
+pub process_spec : {M : Type 1} → statement M
+process_spec = tie.close (tie.spec process-at-requires returns)

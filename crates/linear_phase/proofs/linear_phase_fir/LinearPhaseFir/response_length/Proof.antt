@@ -11,15 +11,19 @@ use Rattle.linear_phase.proofs.linear_phase_fir.LinearPhaseFir.response_length.T
 outside-requires : tie.Need-outside-requires
 outside-requires c κs = search rules
 
-returns : tie.Need-returns
-returns c = chosen _ _ _ (sym c.before.outside.ensures ∙ c.if1.true)
+returns : tie.Need-returns-then-outside
+returns c = chosen _ _ _ (sym c.outside.ensures ∙ c.if-outside.true)
 
-reach-requires : tie.Need-reach-requires
-reach-requires c κs = let b = within _ _ _ (sym c.before.outside.ensures ∙ c.if1.false) in (b.least, b.most)
+reach-requires : tie.Need-reach-long-requires
+reach-requires c κs = let b = within _ _ _ (sym c.outside.ensures ∙ c.if-outside.false) in (b.least, b.most)
 
-returns-2 : tie.Need-returns-2
+returns-2 : tie.Need-returns
 returns-2 c =
-    ap {B = Answer ℕ} (λ (n : ℕ). record { number = 0; value = n }) c.reach.ensures ∙ other _ _ _ (sym c.before.before.outside.ensures ∙ c.before.if1.false)
+    ap {B = Answer ℕ} (λ (n : ℕ). record { number = 0; value = n }) c.reach-long.ensures ∙ other _ _ _ (sym c.outside.ensures ∙ c.if-outside.false)
 
-pub response-length-spec : {M : Type 1} → statement M
-response-length-spec = tie.close (tie.spec outside-requires returns reach-requires returns-2)
+pub response_length_spec : {M : Type 1} → statement M
+response_length_spec = tie.close (tie.spec
+    outside-requires
+    returns
+    reach-requires
+    returns-2)

@@ -11,20 +11,24 @@ use Rattle.nonrecursive.proofs.nonrecursive_decimator.NonrecursiveDecimator.gain
 valid-requires : tie.Need-valid-requires
 valid-requires c κs = search rules
 
-returns : tie.Need-returns
+returns : tie.Need-returns-then-not-valid
 unfolding on_state
 returns c =
-    let v : valid c.before.before.args.self ≡ false = sym c.before.valid.ensures ∙ not-true _ c.if1.true in
+    let v : valid c.args.self ≡ false = sym c.valid.ensures ∙ not-true _ c.if-not-valid.true-raw in
     rw v
 
-gain-of-requires : tie.Need-gain-of-requires
+gain-of-requires : tie.Need-gain_of-requires
 gain-of-requires c κs = search rules
 
-returns-2 : tie.Need-returns-2
+returns-2 : tie.Need-returns
 unfolding on_state
 returns-2 c =
-    let v : valid c.before.before.before.args.self ≡ true = sym c.before.before.valid.ensures ∙ not-false _ c.before.if1.false in
-    rw (v, c.gain-of.ensures)
+    let v : valid c.args.self ≡ true = sym c.valid.ensures ∙ not-false _ c.if-not-valid.false-raw in
+    rw (v, c.gain_of.ensures)
 
-pub gain-spec : {M : Type 1} → statement M
-gain-spec = tie.close (tie.spec valid-requires returns gain-of-requires returns-2)
+pub gain_spec : {M : Type 1} → statement M
+gain_spec = tie.close (tie.spec
+    valid-requires
+    returns
+    gain-of-requires
+    returns-2)

@@ -20,51 +20,51 @@ use Rattle.nonrecursive.proofs.nonrecursive_decimator.NonrecursiveDecimator.new.
 refused : {A : Type 0} (n : ℕ) {o : Opened NonrecursiveDecimator} → o ≡ refused_opening (suc n) → o.number ≡ 0 → A
 refused n e z = absurd (omega (arith, ap (λ (o : Opened NonrecursiveDecimator). o.number) e, z))
 
-stages-ok-requires : tie.Need-stages-ok-requires
+stages-ok-requires : tie.Need-stages_ok-requires
 stages-ok-requires c κs = search rules
 
-refused-opening-requires : tie.Need-refused-opening-requires
+refused-opening-requires : tie.Need-refused_opening-requires
 refused-opening-requires c κs = search rules
 
-returns : tie.Need-returns
+returns : tie.Need-returns-then-not-stages_ok
 unfolding opening settings_number
 returns c =
-    let s : stages_ok c.before.before.before.args.stages ≡ false = sym c.before.before.stages-ok.ensures ∙ not-true _ c.before.if1.true in
-    let e = c.refused-opening.ensures in
+    let s : stages_ok c.args.stages ≡ false = sym c.stages_ok.ensures ∙ not-true _ c.if-not-stages_ok.true-raw in
+    let e = c.refused_opening.ensures in
     (rw s e, (λ z. refused 0 e z, λ z. refused 0 e z))
 
-factor-ok-requires : tie.Need-factor-ok-requires
+factor-ok-requires : tie.Need-factor_ok-requires
 factor-ok-requires c κs = search rules
 
-refused-opening-requires-2 : tie.Need-refused-opening-requires-2
+refused-opening-requires-2 : tie.Need-refused_opening-requires-then-not-factor_ok
 refused-opening-requires-2 c κs = search rules
 
-returns-2 : tie.Need-returns-2
+returns-2 : tie.Need-returns-then-not-factor_ok
 unfolding opening settings_number
 returns-2 c =
-    let a = c.before.before.before.before.before.args in
-    let s : stages_ok a.stages ≡ true = sym c.before.before.before.before.stages-ok.ensures ∙ not-false _ c.before.before.before.if1.false in
-    let f : factor_ok a.r ≡ false = sym c.before.before.factor-ok.ensures ∙ not-true _ c.before.if2.true in
-    let e = c.refused-opening2.ensures in
+    let a = c.args in
+    let s : stages_ok a.stages ≡ true = sym c.stages_ok.ensures ∙ not-false _ c.if-not-stages_ok.false-raw in
+    let f : factor_ok a.r ≡ false = sym c.factor_ok.ensures ∙ not-true _ c.if-not-factor_ok.true-raw in
+    let e = c.refused_opening-then-not-factor_ok.ensures in
     (rw (s, f) e, (λ z. refused 1 e z, λ z. refused 1 e z))
 
-power-of-two-requires : tie.Need-power-of-two-requires
+power-of-two-requires : tie.Need-power_of_two-requires
 power-of-two-requires c κs = search rules
 
-refused-opening-requires-3 : tie.Need-refused-opening-requires-3
+refused-opening-requires-3 : tie.Need-refused_opening-requires-then-not-power_of_two
 refused-opening-requires-3 c κs = search rules
 
-returns-3 : tie.Need-returns-3
+returns-3 : tie.Need-returns-then-not-power_of_two
 unfolding opening settings_number
 returns-3 c =
-    let a = c.before.before.before.before.before.before.before.args in
-    let s : stages_ok a.stages ≡ true = sym c.before.before.before.before.before.before.stages-ok.ensures ∙ not-false _ c.before.before.before.before.before.if1.false in
-    let f : factor_ok a.r ≡ true = sym c.before.before.before.before.factor-ok.ensures ∙ not-false _ c.before.before.before.if2.false in
-    let p : power_of_two a.r ≡ false = sym c.before.before.power-of-two.ensures ∙ not-true _ c.before.if3.true in
-    let e = c.refused-opening3.ensures in
+    let a = c.args in
+    let s : stages_ok a.stages ≡ true = sym c.stages_ok.ensures ∙ not-false _ c.if-not-stages_ok.false-raw in
+    let f : factor_ok a.r ≡ true = sym c.factor_ok.ensures ∙ not-false _ c.if-not-factor_ok.false-raw in
+    let p : power_of_two a.r ≡ false = sym c.power_of_two.ensures ∙ not-true _ c.if-not-power_of_two.true-raw in
+    let e = c.refused_opening-then-not-power_of_two.ensures in
     (rw (s, f, p) e, (λ z. refused 22 e z, λ z. refused 22 e z))
 
-zeros-requires : tie.Need-zeros-requires
+zeros-requires : tie.Need-zeros-state-requires
 zeros-requires c κs = search rules
 
 -- none of the three refuses
@@ -72,19 +72,19 @@ passes : (N r : ℕ) → stages_ok N ≡ true → factor_ok r ≡ true → power
 unfolding settings_number
 passes N r s f p = rw (s, f, p)
 
-returns-4 : tie.Need-returns-4
+returns-4 : tie.Need-returns
 unfolding opening
 returns-4 c =
-    let a = c.before.before.before.before.before.before.before.args in
-    let s : stages_ok a.stages ≡ true = sym c.before.before.before.before.before.before.stages-ok.ensures ∙ not-false _ c.before.before.before.before.before.if1.false in
-    let f : factor_ok a.r ≡ true = sym c.before.before.before.before.factor-ok.ensures ∙ not-false _ c.before.before.before.if2.false in
-    let p : power_of_two a.r ≡ true = sym c.before.before.power-of-two.ensures ∙ not-false _ c.before.if3.false in
+    let a = c.args in
+    let s : stages_ok a.stages ≡ true = sym c.stages_ok.ensures ∙ not-false _ c.if-not-stages_ok.false-raw in
+    let f : factor_ok a.r ≡ true = sym c.factor_ok.ensures ∙ not-false _ c.if-not-factor_ok.false-raw in
+    let p : power_of_two a.r ≡ true = sym c.power_of_two.ensures ∙ not-false _ c.if-not-power_of_two.false-raw in
     let ok = passes a.stages a.r s f p in
     let all = nonrecursive_streams a.stages a.r ok in (
-      rw c.zeros.ensures (sym (ap (λ (n : ℕ). opened_by n a.stages a.r) ok)),
+      rw c.zeros-state.ensures (sym (ap (λ (n : ℕ). opened_by n a.stages a.r) ok)),
       (
-        λ z. subst⁻¹ (Streams a.stages a.r) c.zeros.ensures all,
-        λ z. subst⁻¹ (λ (d : NonrecursiveDecimator). ExactSums a.stages a.r (outs nonrecursive d) (outs scaled_nonrecursive d)) c.zeros.ensures (exact_as a.stages a.r _ _ all.sums_made all.scaled_made),
+        λ z. subst⁻¹ (Streams a.stages a.r) c.zeros-state.ensures all,
+        λ z. subst⁻¹ (λ (d : NonrecursiveDecimator). ExactSums a.stages a.r (outs nonrecursive d) (outs scaled_nonrecursive d)) c.zeros-state.ensures (exact_as a.stages a.r _ _ all.sums_made all.scaled_made),
       ),
     )
 
