@@ -35,7 +35,7 @@ tests/page/run.sh
 targets/run.sh cortex_m4
 
 # What would have the next `rt ci` turn this checkout back.
-stray=$(find target \( -type l -o -name '*.rt' -o -name '*.antt' -o -name crates.txt -o -name .git \) -print -quit)
-[[ -z $stray ]] || stop "gate: $stray stands where rt ci wants nothing of its kind"
+stray=$(find target \( -type l -o -name '*.rt' -o -name '*.antt' -o -name crates.txt -o -name .git \) -print)
+[[ -z $stray ]] || stop "gate: these stand where rt ci wants nothing of their kind:"$'\n'"$stray"
 awk '!said[$0]++' "$GAUGE_SKIPPED"
 tail -n 1 "$log"

@@ -1,7 +1,7 @@
 //! The C programs, those of the pages too: compiled as C99, run and run under valgrind, the others also as C++11; each must print what is stored.
 
 use crate::support::page::{examples, indented};
-use crate::support::{archive, command, have, printed, read, root, same, scratch};
+use crate::support::{Link, archive, command, have, printed, read, root, same, scratch};
 use std::fs;
 use std::path::{Path, PathBuf};
 
@@ -133,7 +133,7 @@ fn the_page_by_its_own_command() {
     let program = &examples("docs/c.md", |info| info == "c")[0];
     fs::create_dir_all(folder.join("target/staticlib")).unwrap();
     fs::copy(archive(), folder.join("target/staticlib/libgauge_line.a")).unwrap();
-    std::os::unix::fs::symlink(root().join("include"), folder.join("include")).unwrap();
+    let _include = Link::new(root().join("include"), folder.join("include"));
     fs::write(folder.join("program.c"), &program.text).unwrap();
     let line = indented("docs/c.md", |line| line.starts_with("gcc ")) + " && ./program";
     let shown = printed(command("bash").args(["-c", &line]).current_dir(&folder));

@@ -1,7 +1,7 @@
 //! The Rust crates: layout, no warnings, tests and doc tests; the example of gauge-line, which must print what the C one does, and the program of docs/rust.md in a crate beside the repository.
 
 use crate::support::page::blocks;
-use crate::support::{command, printed, read, root, same, scratch, target};
+use crate::support::{Link, command, printed, read, root, same, scratch, target};
 use std::fs;
 use std::process::Command;
 
@@ -58,7 +58,7 @@ fn the_example_prints_what_the_c_one_does() {
 fn a_crate_beside_the_repository() {
     let beside = scratch("beside");
     fs::create_dir_all(beside.join("mine/src")).unwrap();
-    std::os::unix::fs::symlink(root(), beside.join("rawikloeng")).unwrap();
+    let _repository = Link::new(root(), beside.join("rawikloeng"));
     let page = blocks("docs/rust.md");
     let of = |info: &'static str| page.iter().filter(move |block| block.info == info);
     let dependency: String = of("toml").map(|block| block.text.as_str()).collect();

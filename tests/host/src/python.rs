@@ -2,7 +2,7 @@
 
 use crate::cargo::cargo;
 use crate::support::page::{examples, indented};
-use crate::support::{archive, command, printed, same, scratch, skipped, target};
+use crate::support::{Link, archive, command, printed, same, scratch, skipped, target};
 use std::fs;
 use std::path::PathBuf;
 use std::process::Command;
@@ -94,7 +94,7 @@ fn the_page_by_its_own_command() {
     let beside = scratch("python_command");
     let program = &examples("docs/python.md", |info| info == "python")[0];
     fs::write(beside.join("program.py"), &program.text).unwrap();
-    std::os::unix::fs::symlink(&python.folder, beside.join("target")).unwrap();
+    let _target = Link::new(&python.folder, beside.join("target"));
     let line = indented("docs/python.md", |line| line.contains("python3 "));
     let line = line.replace("python3 ", &format!("{} -B ", python.program));
     let shown = printed(command("bash").args(["-c", &line]).current_dir(&beside));

@@ -4,6 +4,7 @@ use std::ffi::OsStr;
 use std::fs;
 use std::path::PathBuf;
 use std::process::{Command, Output};
+use std::thread;
 
 /// A line with every part on.
 pub const SETTINGS: &str = "stages = 3\nr = 4\ntaps = smooth.taps\nfactor = 2\ndepth = 2\nphases = 2\nphase_taps = 2\nprototype = 1 0.5 0 0.5\nstep = 0.75\n";
@@ -75,6 +76,15 @@ impl Scratch {
             .current_dir(&self.0)
             .output()
             .unwrap()
+    }
+}
+
+/// Some tests leave links, and `rt ci` wants none below the top of the repository. What a failed test left stays to be looked at.
+impl Drop for Scratch {
+    fn drop(&mut self) {
+        if !thread::panicking() {
+            let _ = fs::remove_dir_all(&self.0);
+        }
     }
 }
 

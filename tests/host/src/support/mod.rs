@@ -5,6 +5,7 @@ pub mod page;
 use std::env;
 use std::fs::{self, OpenOptions};
 use std::io::Write;
+use std::os::unix::fs::symlink;
 use std::path::{Path, PathBuf};
 use std::process::{Command, Stdio};
 use std::sync::Mutex;
@@ -35,6 +36,22 @@ pub fn scratch(name: &str) -> PathBuf {
     }
     fs::create_dir_all(&folder).expect("a folder can be made");
     folder
+}
+
+/// A link that is gone once its check is done: `rt ci` wants none below the top of the repository.
+pub struct Link(PathBuf);
+
+impl Link {
+    pub fn new(to: impl AsRef<Path>, at: PathBuf) -> Link {
+        symlink(to, &at).expect("a link can be made");
+        Link(at)
+    }
+}
+
+impl Drop for Link {
+    fn drop(&mut self) {
+        let _ = fs::remove_file(&self.0);
+    }
 }
 
 /// The files below a folder of the repository whose names end so, in order, from the top.
