@@ -3,7 +3,7 @@
 #   awk -v changed="FILE.." -v function_name=FUNCTION -f tests/verdict.awk LOG
 #
 # refused     the prover read all of it and did not prove it
-# named       the same, but only since a proof names what is gone
+# formal      the same, but only since a proof names what is gone, or takes a step's facts where another's stand now
 # unread      a text of src/, specs/ or a changed file could not be read
 # unreached   there is no verdict that it is not proved
 #
@@ -33,13 +33,14 @@ function unreadable(    said) {
     return without_code(said) ~ /is not in scope|has no field|is no name|operand is missing|expected the end|cannot continue|has no +that can be named/
 }
 
-function gone() {
-    return /^(note: )?(\.\/)?proofs\// && /has no field|is not in scope|has no `|was not admitted|which was rejected/
+# Whether an error only says that code has other steps than its proof: their records are the capitals of a function's Lts.
+function is_formal() {
+    return /^(note: )?(\.\/)?proofs\// && (/has no field|is not in scope|has no `|was not admitted|which was rejected/ || /where one has `[^` ]*\.Lts\.[A-Z]/)
 }
 
 function keep(line) {
-    if (gone_line)
-        named = named == "" ? line : named
+    if (formal_line)
+        formal = formal == "" ? line : formal
     else
         refused = refused == "" ? line : refused
 }
@@ -61,7 +62,7 @@ BEGIN {
 
 # An error in a proof, or at any other place, which counts where no function is asked for.
 /^[^ ]+:[0-9]+:[0-9]+: error/ {
-    gone_line = gone()
+    formal_line = is_formal()
     if (function_name == "" || index($0, "proofs/" proof "/"))
         keep($0)
 }
@@ -70,7 +71,7 @@ BEGIN {
 
 # A function without a proof file: notes say what is not proved, then the line of the function.
 /^note: [^ ]+:[0-9]+:[0-9]+: / {
-    gone_line = 0
+    formal_line = 0
     if (function_name == "")
         keep(substr($0, 7))
     else if (note == "")
@@ -89,6 +90,6 @@ END {
     if (last !~ /^logic=not-proved/) print "unreached " (first != "" ? first : last)
     else if (unread) print "unread " there
     else if (refused != "") print "refused " refused
-    else if (named != "") print "named " named
+    else if (formal != "") print "formal " formal
     else print "refused " (other != "" ? other : last)
 }

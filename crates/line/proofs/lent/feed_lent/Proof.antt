@@ -34,10 +34,12 @@ valid-at-requires c κs = search rules
 returns : tie.Need-returns-then-not-valid_at
 unfolding feed_outcome feed_span
 returns c =
-    let v : valid (lent c.before.before.before.before.before.before) ≡ false = sym (tested c.before) ∙ not-true _ c.if-not-valid_at.true-raw in
     let a = c.args in
-    let er : record { number = 15; value = record { taken = 0; written = 0 }; state = lent c.before.before.before.before.before.before } ≡ feed_outcome (lent c.before.before.before.before.before.before) a.samples.now (length a.out.now) = rw v in
-    let ea : a.out.now ≡ feed_span (lent c.before.before.before.before.before.before) a.samples.now a.out.now = rw v in
+    let l = line_of a.n a.integrators.now a.combs.now a.neighbours.now a.taps.now a.fir_delay.now a.delays.now a.held.now a.counts.now a.delay.now a.prototype.now in
+    let t : c.valid_at.result ≡ valid l = rw (c.fixed-f.ensures, c.changing-s.ensures) at c.valid_at.ensures ∙ valid_apart l in
+    let v : valid l ≡ false = sym t ∙ not-true _ c.if-not-valid_at.true-raw in
+    let er : record { number = 15; value = record { taken = 0; written = 0 }; state = l } ≡ feed_outcome l a.samples.now (length a.out.now) = rw v in
+    let ea : a.out.now ≡ feed_span l a.samples.now a.out.now = rw v in
     (er, (ea, demanded _ _ _ _ _ er ea))
 
 good : (c : tie.Else-not-valid_at) → valid (lent c.before.before.before.before.before.before) ≡ true

@@ -31,16 +31,6 @@ returns-2 c =
 factor-for-requires : tie.Need-factor_for-requires
 factor-for-requires c κs = search rules
 
--- what the first three tests say where none refuses
-ok_so_far : (c : tie.Else-not-factor_for) →
-    let a = c.args in
-    (stages_ok a.stages ≡ true) × (factor_ok a.r ≡ true) × (factor_for a.thinning a.r ≡ true)
-ok_so_far c = (
-  sym c.stages_ok.ensures ∙ not-false _ c.if-not-stages_ok.false-raw,
-  sym c.factor_ok.ensures ∙ not-false _ c.if-not-factor_ok.false-raw,
-  sym c.factor_for.ensures ∙ not-false _ c.if-not-factor_for.false-raw,
-)
-
 returns-3 : tie.Need-returns-then-not-factor_for
 unfolding settings_number
 returns-3 c =
@@ -56,22 +46,25 @@ gain-of-requires c κs = search rules
 bits-of-requires : tie.Need-bits_of-bits-requires
 bits-of-requires c κs = search rules
 
-bits_are : (c : tie.After-bits_of-bits) →
-    let a = c.args in
-    c.bits_of-bits.result ≡ gain_bits a.stages a.r
-bits_are c = c.bits_of-bits.ensures ∙ ap bits_of c.gain_of.ensures
-
 returns-4 : tie.Need-returns-then-bits-gt-MAX_BITS
 unfolding settings_number
 returns-4 c =
-    let o = ok_so_far c.before.before.before in
-    rw (o.0, o.1, o.2, ← bits_are c.before, lt-leb _ _ c.if-bits-gt-MAX_BITS.true)
+    let a = c.args in
+    let s : stages_ok a.stages ≡ true = sym c.stages_ok.ensures ∙ not-false _ c.if-not-stages_ok.false-raw in
+    let f : factor_ok a.r ≡ true = sym c.factor_ok.ensures ∙ not-false _ c.if-not-factor_ok.false-raw in
+    let p : factor_for a.thinning a.r ≡ true = sym c.factor_for.ensures ∙ not-false _ c.if-not-factor_for.false-raw in
+    let b : c.bits_of-bits.result ≡ gain_bits a.stages a.r = c.bits_of-bits.ensures ∙ ap bits_of c.gain_of.ensures in
+    rw (s, f, p, ← b, lt-leb _ _ c.if-bits-gt-MAX_BITS.true)
 
 returns-5 : tie.Need-returns
 unfolding settings_number
 returns-5 c =
-    let o = ok_so_far c.before.before.before in
-    rw (o.0, o.1, o.2, ← bits_are c.before, le-leb _ _ c.if-bits-gt-MAX_BITS.false)
+    let a = c.args in
+    let s : stages_ok a.stages ≡ true = sym c.stages_ok.ensures ∙ not-false _ c.if-not-stages_ok.false-raw in
+    let f : factor_ok a.r ≡ true = sym c.factor_ok.ensures ∙ not-false _ c.if-not-factor_ok.false-raw in
+    let p : factor_for a.thinning a.r ≡ true = sym c.factor_for.ensures ∙ not-false _ c.if-not-factor_for.false-raw in
+    let b : c.bits_of-bits.result ≡ gain_bits a.stages a.r = c.bits_of-bits.ensures ∙ ap bits_of c.gain_of.ensures in
+    rw (s, f, p, ← b, le-leb _ _ c.if-bits-gt-MAX_BITS.false)
 
 pub thinning_answer_spec : {M : Type 1} → statement M
 thinning_answer_spec =

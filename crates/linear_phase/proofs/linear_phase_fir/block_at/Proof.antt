@@ -2,6 +2,7 @@
 use mathlib.Core.Path.{◌≡◌, sym, ap₂, ◌∙◌}
 use mathlib.Core.Bool.{false}
 use Prim.Native.Nat.{ℕ}
+use native.Mathlib.Omega.{arith}
 use borrow.Author.Rules.{rules}
 use lib.ListN.{length}
 use Rattle.refusal.specs.Outcome.{Outcome}
@@ -32,7 +33,7 @@ returns-2 c =
     (second _ _ _ _ _ e f, second _ _ _ _ _ e f)
 
 block-lent-requires : tie.Need-block_lent-requires
-block-lent-requires c κs = let b = within _ _ _ (fine c.before.before.before.before) in (b.least, b.most, search rules, search rules, sym c.if-src-span.false)
+block-lent-requires c κs = let b = within _ _ _ (fine c.before.before.before.before) in (b.least, b.most, search rules, search rules, omega arith)
 
 same_length : tie.Need-shape_of-span
 same_length c = search rules
