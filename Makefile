@@ -15,7 +15,7 @@ export GAUGE_TARGET := $(TARGET)
 # Scripts read text as bytes, whatever the locale.
 export LC_ALL := C
 
-all: ## 15 min, then 1 s | the proved archive and the tools, and where they are; proved again only where a source or the kit has changed
+all: ## 9 min, then 1 s | the proved archive and the tools, and where they are; proved again only where a source or the kit has changed
 	@host/build.sh
 
 help: ## at once | this list
@@ -25,7 +25,7 @@ help: ## at once | this list
 run: ## 5 s | the bundled recording through the bundled settings, beside a line whose integrator holds
 	@examples/demo/run.sh
 
-test: ## 1 h | the whole gate; SEEDS="7 8" gives the comparison other seeds
+test: ## 45 min | the whole gate; SEEDS="7 8" gives the comparison other seeds
 	@tests/run.sh $(SEEDS)
 
 readings: ## 1 min, then 1 s | 01's readings through the proved converters, printed
