@@ -17,6 +17,7 @@ function indent(text) {
 function called(file, from, to,    i, rest, names) {
     for (i = from; i <= to; i++) {
         rest = line[file, i]
+        gsub(/::<[^>(]*>\(/, "(", rest)
         while (match(rest, /[a-z_][a-z_0-9]*\(/)) {
             names = names " " substr(rest, RSTART, RLENGTH - 1)
             rest = substr(rest, RSTART + RLENGTH)
@@ -32,11 +33,33 @@ function module(file) {
     return file == "lib" ? "" : file "::"
 }
 
+# The type of an impl, as the prover names it: of `impl<T: Table> Cascade<T> {` Cascade, of `impl Word for i16 {` I16Word.
+function type_of(text,    parts) {
+    sub(/^impl(<[^>]*>)? /, "", text)
+    sub(/ \{$/, "", text)
+    gsub(/<[^>]*>/, "", text)
+    if (split(text, parts, " for ") < 2) return text
+    return toupper(substr(parts[2], 1, 1)) substr(parts[2], 2) parts[1]
+}
+
+# Where the types of a file are declared: the prover names a method by its type's module, wherever it stands.
+function types_of(file,    i, text) {
+    for (i = 1; i <= lines[file]; i++) {
+        text = line[file, i]
+        if (!sub(/^(pub(\([a-z]+\))? )?(struct|enum) /, "", text)) continue
+        sub(/[^A-Za-z0-9_].*/, "", text)
+        declared_in[text] = module(file)
+    }
+}
+
 # The functions of a file: name, as the prover has it, and the lines of the body.
 function functions_of(file,    i, text, type, own, deep, opened) {
     for (i = 1; i <= lines[file]; i++) {
         text = line[file, i]
-        if (match(text, /^impl [A-Za-z0-9_]+/)) type = substr(text, 6, RLENGTH - 5) "::"
+        if (text ~ /^impl[ <]/) {
+            type = type_of(text)
+            type = (type in declared_in ? declared_in[type] : module(file)) type "::"
+        }
         else if (text == "}" && own == "") type = ""
         if (match(text, /^ *(pub(\([a-z]+\))? )?(extern "C" )?fn [a-z_0-9]+/)) {
             own = substr(text, 1, RLENGTH)
@@ -48,7 +71,7 @@ function functions_of(file,    i, text, type, own, deep, opened) {
         if (!opened && text ~ /\{$/) opened = i
         else if (opened && text ~ /^ *\}$/) {
             function_count++
-            named[function_count] = crate "::" module(file) type own
+            named[function_count] = crate "::" (type == "" ? module(file) : type) own
             short[function_count] = own
             home[function_count] = file
             first[function_count] = opened + 1
@@ -119,6 +142,7 @@ function deep(f,    g, count) {
 
 # Those that reach fewest come first: then there are no more groups than edits along some chain of calls.
 END {
+    for (i = 1; i <= source_count; i++) types_of(sources[i])
     for (i = 1; i <= source_count; i++) functions_of(sources[i])
     for (i = 1; i <= function_count; i++) reaches[i] = reached(i)
     for (i = 1; i <= function_count; i++) depth[i] = deep(i)

@@ -2,7 +2,7 @@
 use mathlib.Core.Path.{◌≡◌, refl, sym, ap, ap₂, ◌∙◌, subst, subst⁻¹}
 use mathlib.Core.Bool.{Bool, true, false, cond}
 use mathlib.Core.List.{List, [], ◌∷◌, ◌++◌, map, append-nil, append_assoc}
-use mathlib.Core.Option.{Option, none, some}
+use Rattle.std.specs.Prelude.{Option, None, Some}
 use Prim.Native.Nat.{ℕ, zero, suc, ◌+◌, ◌-◌, ◌^◌, ◌≤◌, ◌<◌, suc-le-suc}
 use native.Mathlib.Nat.{le_trans}
 use native.Mathlib.Omega.{arith}
@@ -65,8 +65,8 @@ module _ {S A C : Type 0} (m : Machine S A C) where
       go false e (a ∷ ys) q ih = rw (feed_takes m s a ys n e) (of (m.now s a))
         where
           of : (o : Option C) → length (onto o (feed m (m.next s a) ys (less o (suc n))).written) ≤ suc n
-          of none = ih (m.next s a) ys (suc n) (omega arith)
-          of (some c) = suc-le-suc (ih (m.next s a) ys n (omega arith))
+          of None = ih (m.next s a) ys (suc n) (omega arith)
+          of (Some c) = suc-le-suc (ih (m.next s a) ys n (omega arith))
 
   feed_room : (s : S) (xs : List A) (n : ℕ) → length (feed m s xs n).written ≤ n
   feed_room s xs n = room (length xs + n) s xs n (omega arith)
@@ -77,8 +77,8 @@ outs_few f s [] = omega arith
 outs_few {B = B} f s (a ∷ xs) = of (f.out s a) (outs_few f (f.next s a) xs)
   where
     of : (o : Option B) → length (outs f (f.next s a) xs) ≤ length xs → length (onto o (outs f (f.next s a) xs)) ≤ suc (length xs)
-    of none h = omega arith
-    of (some b) h = suc-le-suc h
+    of None h = omega arith
+    of (Some b) h = suc-le-suc h
 
 -- ---- section 5
 -- off: levels put at the end of just their places

@@ -3,7 +3,7 @@
 use mathlib.Core.Path.{◌≡◌, refl, sym, ap, ap₂, ◌∙◌}
 use mathlib.Core.Bool.{Bool, true, false, cond}
 use mathlib.Core.List.{List}
-use mathlib.Core.Option.{Option, none, some}
+use Rattle.std.specs.Prelude.{Option, None, Some}
 use Prim.Native.Nat.{ℕ, zero, suc, ◌+◌, ◌-◌, ◌*◌, ◌^◌, ◌≤◌, ◌<◌, min}
 use native.Mathlib.Nat.{pow-suc}
 use native.Mathlib.Omega.{arith}
@@ -25,7 +25,7 @@ use Rattle.half_band.specs.HbfStream.{Half, Passed, half, stage_in, with_stage, 
 use Rattle.half_band.specs.HbfTaps.{stage_taps, decimation}
 use Rattle.half_band.specs.Limits.{most_stages}
 use Rattle.half_band.specs.declared.hbf_stream.HbfStream.{HbfStream}
-use Rattle.half_band.proofs.StageTables.{dec_stages}
+use Rattle.half_band.specs.HbfTaps.{decimation_five}
 use Rattle.half_band.proofs.Streaming.{depth_next}
 use Rattle.float.proofs.Flags.{both_true}
 use Rattle.chain.specs.Counting.{or_one, stages_left}
@@ -66,10 +66,10 @@ thin_left_lem r k g = go (ltb (k + 1) r) refl
     go true e = let l = ltb-true (k + 1) r e in rw (lt-leb (r - k) 1 (omega arith)) (let q : r - (k + 1) ≡ r - k - 1 = omega arith in q)
     go false e = let l = ltb-false (k + 1) r e in rw (le-leb (r - k) 1 (omega arith)) (let q : r - 0 ≡ r = omega arith in q)
 
-thin_out : (r k g : ℕ) (y : ℤ) → k < r → came (scaled_by g (cond (ltb (k + 1) r) none (some y))) ≡ leb (r - k) 1
+thin_out : (r k g : ℕ) (y : ℤ) → k < r → came (scaled_by g (cond (ltb (k + 1) r) None (Some y))) ≡ leb (r - k) 1
 thin_out r k g y h = go (ltb (k + 1) r) refl
   where
-    go : (b : Bool) → ltb (k + 1) r ≡ b → came (scaled_by g (cond b none (some y))) ≡ leb (r - k) 1
+    go : (b : Bool) → ltb (k + 1) r ≡ b → came (scaled_by g (cond b None (Some y))) ≡ leb (r - k) 1
     go true e = let l = ltb-true (k + 1) r e in sym (lt-leb (r - k) 1 (omega arith))
     go false e = let l = ltb-false (k + 1) r e in sym (le-leb (r - k) 1 (omega arith))
 
@@ -145,7 +145,7 @@ module _ (s : FirDecimator) (x : ℤ) (g : FirGood s) where
   unfolding fir_out
   fir_out_lem = go (eqb T 0) refl
     where
-      due : (b : Bool) (y : ℤ) → came (cond b (some y) none) ≡ b
+      due : (b : Bool) (y : ℤ) → came (cond b (Some y) None) ≡ b
       due true y = refl
       due false y = refl
 
@@ -180,7 +180,7 @@ stages_other (suc n) k j c v h =
     ap₂ {C = ℕ} (λ (a b : ℕ). cond (eqb a 0) 2 1 + (b - 1) * 2) (get_or-set_other c j k v 0 (λ e. omega arith)) (stages_other n (suc k) j c v (omega arith))
 
 module _ (taps : ℕ → List Float) where
-  through_none : (n k : ℕ) (s : HbfStream) → through taps n k none s ≡ record { out = none; state = s }
+  through_none : (n k : ℕ) (s : HbfStream) → through taps n k None s ≡ record { out = None; state = s }
   unfolding through
   through_none zero k s = refl
   through_none (suc n) k s = refl
@@ -195,8 +195,8 @@ module _ (taps : ℕ → List Float) where
   -- a stage that holds the value, or makes v of the pair
   stage_by :
       (n k : ℕ) (s : HbfStream) → k < length s.counts → (b : Bool) → eqb (get_or s.counts k 0) 0 ≡ b → (v : Float) (kept made : Half) → kept.count ≡ 1 → made.count ≡ 0
-      → ((v : Float) (s' : HbfStream) → length s'.counts ≡ length s.counts → Down n (suc k) s' (through taps n (suc k) (some v) s'))
-      → Down (suc n) k s (through taps n (suc k) (cond b none (some v)) (with_stage taps k (cond b kept made) s))
+      → ((v : Float) (s' : HbfStream) → length s'.counts ≡ length s.counts → Down n (suc k) s' (through taps n (suc k) (Some v) s'))
+      → Down (suc n) k s (through taps n (suc k) (cond b None (Some v)) (with_stage taps k (cond b kept made) s))
   unfolding with_stage
   stage_by n k s h true e v kept made ek em ih =
       rw (through_none n (suc k) (with_stage taps k kept s), ek)
@@ -247,7 +247,7 @@ module _ (taps : ℕ → List Float) where
             out = rw (e, test) (d.out ∙ ap (λ (z : ℕ). leb z 1) other);
           }
 
-  pub through_down : (n k : ℕ) (x : Float) (s : HbfStream) → n + k ≤ length s.counts → Down n k s (through taps n k (some x) s)
+  pub through_down : (n k : ℕ) (x : Float) (s : HbfStream) → n + k ≤ length s.counts → Down n k s (through taps n k (Some x) s)
   unfolding through half stage_in
   through_down zero k x s h = record { long = refl; below = λ j l. refl; left = refl; out = refl }
   through_down (suc n) k x s h =
@@ -265,12 +265,12 @@ half_left s = stages_left (stages s) 0 s.counts
 abbrev pub half_period : HbfStream → ℕ
 half_period s = 2 ^ stages s
 
-half_all : (s : HbfStream) (x : Float) → HalfGood s → Down (stage_taps decimation) (stages s) 0 s (through (stage_taps decimation) (stages s) 0 (some x) s)
+half_all : (s : HbfStream) (x : Float) → HalfGood s → Down (stage_taps decimation) (stages s) 0 s (through (stage_taps decimation) (stages s) 0 (Some x) s)
 half_all s x g = through_down (stage_taps decimation) (stages s) 0 x s (let d : ℕ = s.depth in omega (arith, g))
 
 half_depth : (s : HbfStream) (x : Float) → (hbf_stream.next s x).depth ≡ s.depth
 unfolding hbf_stream
-half_depth s x = depth_next (stage_taps decimation) dec_stages s x
+half_depth s x = depth_next (stage_taps decimation) decimation_five s x
 
 pub half_down : CountsDown hbf_stream half_left half_period HalfGood
 half_down =

@@ -8,6 +8,7 @@ use Rattle.half_band.specs.HbfStream.{stream_of}
 use Rattle.half_band.specs.declared.hbf_stream.HbfStream.{HbfStream}
 use Rattle.float.specs.PolyphaseResamp as R
 use Rattle.float.specs.declared.polyphase_resamp.PolyphaseResampF32.{PolyphaseResampF32}
+use Rattle.float.specs.declared.settings.Setting.{Setting}
 use Rattle.chain.specs.Chain.{PartsLevels, Parts3, Parts2}
 use Rattle.chain.specs.declared.fixed.Fixed.{Fixed}
 
@@ -19,6 +20,10 @@ fir_of f wait taps delay = fir_state taps f.tap_count f.factor delay wait
 
 abbrev pub half_band_of : Fixed → List Float → List Float → List ℕ → HbfStream
 half_band_of f delays held counts = stream_of f.depth delays held counts
+
+-- what the resampler was opened with
+abbrev pub setting_of : Fixed → Setting
+setting_of f = record { phases = f.phases; taps = f.taps; straight = f.straight; step = f.step }
 
 abbrev pub resampler_of : Fixed → Float → List Float → List Float → PolyphaseResampF32
 resampler_of f mu delay prototype = R.together f.straight f.phases f.taps mu f.step delay prototype

@@ -11,7 +11,7 @@ ghost use Rattle.chain.specs.Batched.{most_sums, Whole, Batched};
 
 use crate::fixed::{Fixed, MOST_SUMS};
 use crate::levels::levels_in;
-use float::polyphase_resamp::{MOST_CELLS, MOST_TAPS as MOST_PHASE_TAPS};
+use float::settings::{MOST_CELLS, MOST_TAPS as MOST_PHASE_TAPS};
 use half_band::{DEC_CASCADE_DELAYS, MOST_STAGES};
 use q15::{MOST_TAPS, fir_block_at};
 

@@ -1,4 +1,8 @@
 // What a feed of a line never changes.
+ghost use Rattle.std.specs.Prelude.{◌≡◌};
+ghost use Rattle.chain.specs.Parts.{setting_of};
+
+use float::settings::Setting;
 
 // The most sums of section 1 in a block.
 pub const MOST_SUMS: usize = 128;
@@ -19,4 +23,18 @@ pub struct Fixed {
     pub taps: usize,
     pub straight: bool,
     pub step: f32,
+}
+
+impl Fixed {
+    // What the resampler was opened with.
+    pub fn setting(self) -> Setting
+        ensures { result ≡ setting_of self }
+    {
+        Setting {
+            phases: self.phases,
+            taps: self.taps,
+            straight: self.straight,
+            step: self.step,
+        }
+    }
 }

@@ -8,8 +8,9 @@ ghost use Rattle.chain.specs.Batched.{most_sums, Whole, Batched};
 
 use crate::fixed::{Fixed, MOST_SUMS};
 use crate::resample::resample;
-use float::polyphase_resamp::{Due, MOST_CELLS, MOST_TAPS as MOST_PHASE_TAPS};
+use float::due::Due;
 use float::q15_to_f32;
+use float::settings::{MOST_CELLS, MOST_TAPS as MOST_PHASE_TAPS};
 use half_band::{DEC_CASCADE_DELAYS, MOST_STAGES, hbf_stream_block_at};
 use q15::Q15;
 
@@ -18,12 +19,8 @@ fn put_levels(span: &mut [f32], values: &[i16])
     requires { length values.now ≤ length span.old }
     ensures { span.new ≡ map level values.now ++ drop (length values.now) span.old }
 {
-    let mut i = 0;
-    while i < values.len() {
-        let bits = values[i];
-        let value = Q15(bits);
-        span[i] = q15_to_f32(value);
-        i += 1;
+    for (i, value) in values.iter().enumerate() {
+        span[i] = q15_to_f32(Q15(*value));
     }
 }
 

@@ -7,19 +7,10 @@ ghost use Rattle.chain.specs.Parts.{resampler_of};
 ghost use Rattle.chain.specs.Batched.{Whole, Batched};
 
 use crate::fixed::Fixed;
-use float::polyphase_resamp::{Due, MOST_CELLS, MOST_TAPS as MOST_PHASE_TAPS, block_at};
+use float::due::Due;
+use float::settings::{MOST_CELLS, MOST_TAPS as MOST_PHASE_TAPS};
 use float::span::put_at_end;
-use refusal::Count;
-
-// How many outputs a block wrote; 0 where it is refused.
-fn written_of(answer: Count) -> usize
-    ensures { result ≡ (count_answer answer).value }
-{
-    match answer {
-        Count::Written(n) => n,
-        Count::Refused(_) => 0,
-    }
-}
+use refusal::Moved;
 
 // Levels into the resampler, which writes from the place `from` on; where it is off they are written themselves.
 pub(crate) fn resample(
@@ -46,20 +37,16 @@ pub(crate) fn resample(
         put_at_end(&mut out[from..past], levels);
         return Due { mu, written: past };
     }
-    let moved = block_at(
-        f.straight,
-        f.phases,
-        f.taps,
-        f.step,
-        mu,
-        delay,
-        prototype,
-        levels,
-        &mut out[from..],
-    );
-    let answer = moved.answer;
+    let mut next = mu;
+    let moved = f
+        .setting()
+        .block(&mut next, delay, prototype, levels, &mut out[from..]);
+    let written = moved.unwrap_or(Moved {
+        taken: 0,
+        written: 0,
+    });
     Due {
-        mu: moved.mu,
-        written: from + written_of(answer),
+        mu: next,
+        written: from + written.written,
     }
 }

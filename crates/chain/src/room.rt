@@ -13,7 +13,6 @@ ghost use Rattle.chain.specs.Batched.{most_sums, Leaves};
 use crate::fixed::{FEW_SUMS, Fixed, MOST_SUMS};
 use float::f32_to_usize_saturating;
 use half_band::MOST_STAGES;
-use integer::limits::least;
 
 // A level in the parts that a stride is counted in.
 const PARTS: usize = 4096;
@@ -25,11 +24,7 @@ fn stride(phases: usize, step: f32) -> usize
     if phases == 0 {
         return PARTS;
     }
-    let whole = f32_to_usize_saturating(step * 4096.0);
-    if whole == 0 {
-        return 0;
-    }
-    whole - 1
+    f32_to_usize_saturating(step * 4096.0).saturating_sub(1)
 }
 
 // So many levels leave a place of those left; never more than MOST_SUMS.
@@ -39,9 +34,9 @@ fn levels_for(places: usize, stride: usize) -> usize
     if places == 0 {
         return 0;
     }
-    let outputs = least(places - 1, 65536);
-    let parts = least(stride, 262144);
-    least(outputs * parts / PARTS, MOST_SUMS)
+    let outputs = (places - 1).min(65536);
+    let parts = stride.min(262144);
+    MOST_SUMS.min(outputs * parts / PARTS)
 }
 
 // How many values a stage that holds so many takes in before the one that makes its pair whole.
@@ -56,10 +51,8 @@ fn values_for(depth: usize, counts: [usize; MOST_STAGES], levels: usize) -> usiz
     requires { levels ≤ most_sums }
     ensures { (result ≡ stages_left (min depth 5) 0 counts - 1 + levels * 2 ^ min depth 5) × (result ≤ 4127) }
 {
-    let mut k = least(depth, MOST_STAGES);
     let mut values = levels;
-    while 0 < k {
-        k = k - 1;
+    for k in (0..depth.min(MOST_STAGES)).rev() {
         values = before_pair(counts[k]) + values * 2;
     }
     values
@@ -69,10 +62,7 @@ fn values_for(depth: usize, counts: [usize; MOST_STAGES], levels: usize) -> usiz
 fn or_one(tap_count: usize, n: usize) -> usize
     ensures { result ≡ min (or_one tap_count n) most_sums }
 {
-    if tap_count == 0 {
-        return 1;
-    }
-    least(n, MOST_SUMS)
+    if tap_count == 0 { 1 } else { n.min(MOST_SUMS) }
 }
 
 // So many sums, or fewer, leave a place before the last of them.
@@ -87,7 +77,7 @@ fn sums_within(f: Fixed, wait: usize, counts: [usize; MOST_STAGES], places: usiz
     let values = values_for(f.depth, counts, levels);
     let first = or_one(f.tap_count, wait);
     let period = or_one(f.tap_count, f.factor);
-    least(first + values * period, MOST_SUMS)
+    (first + values * period).min(MOST_SUMS)
 }
 
 // How many sums a block may have where no output is due and so many places are left; 0 where it would have fewer than FEW_SUMS, which go faster one by one.

@@ -14,10 +14,10 @@ ghost use Rattle.chain.specs.Batched.{most_sums, Whole, Leaves, Batched};
 
 use crate::filter::filter;
 use crate::fixed::{Fixed, MOST_SUMS};
-use float::polyphase_resamp::{MOST_CELLS, MOST_TAPS as MOST_PHASE_TAPS};
+use float::settings::{MOST_CELLS, MOST_TAPS as MOST_PHASE_TAPS};
 use half_band::{DEC_CASCADE_DELAYS, MOST_STAGES};
 use integer::gain::scaled;
-use integer::limits::{MAX_STAGES, least};
+use integer::limits::MAX_STAGES;
 use nonrecursive::Thinning;
 use nonrecursive::nonrecursive_decimator::MAX_NEIGHBOURS;
 use nonrecursive::thinning::thin_block_at;
@@ -35,28 +35,17 @@ pub struct Batch {
     pub written: usize,
 }
 
-fn one(cut: bool) -> usize
-    ensures { (result ≡ cond cut 1 0) × (result ≤ 1) }
-{
-    if cut { 1 } else { 0 }
-}
-
 // The sums, scaled and cut, in front of a span. Answers how many were cut.
 fn cut_sums(bits: u32, sums: &[i32], dst: &mut [i16]) -> usize
     requires { (length sums.now ≤ length dst.old) × (length sums.now ≤ most_sums) }
     ensures span { dst.new ≡ map (cut w16) (map (λ y. floor_div y (2 ^ bits)) sums.now) ++ drop (length sums.now) dst.old }
     ensures cuts { result ≡ cut_count w16 (map (λ y. floor_div y (2 ^ bits)) sums.now) }
 {
-    let mut i = 0;
     let mut cuts = 0;
-    while i < sums.len() {
-        let y = scaled(sums[i], bits);
-        let made = cut_q15(y as i64);
-        let value = made.value;
-        let q = value.0;
-        dst[i] = q;
-        cuts = cuts + one(made.cut);
-        i += 1;
+    for (i, sum) in sums.iter().enumerate() {
+        let made = cut_q15(scaled(*sum, bits) as i64);
+        dst[i] = made.value.0;
+        cuts += usize::from(made.cut);
     }
     cuts
 }
@@ -103,21 +92,22 @@ pub fn take_batch(
         × Batched chain (thinner, behind) xs from out.old out.new (next_thinner, cut_on next_fir next_half_band next_resampler) result.written
         × (result.cuts ≡ cut_count w16 sums + cut_count w16 (outs summing fir (map (cut w16) sums))) }
 {
-    let most = least(count, MOST_SUMS);
-    let at = least(from, out.len());
+    let most = count.min(MOST_SUMS);
+    let at = from.min(out.len());
     let mut sums = [0i32; MOST_SUMS];
+    let mut counter = sample_counter;
     let moved = thin_block_at(
         thinning,
         f.stages,
         f.r,
-        sample_counter,
+        &mut counter,
         integrators,
         combs,
         neighbours,
         samples,
         &mut sums[..most],
     );
-    let made = moved.made;
+    let made = moved.written;
     let mut values = [0i16; MOST_SUMS];
     let cuts = cut_sums(f.bits, &sums[..made], &mut values);
     let on = filter(
@@ -137,7 +127,7 @@ pub fn take_batch(
     );
     Batch {
         taken: moved.taken,
-        sample_counter: moved.sample_counter,
+        sample_counter: counter,
         wait: on.wait,
         mu: on.mu,
         cuts: cuts + on.cuts,

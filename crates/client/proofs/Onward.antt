@@ -8,82 +8,19 @@ use native.Mathlib.Omega.{arith}
 use lib.IntN.{ℤ}
 use lib.Ieee.{Float}
 use lib.ListN.{length, get_or, take, drop, set, length-append, length-take, length-drop, take-append-drop, drop_of_length-le}
-use lib.Seq.{take_all, take-length, drop-length, drop-cons, take-suc-set, drop-set-lt, drop-drop, take_at, drop_at}
-use Rattle.refusal.specs.Outcome.{Outcome, Moved}
+use lib.Seq.{drop-cons, take-suc-set, drop-set-lt, drop-drop, take_at, drop_at}
+use borrow.Author.Tests.{ne_eqb}
+use Rattle.std.specs.Prelude.{Err}
+use Rattle.refusal.specs.declared.Refusal.{Refusal}
+use Rattle.refusal.specs.Table.{number_of}
+use Rattle.refusal.proofs.Table.{number_positive}
+use Rattle.refusal.specs.Outcome.{Outcome, told_opened}
+use Rattle.refusal.specs.declared.Moved.{Moved}
 use Rattle.line.specs.Outputs.{Opening}
-use Rattle.line.specs.Line.{feed_outcome, feed_span, opened}
+use Rattle.line.specs.Line.{feed_span, opened, zeros}
 use Rattle.line.specs.Demand3.{History, none_yet, line_of, taken_of, written_of, Kept, Demand3}
 use Rattle.line.specs.declared.gauge_line.Line.{Line}
 use Rattle.client.specs.FeedAll.{one, Left, left, all_left, fed_on, AllKept}
-
--- as many as there are
-pub take_as_many : {A : Type 0} (n : ℕ) (l : List A) → take (min n (length l)) l ≡ take n l
-take_as_many n l = elim (dec_le n (length l)) [
-  | yes h ↦ (let e : min n (length l) ≡ n = omega arith in ap (λ (k : ℕ). take k l) e)
-  | no h ↦ (let e : min n (length l) ≡ length l = omega arith in ap (λ (k : ℕ). take k l) e ∙ take-length l ∙ sym (take_all n l (omega arith)))
-]
-
-pub drop_as_many : {A : Type 0} (n : ℕ) (l : List A) → drop (min n (length l)) l ≡ drop n l
-drop_as_many n l = elim (dec_le n (length l)) [
-  | yes h ↦ (let e : min n (length l) ≡ n = omega arith in ap (λ (k : ℕ). drop k l) e)
-  | no h ↦ (let e : min n (length l) ≡ length l = omega arith in ap (λ (k : ℕ). drop k l) e ∙ drop-length l ∙ (let g : length l ≤ n = omega arith in sym (drop_of_length-le l g)))
-]
-
--- a part of a list from `at` on, n long or as long as there is
-module _ {A : Type 0} (l : List A) (at n past : ℕ) (p : past ≡ at + min n (length l - at)) where
-  width : past - at ≡ min n (length (drop at l))
-  width = let d = length-drop at l in omega (arith, d, p)
-
-  pub part : take (past - at) (drop at l) ≡ take n (drop at l)
-  part = ap (λ (k : ℕ). take k (drop at l)) width ∙ take_as_many n (drop at l)
-
-  pub rest : drop (past - at) (drop at l) ≡ drop n (drop at l)
-  rest = ap (λ (k : ℕ). drop k (drop at l)) width ∙ drop_as_many n (drop at l)
-
--- one feed of such parts, told by the parts
-module _ (l : Line) (xs : List ℤ) (at piece m : ℕ) (out : List Float) (from span n : ℕ) (m_is : m ≡ min piece (length xs - at)) (n_is : n ≡ min span (length out - from)) where
-  abbrev lent : List ℤ
-  lent = take piece (drop at xs)
-
-  abbrev places : List Float
-  places = take span (drop from out)
-
-  samples_are : take (at + m - at) (drop at xs) ≡ lent
-  samples_are = part xs at piece (at + m) (ap (λ (k : ℕ). at + k) m_is)
-
-  places_are : take (from + n - from) (drop from out) ≡ places
-  places_are = part out from span (from + n) (ap (λ (k : ℕ). from + k) n_is)
-
-  behind_are : drop (from + n - from) (drop from out) ≡ drop span (drop from out)
-  behind_are = rest out from span (from + n) (ap (λ (k : ℕ). from + k) n_is)
-
-  pub fed_part :
-      (r : Outcome Moved Line) (ys : List Float) → r ≡ feed_outcome l (take (at + m - at) (drop at xs)) (length (take (from + n - from) (drop from out)))
-      → ys ≡ feed_span l (take (at + m - at) (drop at xs)) (take (from + n - from) (drop from out)) → Demand3 l (take (at + m - at) (drop at xs)) (take (from + n - from) (drop from out)) ys r
-      → from ≤ length out → length (take from out ++ (ys ++ drop (from + n - from) (drop from out))) ≡ length out
-      → (r ≡ feed_outcome l lent (length places))
-      × ((take from out ++ (ys ++ drop (from + n - from) (drop from out)) ≡ take from out ++ (feed_span l lent places ++ drop span (drop from out)))
-      × ((length (feed_span l lent places) ≡ length places) × Demand3 l lent places (feed_span l lent places) r))
-  fed_part r ys told span_is demand inside same =
-      let wrote : ys ≡ feed_span l lent places = span_is ∙ ap₂ {C = List Float} (feed_span l) samples_are places_are in
-      let d1 : Demand3 l lent (take (from + n - from) (drop from out)) ys r = subst (λ (x : List ℤ). Demand3 l x (take (from + n - from) (drop from out)) ys r) samples_are demand in
-      let d2 : Demand3 l lent places ys r = subst (λ (y : List Float). Demand3 l lent y ys r) places_are d1 in
-      let a = length-append (take from out) (ys ++ drop (from + n - from) (drop from out)) in
-      let b = length-append ys (drop (from + n - from) (drop from out)) in
-      let e = length-take from out in
-      let f = length-drop (from + n - from) (drop from out) in
-      let g = length-drop from out in
-      let h = length-take span (drop from out) in
-      let i : length (feed_span l lent places) ≡ length ys = ap length (sym wrote) in (
-        told ∙ ap₂ {C = Outcome Moved Line} (λ (x : List ℤ) (y : List Float). feed_outcome l x (length y)) samples_are places_are,
-        (
-          ap₂ {C = List Float} (λ (y z : List Float). take from out ++ (y ++ z)) wrote behind_are,
-          (
-            omega (arith, a, b, e, f, g, h, i, same, inside, n_is),
-            subst (λ (y : List Float). Demand3 l lent places y r) wrote d2,
-          ),
-        ),
-      )
 
 -- what is done in front of what is left
 abbrev pub behind : List ℕ → List ℕ → List Float → Left → Left
@@ -139,14 +76,25 @@ kept_next o ok h l e xs out p s told t d =
     (subst (λ (r : Outcome Moved Line). Kept o (take p xs) (take s out) (feed_span l (take p xs) (take s out)) r (taken_of o h ++ take r.value.taken (take p xs)) (written_of o h ++ take r.value.written (feed_span l (take p xs) (take s out)))) t
     (d o h ok e).1)
 
-pub all_left_lem :
+all_left_lem :
     (o : Opening) → (opened o).number ≡ 0 → (xs : List ℤ) (out : List Float) (pieces spans : List ℕ) → all_left o xs out pieces spans ≡ left (opened o).state xs out pieces spans
 unfolding all_left
 all_left_lem o ok xs out pieces spans = rw ok
 
-module _ (o : Opening) (ok : (opened o).number ≡ 0) (xs : List ℤ) (out₀ : List Float) (pieces₀ spans₀ : List ℕ) where
-  -- after k feeds: the line, how far the samples are taken and the places lent, and the three lists as they stand
+-- a refused opening leaves everything
+pub refused :
+    (o : Opening) (q : Refusal) → told_opened zeros (Err q) ≡ opened o → (xs : List ℤ) (out : List Float) (pieces spans : List ℕ)
+    → record { line = zeros; pieces = pieces; spans = spans; out = out } ≡ all_left o xs out pieces spans
+unfolding all_left
+refused o q e xs out pieces spans =
+    let h = number_positive q in
+    let n : number_of q ≡ 0 → ⊥ = omega arith in
+    rw (sym e, ne_eqb (number_of q) 0 n)
+
+module _ (o : Opening) (xs : List ℤ) (out₀ : List Float) (pieces₀ spans₀ : List ℕ) where
+  -- after k feeds of a line that was opened: the line, how far the samples are taken and the places lent, and the three lists as they stand
   pub record Onward (line : Line) (at from k : ℕ) (out : List Float) (pieces spans : List ℕ) : Type 0 where
+    pub ok : (opened o).number ≡ 0
     pub history : History
     pub is : line_of o history ≡ line
     pub at_in : at ≤ length xs
@@ -154,39 +102,40 @@ module _ (o : Opening) (ok : (opened o).number ≡ 0) (xs : List ℤ) (out₀ : 
     pub whole : left (opened o).state xs out₀ pieces₀ spans₀ ≡ behind (take k pieces) (take k spans) (take from out) (left line (drop at xs) (drop from out) (drop k pieces) (drop k spans))
     pub kept : AllKept o history (drop at xs) (drop from out) (drop k pieces) (drop k spans) → AllKept o none_yet xs out₀ pieces₀ spans₀
 
-  pub start : Onward (opened o).state 0 0 0 out₀ pieces₀ spans₀
-  start = record { history = none_yet; is = refl; at_in = omega arith; from_in = omega arith; whole = refl; kept = λ a. a }
-
-  module _ (line : Line) (at from k : ℕ) (out : List Float) (pieces spans : List ℕ) (w : Onward line at from k out pieces spans) where
+  module _ {line : Line} {at from k : ℕ} {out : List Float} {pieces spans : List ℕ} (w : Onward line at from k out pieces spans) where
     -- at the end of a list of numbers
     ended :
         left line (drop at xs) (drop from out) (drop k pieces) (drop k spans) ≡ record { line = line; pieces = drop k pieces; spans = drop k spans; out = drop from out }
-        → record { line = line; pieces = pieces; spans = spans; out = out } ≡ left (opened o).state xs out₀ pieces₀ spans₀
+        → record { line = line; pieces = pieces; spans = spans; out = out } ≡ all_left o xs out₀ pieces₀ spans₀
     ended e =
-        sym (w.whole
+        sym (all_left_lem o w.ok xs out₀ pieces₀ spans₀
+        ∙ w.whole
         ∙ ap (behind (take k pieces) (take k spans) (take from out)) e
         ∙ (rw (take-append-drop k pieces, take-append-drop k spans, take-append-drop from out)))
 
     abbrev Ended : Type 0
-    Ended = (◌≡◌ {A = Left} (record { line = line; pieces = pieces; spans = spans; out = out }) (left (opened o).state xs out₀ pieces₀ spans₀)) × AllKept o none_yet xs out₀ pieces₀ spans₀
+    Ended = (◌≡◌ {A = Left} (record { line = line; pieces = pieces; spans = spans; out = out }) (all_left o xs out₀ pieces₀ spans₀)) × AllKept o none_yet xs out₀ pieces₀ spans₀
 
-    pub pieces_ended : length pieces ≤ k → Ended
+    pieces_ended : length pieces ≤ k → Ended
     pieces_ended h =
         let e : drop k pieces ≡ [] = drop_of_length-le pieces h in (
           ended (ap (λ (l : List ℕ). left line (drop at xs) (drop from out) l (drop k spans)) e ∙ no_piece line (drop at xs) (drop from out) (drop k spans) ∙ ap {B = Left} (λ (l : List ℕ). record { line = line; pieces = l; spans = drop k spans; out = drop from out }) (sym e)),
           w.kept (subst (λ (l : List ℕ). AllKept o w.history (drop at xs) (drop from out) l (drop k spans)) (sym e) (none_kept_piece o w.history (drop at xs) (drop from out) (drop k spans))),
         )
 
-    pub spans_ended : length spans ≤ k → Ended
+    spans_ended : length spans ≤ k → Ended
     spans_ended h =
         let e : drop k spans ≡ [] = drop_of_length-le spans h in (
           ended (ap (left line (drop at xs) (drop from out) (drop k pieces)) e ∙ no_span line (drop at xs) (drop from out) (drop k pieces) ∙ ap {B = Left} (λ (l : List ℕ). record { line = line; pieces = drop k pieces; spans = l; out = drop from out }) (sym e)),
           w.kept (subst (AllKept o w.history (drop at xs) (drop from out) (drop k pieces)) (sym e) (none_kept_span o w.history (drop at xs) (drop from out) (drop k pieces))),
         )
 
+    pub both_ended : min (length pieces) (length spans) ≤ k → Ended
+    both_ended h = elim (dec_le (length pieces) k) [ yes p ↦ pieces_ended p | no p ↦ spans_ended (omega arith) ]
+
     -- one feed more
-    module _ (p s : ℕ) (some_piece : k < length pieces) (some_span : k < length spans) (p_is : p ≡ get_or pieces k 0) (s_is : s ≡ get_or spans k 0)
-        (told : Outcome Moved Line) (told_is : told ≡ one line (drop at xs) (drop from out) p s)
+    module _ {p s : ℕ} (some_piece : k < length pieces) (some_span : k < length spans) (p_is : p ≡ get_or pieces k 0) (s_is : s ≡ get_or spans k 0)
+        {told : Outcome Moved Line} (told_is : told ≡ one line (drop at xs) (drop from out) p s)
         (demand : Demand3 line (take p (drop at xs)) (take s (drop from out)) (feed_span line (take p (drop at xs)) (take s (drop from out))) told)
         (long : length (feed_span line (take p (drop at xs)) (take s (drop from out))) ≡ length (take s (drop from out))) where
       abbrev X : List ℤ
@@ -208,10 +157,13 @@ module _ (o : Opening) (ok : (opened o).number ≡ 0) (xs : List ℤ) (out₀ : 
       after = take from out ++ (F ++ drop s O)
 
       promised : Kept o (take p X) (take s O) (feed_span (line_of o w.history) (take p X) (take s O)) (one (line_of o w.history) X O p s) (taken_of o (fed_on w.history X O p s)) (written_of o (fed_on w.history X O p s))
-      promised = kept_next o ok w.history line w.is X O p s told told_is demand
+      promised = kept_next o w.ok w.history line w.is X O p s told told_is demand
 
       told_so : one (line_of o w.history) X O p s ≡ told
       told_so = ap (λ (l : Line). one l X O p s) w.is ∙ sym told_is
+
+      pub not_refused : told.number ≡ 0
+      not_refused = subst (λ (r : Outcome Moved Line). r.number ≡ 0) told_so promised.not_refused
 
       pub taken_in : at + t ≤ length xs
       taken_in =
@@ -253,6 +205,7 @@ module _ (o : Opening) (ok : (opened o).number ≡ 0) (xs : List ℤ) (out₀ : 
       pub onward : Onward told.state (at + t) (from + min s (length out - from)) (suc k) after (set pieces k t) (set spans k v)
       onward =
           record {
+            ok = w.ok;
             history = fed_on w.history X O p s;
             is = ap (λ (r : Outcome Moved Line). r.state) told_so;
             at_in = taken_in;
@@ -278,11 +231,11 @@ module _ (o : Opening) (ok : (opened o).number ≡ 0) (xs : List ℤ) (out₀ : 
               (subst (λ (q : List ℕ). AllKept o w.history X O q (s ∷ drop (suc k) spans)) (sym pieces_split)
               (kept_step o w.history X O p s (drop (suc k) pieces) (drop (suc k) spans) promised c))
 
-      -- the same, of numbers and places that the loop has under names of its own
+      -- the same, of a number and places that the loop has under names of its own
       pub onward_as :
-          (l : Line) (t' v' m : ℕ) (after' : List Float) → l ≡ told.state → t' ≡ t → v' ≡ v → after' ≡ after → m ≡ min s (length after' - from)
-          → Onward l (at + t') (from + m) (k + 1) after' (set pieces k t') (set spans k v')
-      onward_as l t' v' m after' el et ev ea em =
+          {m : ℕ} {after' : List Float} → after' ≡ after → m ≡ min s (length after' - from)
+          → Onward told.state (at + t) (from + m) (k + 1) after' (set pieces k t) (set spans k v)
+      onward_as {m} {after'} ea em =
           let ek : k + 1 ≡ suc k = omega arith in
           let en : m ≡ min s (length out - from) = em ∙ ap (λ (n : ℕ). min s (n - from)) (ap length ea ∙ after_long_lem) in
-          rw (el, et, ev, en, ea, ek) onward
+          rw (en, ea, ek) onward

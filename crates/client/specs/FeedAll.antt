@@ -1,6 +1,7 @@
 -- A line fed again and again from one list of samples into one row of places: what each feed lends, what all of them leave, and demand 3 of each.
 use Rattle.std.specs.Prelude.{cond, List, [], ◌∷◌, ◌++◌, ℕ, eqb, ℤ, Float, length, take, drop}
-use Rattle.refusal.specs.Outcome.{Outcome, Moved}
+use Rattle.refusal.specs.Outcome.{Outcome}
+use Rattle.refusal.specs.declared.Moved.{Moved}
 use Rattle.line.specs.Outputs.{Opening}
 use Rattle.line.specs.Line.{feed_outcome, feed_span, opened}
 use Rattle.line.specs.Demand3.{History, fed, line_of, taken_of, written_of, Kept}

@@ -1,64 +1,31 @@
 // A line is opened and fed again and again: what demand 3 says of every list of feeds, as the caller of a loop has it.
-ghost use Rattle.std.specs.Prelude.{◌≡◌, ◌++◌, ◌≤◌, min, eqb, length, take, drop};
-ghost use Rattle.refusal.specs.Outcome.{opening_number, counts_answer};
-ghost use Rattle.line.specs.Line.{feed_outcome, feed_span, opened, told_feed};
+ghost use Rattle.std.specs.Prelude.{◌≡◌, ◌++◌, ◌≤◌, length, take, drop};
+ghost use Rattle.refusal.specs.Outcome.{number_in, value_in, told_on, none_moved};
+ghost use Rattle.line.specs.Line.{feed_outcome, feed_span, opened, zeros};
 ghost use Rattle.line.specs.Demand3.{Demand3, none_yet};
 ghost use Rattle.client.specs.FeedAll.{all_left, AllKept};
 
-use line::{Line, LineFed, LineOpened, Settings};
-use refusal::{Counts, Opening};
-
-fn as_many(wanted: usize, left: usize) -> usize
-    ensures { result ≡ min wanted left }
-{
-    if wanted < left { wanted } else { left }
-}
-
-fn is_opened(answer: Opening) -> bool
-    ensures { result ≡ eqb (opening_number answer) 0 }
-{
-    match answer {
-        Opening::Opened => true,
-        Opening::Refused(_) => false,
-    }
-}
-
-fn taken_in(counts: Counts) -> usize
-    ensures { result ≡ (counts_answer counts).value.taken }
-{
-    match counts {
-        Counts::Moved { taken, written: _ } => taken,
-        Counts::Refused(_) => 0,
-    }
-}
-
-fn written_in(counts: Counts) -> usize
-    ensures { result ≡ (counts_answer counts).value.written }
-{
-    match counts {
-        Counts::Moved { taken: _, written } => written,
-        Counts::Refused(_) => 0,
-    }
-}
+use line::{Line, Settings};
+use refusal::{Moved, Refusal};
 
 // One feed: it lends so many samples from `at` on and so many places from `from` on, or as many as are left.
 fn feed_part(
-    line: Line,
+    line: &mut Line,
     samples: &[i32],
     at: usize,
     piece: usize,
     out: &mut [f32],
     from: usize,
     span: usize,
-) -> LineFed
+) -> Result<Moved, Refusal>
     requires { (at ≤ length samples.now) × (from ≤ length out.old) }
-    ensures answer { told_feed result ≡ feed_outcome line (take piece (drop at samples.now)) (length (take span (drop from out.old))) }
-    ensures places { out.new ≡ take from out.old ++ (feed_span line (take piece (drop at samples.now)) (take span (drop from out.old)) ++ drop span (drop from out.old)) }
-    ensures long { length (feed_span line (take piece (drop at samples.now)) (take span (drop from out.old))) ≡ length (take span (drop from out.old)) }
-    ensures demand3 { Demand3 line (take piece (drop at samples.now)) (take span (drop from out.old)) (feed_span line (take piece (drop at samples.now)) (take span (drop from out.old))) (told_feed result) }
+    ensures answer { told_on none_moved result line.new ≡ feed_outcome line.old (take piece (drop at samples.now)) (length (take span (drop from out.old))) }
+    ensures places { out.new ≡ take from out.old ++ (feed_span line.old (take piece (drop at samples.now)) (take span (drop from out.old)) ++ drop span (drop from out.old)) }
+    ensures long { length (feed_span line.old (take piece (drop at samples.now)) (take span (drop from out.old))) ≡ length (take span (drop from out.old)) }
+    ensures demand3 { Demand3 line.old (take piece (drop at samples.now)) (take span (drop from out.old)) (feed_span line.old (take piece (drop at samples.now)) (take span (drop from out.old))) (told_on none_moved result line.new) }
 {
-    let past = at + as_many(piece, samples.len() - at);
-    let end = from + as_many(span, out.len() - from);
+    let past = at + piece.min(samples.len() - at);
+    let end = from + span.min(out.len() - from);
     line.feed(&samples[at..past], &mut out[from..end])
 }
 
@@ -73,33 +40,22 @@ pub fn feed_all(
     pieces: &mut [usize],
     out: &mut [f32],
     spans: &mut [usize],
-) -> LineOpened
-    ensures answer { opening_number result.answer ≡ (opened (record { settings = settings; taps = taps.now; prototype = prototype.now })).number }
-    ensures all { record { line = result.line; pieces = pieces.new; spans = spans.new; out = out.new } ≡ all_left (record { settings = settings; taps = taps.now; prototype = prototype.now }) samples.now out.old pieces.old spans.old }
-    ensures demand3 { opening_number result.answer ≡ 0 → AllKept (record { settings = settings; taps = taps.now; prototype = prototype.now }) none_yet samples.now out.old pieces.old spans.old }
+) -> Result<Line, Refusal>
+    ensures answer { number_in result ≡ (opened (record { settings = settings; taps = taps.now; prototype = prototype.now })).number }
+    ensures all { record { line = value_in zeros result; pieces = pieces.new; spans = spans.new; out = out.new } ≡ all_left (record { settings = settings; taps = taps.now; prototype = prototype.now }) samples.now out.old pieces.old spans.old }
+    ensures demand3 { number_in result ≡ 0 → AllKept (record { settings = settings; taps = taps.now; prototype = prototype.now }) none_yet samples.now out.old pieces.old spans.old }
 {
-    let opened = Line::open(settings, taps, prototype);
-    let answer = opened.answer;
-    let mut line = opened.line;
-    if !is_opened(answer) {
-        return LineOpened { answer, line };
-    }
+    let mut line = Line::open(settings, taps, prototype)?;
     let mut at = 0;
     let mut from = 0;
-    let mut k = 0;
-    while k < pieces.len() && k < spans.len() {
-        let piece = pieces[k];
-        let span = spans[k];
-        let fed = feed_part(line, samples, at, piece, out, from, span);
-        let counts = fed.counts;
-        line = fed.line;
-        let taken = taken_in(counts);
-        let written = written_in(counts);
-        pieces[k] = taken;
-        spans[k] = written;
-        at += taken;
-        from += as_many(span, out.len() - from);
-        k += 1;
+    // By number, since of what is written through two zipped `iter_mut` a proof knows the lengths alone.
+    for k in 0..pieces.len().min(spans.len()) {
+        let (piece, span) = (pieces[k], spans[k]);
+        let moved = feed_part(&mut line, samples, at, piece, out, from, span)?;
+        pieces[k] = moved.taken;
+        spans[k] = moved.written;
+        at += moved.taken;
+        from += span.min(out.len() - from);
     }
-    LineOpened { answer, line }
+    Ok(line)
 }

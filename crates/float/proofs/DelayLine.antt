@@ -24,7 +24,3 @@ slide d x t h =
 
 pub held_next : (d : List Float) (x : Float) (t : ℕ) → t ≤ length d → get_or (slid d x t) t nan ≡ get_or (x ∷ d) (t + 1) nan
 held_next d x t h = at_turn d x t h ∙ ap (λ (z : ℕ). get_or (x ∷ d) z nan) (sym (add-one t))
-
--- after the last turn
-pub slid_all : (d : List Float) (x : Float) (T t : ℕ) → t ≡ T → slid d x t ≡ take T (x ∷ d) ++ drop T d
-slid_all d x T t e = rw (e, zero-add)

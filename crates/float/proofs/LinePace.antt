@@ -2,7 +2,7 @@
 -- resampler; one that is off makes an output of each value.
 use Rattle.std.proofs.Common.{◌≡◌, ℕ, zero, suc, ◌-◌, ◌*◌, ◌/◌, ◌^◌, ◌<◌, ◌≤◌, min, Bool, true, false, cond, T, eqb, List, length, pos, sym, refl, ap, ◌∙◌, subst, le_trans, le_of_eq, mul-le-mul_right, zero-mul, mul-one, div-mul-le_self, le_of_mul-le-mul_right, arith}
 use mathlib.Core.Path.{subst⁻¹}
-use mathlib.Core.Option.{none}
+use Rattle.std.specs.Prelude.{None}
 use native.Mathlib.Decide.{dec_le}
 use lib.Ieee.{Float, nan, inf, fin, binary32, of_bits, up, down, round, add, mul, lt, to_unsigned}
 use lib.Ieee.Back.{round_whole}
@@ -120,7 +120,7 @@ next_on : (s : PolyphaseResampF32) (x : Float) → is_on s ≡ true → in_line.
 unfolding in_line
 next_on s x o = rw o
 
-now_on : (s : PolyphaseResampF32) (x : Float) → is_on s ≡ true → in_line.now s x ≡ none
+now_on : (s : PolyphaseResampF32) (x : Float) → is_on s ≡ true → in_line.now s x ≡ None
 unfolding in_line
 now_on s x o = rw o
 

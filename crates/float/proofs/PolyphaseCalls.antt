@@ -7,13 +7,14 @@ use lib.Ieee.{Float, binary32, sub, lt}
 use Rattle.theory.specs.Feeds.{Fed, feed}
 use Rattle.theory.specs.Runs.{Runs}
 use Rattle.theory.proofs.FeedRules.{Between, Ended, between_start, after_output, ended_full, ended_dry, feed_keeps, feed_short, feed_conserves}
-use Rattle.refusal.specs.Outcome.{Outcome, Opened}
+use Rattle.refusal.specs.Outcome.{Outcome, Opened, none_moved}
+use Rattle.refusal.specs.declared.Moved.{Moved}
 use Rattle.float.specs.F32.{one32, above_zero}
 use Rattle.float.specs.PolyphaseOutput.{output}
-use Rattle.float.specs.PolyphaseResamp.{in_limits, valid, consumed, output_of, passed, resampler, Emitted, emitted, emitted_from, fresh, refused_opening, opening, own_taps, reset, Counts, laid, together, RanTo, shifted_in, block, block_outcome, block_span, push, push_outcome, push_span}
+use Rattle.float.specs.PolyphaseResamp.{in_limits, valid, consumed, output_of, passed, resampler, Emitted, emitted, emitted_from, fresh, refused_opening, opening, own_taps, reset, Counts, laid, together, state_of, RanTo, shifted_in, block, block_outcome, block_span, push, push_outcome, push_span}
 use Rattle.float.specs.PolyphaseWhole.{Opens, Resets, Conserves, BlockKept, PushKept}
 use Rattle.float.specs.declared.polyphase_resamp.PolyphaseResampF32.{PolyphaseResampF32}
-use Rattle.float.specs.declared.polyphase_resamp.Ran.{Ran}
+use Rattle.float.specs.declared.settings.Setting.{Setting}
 use Rattle.float.proofs.PolyphaseRange.{valid_in_limits, valid_above, valid_consumed, valid_passed, valid_fresh}
 use Rattle.float.proofs.DueOutputs.{emitted_keeps, emitted_all}
 use Rattle.float.proofs.PolyphaseWhole.{fresh_becomes, becomes_fresh, becomes_all}
@@ -84,10 +85,10 @@ fed_conserves s xs n written e = let c = feed_conserves resampler s xs n in rw e
 
 -- a loop over the machine that has ended is a run
 pub finished :
-    (straight : Bool) (P T : ℕ) (step mu : Float) (h d₀ xs o₀ : List Float) (r : Ran) (d o : List Float)
-    (mid : Between resampler (together straight P T mu step d₀ h) xs o₀ o (together straight P T r.mu step d h) r.taken r.written)
-    → Ended resampler _ _ _ _ _ _ _ mid → RanTo straight P T step mu h d₀ xs o₀ r d o
-finished straight P T step mu h d₀ xs o₀ r d o mid e =
+    (q : Setting) (mu₀ : Float) (h d₀ xs o₀ : List Float) (r : Moved) (mu : Float) (d o : List Float)
+    (mid : Between resampler (state_of q mu₀ d₀ h) xs o₀ o (state_of q mu d h) r.taken r.written)
+    → Ended resampler _ _ _ _ _ _ _ mid → RanTo q mu₀ h d₀ xs o₀ r mu d o
+finished q mu₀ h d₀ xs o₀ r mu d o mid e =
     record { state = rw e.is_fed; taken = rw e.is_fed; written = rw e.is_fed (sym e.count); span = rw e.is_fed e.span }
 
 -- the outputs that are due carry it on, where the delay d that they are made of gives those of the state's e; and where a place is left, nothing more is due
@@ -108,15 +109,15 @@ due_between straight P T step d e h s₀ xs o₀ t alike mu w o b f q =
 
 -- and with no samples to consume they are a run
 pub emitted_ran :
-    (straight : Bool) (P T : ℕ) (step mu : Float) (h d o₀ : List Float) (e : Emitted) → in_limits P T ≡ true → e ≡ emitted_from straight P T step d h mu 0 o₀
-    → RanTo straight P T step mu h d [] o₀ (record { mu = e.mu; taken = 0; written = e.written }) d e.span
+    (q : Setting) (mu : Float) (h d o₀ : List Float) (e : Emitted) → in_limits q.phases q.taps ≡ true
+    → e ≡ emitted_from q.straight q.phases q.taps q.step d h mu 0 o₀ → RanTo q mu h d [] o₀ (record { taken = 0; written = e.written }) e.mu d e.span
 unfolding emitted_from resampler
-emitted_ran straight P T step mu h d o₀ e l q =
-    let made = due_between straight P T step d d h (together straight P T mu step d h) [] o₀ 0 (λ mu'. refl) mu 0 o₀ (between_start resampler (together straight P T mu step d h) [] o₀) e (rw l at q) in
-    finished straight P T step mu h d [] o₀ (record { mu = e.mu; taken = 0; written = e.written }) d e.span made.0 (go e made.0 made.1 (ltb e.written (length e.span)) refl)
+emitted_ran q mu h d o₀ e l same =
+    let made = due_between q.straight q.phases q.taps q.step d d h (state_of q mu d h) [] o₀ 0 (λ mu'. refl) mu 0 o₀ (between_start resampler (state_of q mu d h) [] o₀) e (rw l at same) in
+    finished q mu h d [] o₀ (record { taken = 0; written = e.written }) e.mu d e.span made.0 (go e made.0 made.1 (ltb e.written (length e.span)) refl)
   where
     go :
-        (f : Emitted) (mid : Between resampler (together straight P T mu step d h) [] o₀ f.span (together straight P T f.mu step d h) 0 f.written)
+        (f : Emitted) (mid : Between resampler (state_of q mu d h) [] o₀ f.span (state_of q f.mu d h) 0 f.written)
         → (f.written < length f.span → lt f.mu one32 ≡ false) → (b : Bool) → ltb f.written (length f.span) ≡ b → Ended resampler _ _ _ _ _ _ _ mid
     go f mid all true b = ended_dry resampler _ _ _ _ _ _ _ mid (all (ltb-true _ _ b)) (omega arith)
     go f mid all false b = ended_full resampler _ _ _ _ _ _ _ mid (ltb-false _ _ b)
@@ -149,16 +150,16 @@ block_kept s xs before after r er ea =
 abbrev pub BlockMade : PolyphaseResampF32 → List Float → List Float → List Float → Outcome Counts PolyphaseResampF32 → Type 0
 BlockMade s xs before after r = (r ≡ block_outcome s xs before) × (after ≡ block_span s xs before)
 
-pub block_refused : (s : PolyphaseResampF32) (xs before : List Float) → valid s ≡ false → BlockMade s xs before before (record { number = 15; value = record { written = 0; taken = 0 }; state = s })
+pub block_refused : (s : PolyphaseResampF32) (xs before : List Float) → valid s ≡ false → BlockMade s xs before before (record { number = 15; value = none_moved; state = s })
 unfolding block_outcome block_span
 block_refused s xs before v = (rw v, rw v)
 
 pub block_ran :
-    (s : PolyphaseResampF32) (xs before : List Float) (r : Ran) (d after : List Float) → valid s ≡ true
-    → RanTo s.straight s.phases s.taps s.step s.mu s.prototype s.delay xs before r d after
-    → BlockMade s xs before after (record { number = 0; value = record { written = r.written; taken = r.taken }; state = together s.straight s.phases s.taps r.mu s.step d s.prototype })
+    (q : Setting) (mu₀ : Float) (d₀ h xs before : List Float) (r : Moved) (mu : Float) (d after : List Float) → valid (state_of q mu₀ d₀ h) ≡ true
+    → RanTo q mu₀ h d₀ xs before r mu d after
+    → BlockMade (state_of q mu₀ d₀ h) xs before after (record { number = 0; value = r; state = state_of q mu d h })
 unfolding block_outcome block_span block
-block_ran s xs before r d after v e = (rw (v, e.written, e.taken, e.state), rw v e.span)
+block_ran q mu₀ d₀ h xs before r mu d after v e = (rw (v, ← e.written, ← e.taken, ← e.state), rw v e.span)
 
 pub push_kept :
     (s : PolyphaseResampF32) (x : Float) (before after : List Float) (r : Outcome ℕ PolyphaseResampF32) → r ≡ push_outcome s x before → after ≡ push_span s x before
@@ -181,10 +182,10 @@ unfolding push_outcome push_span
 push_refused s x before v = (rw v, rw v)
 
 pub push_ran :
-    (s : PolyphaseResampF32) (x : Float) (before : List Float) (r : Ran) (d₀ d after : List Float) → valid s ≡ true → d₀ ≡ shifted_in s.taps x s.delay
-    → RanTo s.straight s.phases s.taps s.step (sub binary32 s.mu one32) s.prototype d₀ [] before r d after
-    → PushMade s x before after (record { number = 0; value = r.written; state = together s.straight s.phases s.taps r.mu s.step d s.prototype })
+    (q : Setting) (mu₀ : Float) (d₀ h : List Float) (x : Float) (before : List Float) (r : Moved) (mu : Float) (d₁ d after : List Float)
+    → valid (state_of q mu₀ d₀ h) ≡ true → d₁ ≡ shifted_in q.taps x d₀ → RanTo q (sub binary32 mu₀ one32) h d₁ [] before r mu d after
+    → PushMade (state_of q mu₀ d₀ h) x before after (record { number = 0; value = r.written; state = state_of q mu d h })
 unfolding push_outcome push_span push
-push_ran s x before r d₀ d after v k e =
-    let c : together s.straight s.phases s.taps (sub binary32 s.mu one32) s.step d₀ s.prototype ≡ consumed s x = unfold consumed in rw k in
+push_ran q mu₀ d₀ h x before r mu d₁ d after v k e =
+    let c : state_of q (sub binary32 mu₀ one32) d₁ h ≡ consumed (state_of q mu₀ d₀ h) x = unfold consumed in rw k in
     (rw (v, e.written, e.state, c), rw v (e.span ∙ rw c))

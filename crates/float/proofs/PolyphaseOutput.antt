@@ -1,5 +1,5 @@
 -- The resampler's output from its parts: what the limits of P and T say, that each index lies in the prototype and each phase is a float exactly.
-use Rattle.std.proofs.Common.{◌≡◌, ℕ, zero, suc, ◌+◌, ◌*◌, ◌%◌, ◌<◌, ◌≤◌, Bool, true, false, cond, T, ltb, leb, List, get_or, pos, sym, refl, ap, ◌∙◌, ap₂, le_trans, le_of_lt, mul-le-mul_right, mod-lt, mod-eq_of_lt, suc-mul, mul_comm, mul-le-mul, le_antisymm, add-one, arith, lit≤, le→leb, leb→le, ltb-true, lt-ltb, leb-true}
+use Rattle.std.proofs.Common.{◌≡◌, ℕ, zero, suc, ◌+◌, ◌*◌, ◌%◌, ◌<◌, ◌≤◌, Bool, true, false, cond, T, ltb, leb, List, get_or, pos, sym, refl, ap, ◌∙◌, ap₂, le_trans, le_of_lt, mul-le-mul_right, mod-lt, mod-eq_of_lt, suc-mul, mul_comm, mul-le-mul, add-one, arith, lit≤, le→leb, leb→le, ltb-true, lt-ltb, leb-true}
 use native.Mathlib.Nat.{mod_self}
 use lib.Ieee.{Float, nan, binary32, of_int, in_float, to_unsigned, add, sub, mul}
 use Rattle.float.specs.F32.{one32, zero32, blend}
@@ -26,6 +26,9 @@ limits_say P T h =
     let p = within_says 2 64 P b.0 in
     let t = within_says 1 16 T b.1 in
     record { some_phases = p.0; few_phases = p.1; some_taps = t.0; few_taps = t.1 }
+
+pub inside : (P T : ℕ) → (2 ≤ P) × (P ≤ 64) → (1 ≤ T) × (T ≤ 16) → Limits P T
+inside P T p t = record { some_phases = p.0; few_phases = p.1; some_taps = t.0; few_taps = t.1 }
 
 -- a whole number up to 65,536 is a float exactly
 pub exact : (n b : ℕ) → n ≤ b → T (leb b 65536) → T (in_float binary32 (pos n))
@@ -58,12 +61,6 @@ near t P p T s h m =
     go : 2 ≤ P → (t + 1) * P + P ≤ T * P → (t + 1) * P ≡ t * P + P → t * P + p < P * T
     go s q e = omega (arith, mul_comm P T)
 
--- and the last tap's place from p on lies at most one behind the end
-pub last_place : (P T n p : ℕ) → Limits P T → T ≡ n + 1 → p ≤ P + 1 → n * P + p ≤ 1025
-last_place P T n p l e m =
-    let q : n * P + P ≤ T * P = before n T P (omega arith) in
-    omega (arith, mul_comm P T, few_cells P T l)
-
 pub near_inside : (P T n p : ℕ) → Limits P T → n + 1 ≤ T → p ≤ P + 1 → Inside P n p
 unfolding Inside
 near_inside P T n p l k m t h = omega (arith, near t P p T l.some_phases (omega arith) m, few_cells P T l)
@@ -76,10 +73,6 @@ pub one_tap :
 unfolding phase_sum
 one_tap taps d t y c ey ec =
     ap₂ {C = Float} (λ (a b : Float). add binary32 a (mul binary32 b (get_or d t nan))) ey ec ∙ sym (ap (phase_sum taps d) (add-one t))
-
--- at the last tap
-pub last_tap : (taps : ℕ → Float) (d : List Float) (T t : ℕ) (y : Float) → t ≤ T → T ≤ t → y ≡ phase_sum taps d t → y ≡ phase_sum taps d T
-last_tap taps d T t y a b e = e ∙ ap (phase_sum taps d) (le_antisymm a b)
 
 -- sums of taps and delays that are alike as far as they are read
 pub sums_alike :

@@ -1,7 +1,7 @@
 -- A delay line stands on a tape from the newest sample on, and a sample goes in before it: what is read of the tape is the delay that is moved.
-use Rattle.std.proofs.Common.{◌≡◌, ℕ, zero, suc, ◌+◌, ◌-◌, ◌<◌, ◌≤◌, List, ◌∷◌, ◌++◌, length, get_or, take, drop, set, sym, refl, ap, ◌∙◌, arith, length-drop, take-append-drop, length-take-le, get_or-take, take-take, take_at, drop_at, le-ltb, le-leb}
+use Rattle.std.proofs.Common.{◌≡◌, ℕ, zero, suc, ◌+◌, ◌-◌, ◌<◌, ◌≤◌, List, [], ◌∷◌, ◌++◌, length, get_or, take, drop, set, sym, refl, ap, ◌∙◌, append-nil, arith, length-drop, take-append-drop, length-take-le, get_or-take, take-take, take_at, drop_at, drop_of_length-le, le-ltb, le-leb}
 use lib.ListN.{get_or-append}
-use lib.Seq.{set_split}
+use lib.Seq.{set_split, paste}
 use lib.Ieee.{Float, nan}
 use Rattle.float.specs.PolyphaseResamp.{shifted_in}
 use Rattle.float.specs.Ending.{ending_in}
@@ -33,12 +33,18 @@ before_newest T newest x tape some h =
 at_end : (T : ℕ) (tape d : List Float) → T ≤ length tape → drop (length tape - T) (take (length tape - T) tape ++ take T d) ≡ take T d
 at_end T tape d h = drop_at (take (length tape - T) tape) (take T d) (length tape - T) (length-take-le (length tape - T) tape (omega arith))
 
--- a sample before the taps at the end, which stood in front
+-- a sample before the taps, which stood in front and are copied to the end
 pub wound_back :
-    (T : ℕ) (x : Float) (tape next : List Float) → T < length tape → length next ≡ length tape → next ≡ take (length tape - length (take T tape)) tape ++ take T tape
+    (T n : ℕ) (x : Float) (tape next : List Float) → n ≡ T → T < length tape → length next ≡ length tape → next ≡ paste tape (length tape - T) tape n
     → take T (drop (length tape - T - 1) (set next (length tape - T - 1) x)) ≡ take T (x ∷ tape)
-wound_back T x tape next h long e =
-    let there : drop (length tape - T) next ≡ take T tape = rw (e, length-take-le T tape (omega arith)) (at_end T tape tape (omega arith)) in
+wound_back T n x tape next same h long e =
+    let none : drop (length tape - T + T) tape ≡ [] = drop_of_length-le tape (omega arith) in
+    let copied : next ≡ take (length tape - T) tape ++ take T tape =
+    e
+    ∙ ap (paste tape (length tape - T) tape) same
+    ∙ ap (λ (l : List Float). (take (length tape - T) tape ++ take T tape) ++ l) none
+    ∙ append-nil (take (length tape - T) tape ++ take T tape) in
+    let there : drop (length tape - T) next ≡ take T tape = rw copied (at_end T tape tape (omega arith)) in
     before_newest T (length tape - T) x next (omega arith) (omega arith) ∙ rw there (one_more T x (take T tape) tape (take-take T T tape (omega arith)))
 
 -- what is put at the end of as many places is all that stands there
@@ -68,10 +74,15 @@ module _ (T : ℕ) (d : List Float) where
       let long : length (take T a) ≡ T = length-take-le T a (simp length-drop (omega arith)) in
       get_or-take n a t nan (omega arith) ∙ sym (get_or-append (take T a) (drop T d) nan t (omega arith) ∙ get_or-take T a t nan under)
 
-  -- and what is put back in front of the delay
+  -- and so is what is put in front of the delay
+  pub wound_front : (tape : List Float) (newest n : ℕ) → n ≡ T → take n (drop newest tape) ++ drop T d ≡ wound T tape newest d
+  wound_front tape newest n same = ap (λ (k : ℕ). take k (drop newest tape) ++ drop T d) same
+
+  -- or over its front
   pub wound_off :
       (tape last : List Float) (newest n : ℕ) → n ≡ T → newest + T ≤ length tape → T ≤ length d
       → last ≡ take (length (take T d) - length (take n (drop newest tape))) (take T d) ++ take n (drop newest tape) → last ++ drop T d ≡ wound T tape newest d
   wound_off tape last newest n same room h e =
       let long : length (take T (drop newest tape)) ≡ T = length-take-le T (drop newest tape) (simp length-drop (omega arith)) in
-      ap (λ (l : List Float). l ++ drop T d) (put_over (take T d) (take n (drop newest tape)) last (rw same (long ∙ sym (length-take-le T d h))) e ∙ ap (λ (k : ℕ). take k (drop newest tape)) same)
+      ap (λ (l : List Float). l ++ drop T d) (put_over (take T d) (take n (drop newest tape)) last (rw same (long ∙ sym (length-take-le T d h))) e)
+      ∙ wound_front tape newest n same

@@ -1,19 +1,16 @@
 -- 01, section 5: the resampler's state, its opening and its calls, and as a machine what section 6 says of its whole list.
-use Rattle.std.specs.Prelude.{◌≡◌, ℕ, zero, suc, ◌+◌, ◌-◌, ◌*◌, ◌<◌, Bool, false, cond, not, ◌&&◌, ◌||◌, List, [], ◌∷◌, ◌++◌, length, take, drop, replicate, ◌==◌, from_bits, nat_le, slice_set, Float}
-use Rattle.std.proofs.Math.Option.{none, some}
+use Rattle.std.specs.Prelude.{◌≡◌, ℕ, zero, suc, ◌+◌, ◌-◌, ◌*◌, ◌<◌, Bool, false, cond, not, ◌&&◌, ◌||◌, List, [], ◌∷◌, ◌++◌, length, take, drop, replicate, ◌==◌, from_bits, nat_le, slice_set, Float, None, Some}
 use Rattle.std.specs.Float.{binary32}
 use Rattle.std.specs.Float.Ieee.{add, sub, lt, le}
 use Rattle.theory.specs.Machines.{Machine}
 use Rattle.theory.specs.Feeds.{Fed, feed}
-use Rattle.refusal.specs.Outcome.{Outcome, Opened, opening_number, count_answer}
+use Rattle.refusal.specs.Outcome.{Outcome, Opened, none_moved}
+use Rattle.refusal.specs.declared.Moved.{Moved}
 use Rattle.float.specs.F32.{zero32, one32, above_zero}
 use Rattle.float.specs.PolyphaseOutput.{output}
 use Rattle.float.specs.declared.polyphase_resamp.PolyphaseResampF32.{PolyphaseResampF32}
-use Rattle.float.specs.declared.polyphase_resamp.PolyphaseOpening.{PolyphaseOpening}
-use Rattle.float.specs.declared.polyphase_resamp.PolyphaseBlock.{PolyphaseBlock}
-use Rattle.float.specs.declared.polyphase_resamp.PolyphasePush.{PolyphasePush}
-use Rattle.float.specs.declared.polyphase_resamp.Ran.{Ran}
-use Rattle.float.specs.declared.polyphase_resamp.Due.{Due}
+use Rattle.float.specs.declared.settings.Setting.{Setting}
+use Rattle.float.specs.declared.due.Due.{Due}
 
 -- "P phases 2 to 64, T taps 1 to 16"
 abbrev pub least_phases : ℕ
@@ -97,7 +94,7 @@ passed s =
 -- "while mu < 1 an output is made, else the next value is consumed": a value makes nothing at once
 unfoldable pub resampler : Machine PolyphaseResampF32 Float Float
 resampler =
-    record { due = λ s. lt s.mu one32; val = λ s. output_of s; after = λ s. passed s; next = λ s x. consumed s x; now = λ s x. none }
+    record { due = λ s. lt s.mu one32; val = λ s. output_of s; after = λ s. passed s; next = λ s x. consumed s x; now = λ s x. None }
 
 -- "In the line P = 0 means off": nothing is due, and "a part that is off hands its list on unchanged"
 unfoldable pub is_on : PolyphaseResampF32 → Bool
@@ -110,7 +107,7 @@ in_line =
       val = λ s. output_of s;
       after = λ s. passed s;
       next = λ s x. cond (is_on s) (consumed s x) s;
-      now = λ s x. cond (is_on s) none (some x);
+      now = λ s x. cond (is_on s) None (Some x);
     }
 
 -- refusal 15, beside the line and in it
@@ -161,10 +158,6 @@ opening straight P T h step =
     (refused_opening 13))
     (refused_opening 12)
 
--- what an opening or a reset answered
-abbrev pub told_opening : PolyphaseOpening → Opened PolyphaseResampF32
-told_opening r = record { number = opening_number r.answer; state = r.state }
-
 -- the P × T taps in front of the state's prototype
 unfoldable pub own_taps : PolyphaseResampF32 → List Float
 own_taps s = take (s.phases * s.taps) s.prototype
@@ -174,9 +167,8 @@ unfoldable pub reset : PolyphaseResampF32 → Opened PolyphaseResampF32
 reset s = cond (valid s) (opening s.straight s.phases s.taps (own_taps s) s.step) (record { number = 15; state = s })
 
 -- the counts of a block
-pub record Counts : Type 0 where
-  pub written : ℕ
-  pub taken : ℕ
+abbrev pub Counts : Type 0
+Counts = Moved
 
 -- the span o with the outputs w in front
 abbrev pub laid : List Float → List Float → List Float
@@ -190,19 +182,10 @@ unfoldable pub block_outcome : PolyphaseResampF32 → List Float → List Float 
 block_outcome s xs o =
     cond (valid s)
     (record { number = 0; value = record { written = length (block s xs o).written; taken = (block s xs o).taken }; state = (block s xs o).line })
-    (record { number = 15; value = record { written = 0; taken = 0 }; state = s })
+    (record { number = 15; value = none_moved; state = s })
 
 unfoldable pub block_span : PolyphaseResampF32 → List Float → List Float → List Float
 block_span s xs o = cond (valid s) (laid (block s xs o).written o) o
-
--- what a block answered
-abbrev pub told_block : PolyphaseBlock → Outcome Counts PolyphaseResampF32
-told_block r =
-    record {
-      number = (count_answer r.answer).number;
-      value = record { written = (count_answer r.answer).value; taken = r.taken };
-      state = r.state;
-    }
 
 -- "`push` consumes first whatever mu is", then writes what is due while the span has a place
 unfoldable pub push : PolyphaseResampF32 → Float → List Float → Fed PolyphaseResampF32 Float
@@ -215,23 +198,26 @@ push_outcome s x o =
 unfoldable pub push_span : PolyphaseResampF32 → Float → List Float → List Float
 push_span s x o = cond (valid s) (laid (push s x o).written o) o
 
--- what a push answered
-abbrev pub told_push : PolyphasePush → Outcome ℕ PolyphaseResampF32
-told_push r = record { number = (count_answer r.answer).number; value = (count_answer r.answer).value; state = r.state }
-
 -- the state of which a loop holds the numbers and the arrays apart
 abbrev pub together : Bool → ℕ → ℕ → Float → Float → List Float → List Float → PolyphaseResampF32
 together straight P T mu step d h = record { phases = P; taps = T; straight = straight; mu = mu; step = step; delay = d; prototype = h }
 
--- what a run from mu left: r and the delay d are those of the feed, and the span o is o₀ with the outputs in front
-abbrev pub ran : Bool → ℕ → ℕ → Float → Float → List Float → List Float → List Float → List Float → Fed PolyphaseResampF32 Float
-ran straight P T step mu h d₀ xs o₀ = feed resampler (together straight P T mu step d₀ h) xs (length o₀)
+-- and of which a call is lent the arrays and mu beside what its opening set
+abbrev pub state_of : Setting → Float → List Float → List Float → PolyphaseResampF32
+state_of q mu d h = together q.straight q.phases q.taps mu q.step d h
 
-pub record RanTo (straight : Bool) (P T : ℕ) (step mu : Float) (h d₀ xs o₀ : List Float) (r : Ran) (d o : List Float) : Type 0 where
-  pub state : together straight P T r.mu step d h ≡ (ran straight P T step mu h d₀ xs o₀).line
-  pub taken : r.taken ≡ (ran straight P T step mu h d₀ xs o₀).taken
-  pub written : r.written ≡ length (ran straight P T step mu h d₀ xs o₀).written
-  pub span : o ≡ laid (ran straight P T step mu h d₀ xs o₀).written o₀
+abbrev pub setting_of : PolyphaseResampF32 → Setting
+setting_of s = record { phases = s.phases; taps = s.taps; straight = s.straight; step = s.step }
+
+-- what a run from mu₀ left: the counts r, mu and the delay d are those of the feed, and the span o is o₀ with the outputs in front
+abbrev pub ran : Setting → Float → List Float → List Float → List Float → List Float → Fed PolyphaseResampF32 Float
+ran q mu₀ h d₀ xs o₀ = feed resampler (state_of q mu₀ d₀ h) xs (length o₀)
+
+pub record RanTo (q : Setting) (mu₀ : Float) (h d₀ xs o₀ : List Float) (r : Moved) (mu : Float) (d o : List Float) : Type 0 where
+  pub state : state_of q mu d h ≡ (ran q mu₀ h d₀ xs o₀).line
+  pub taken : r.taken ≡ (ran q mu₀ h d₀ xs o₀).taken
+  pub written : r.written ≡ length (ran q mu₀ h d₀ xs o₀).written
+  pub span : o ≡ laid (ran q mu₀ h d₀ xs o₀).written o₀
 
 -- 01, section 5, "while mu < 1 an output is made": mu after the outputs that were due, the places written, and the span
 pub record Emitted : Type 0 where

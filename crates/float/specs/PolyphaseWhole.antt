@@ -1,7 +1,6 @@
 -- 01, section 6, "In 5": the list that a whole list becomes in the resampler, from the settings, the prototype h and the list alone; and what the
 -- contracts of the opening and the calls claim of it.
-use Rattle.std.specs.Prelude.{◌≡◌, ℕ, ◌<◌, Bool, true, false, List, [], ◌∷◌, ◌++◌, length, take, drop, slice_index_or, Float}
-use Rattle.std.proofs.Math.Option.{none}
+use Rattle.std.specs.Prelude.{◌≡◌, ℕ, ◌<◌, Bool, true, false, List, [], ◌∷◌, ◌++◌, length, take, drop, slice_index_or, Float, None}
 use Rattle.std.specs.Float.{binary32}
 use Rattle.std.specs.Float.Ieee.{add, sub, lt}
 use Rattle.theory.specs.Lists.{listed}
@@ -30,7 +29,7 @@ whole_list straight P T h step =
       val = λ c. output straight P T c.mu (delays T c.values) h;
       after = λ c. record { mu = add binary32 c.mu step; values = c.values };
       next = λ c x. record { mu = sub binary32 c.mu one32; values = x ∷ c.values };
-      now = λ c x. none;
+      now = λ c x. None;
     }
 
 -- "mu begins at 1.0 and every delay at zero"

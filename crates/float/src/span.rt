@@ -3,6 +3,7 @@ ghost use Rattle.std.specs.Prelude.{◌≡◌, ◌+◌, ◌≤◌, ◌++◌, len
 ghost use Rattle.float.specs.Ending.{ending_in};
 
 // The samples stand at the span's end. Where they are more than its places, nothing moves.
+#[tactic(auto, unfolding(crate::specs::Ending::ending_in))]
 pub fn put_at_end(span: &mut [f32], src: &[f32])
     ensures { span.new ≡ ending_in src.now span.old }
 {
@@ -10,14 +11,11 @@ pub fn put_at_end(span: &mut [f32], src: &[f32])
         return;
     }
     let from = span.len() - src.len();
-    let mut i = 0;
-    while i < src.len() {
-        span[from + i] = src[i];
-        i += 1;
-    }
+    span[from..].copy_from_slice(src);
 }
 
 // Delay and samples in front of a tape. Where they are more than its places, nothing moves.
+#[tactic(auto, unfolding(crate::specs::Ending::ending_in))]
 pub fn lay(tape: &mut [f32], delay: &[f32], samples: &[f32])
     ensures { let d = delay.now in
         let v = samples.now in
@@ -25,13 +23,10 @@ pub fn lay(tape: &mut [f32], delay: &[f32], samples: &[f32])
 {
     let long = delay.len();
     let places = tape.len();
-    if places < long {
-        return;
-    }
-    if places - long < samples.len() {
+    if places < long || places - long < samples.len() {
         return;
     }
     let past = long + samples.len();
-    put_at_end(&mut tape[..long], delay);
+    tape[..long].copy_from_slice(delay);
     put_at_end(&mut tape[..past], samples);
 }

@@ -1,4 +1,4 @@
-mod Told
+mod Opened
 mod PhaseKinds
 mod Lines
 mod Setting

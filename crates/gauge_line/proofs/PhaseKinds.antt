@@ -1,4 +1,4 @@
--- The kind of a linear-phase filter crosses as two numbers, and a reset keeps it, since taps of a state that is not refused are not refused either.
+-- A reset keeps the kind of a linear-phase filter, since taps of a state that is not refused are not refused either.
 use mathlib.Core.Path.{◌≡◌, refl, sym, ap, ◌∙◌}
 use mathlib.Core.Bool.{Bool, false, true, cond, true≢false}
 use mathlib.Core.List.{List}
@@ -12,17 +12,6 @@ use Rattle.refusal.specs.Outcome.{Opened}
 use Rattle.refusal.proofs.Limits.{within}
 use Rattle.linear_phase.specs.LinearPhaseFir.{phase_of, phase_none, phase_fresh, phase_refused, phase_reset, phase_taps}
 use Rattle.linear_phase.specs.declared.linear_phase_fir.LinearPhaseFir.{LinearPhaseFir}
-use Rattle.gauge_line.specs.Crossing.{is_set, flag_of}
-use Rattle.gauge_line.proofs.Setting.{set_flag}
-
--- an opening's state with its kind as it was written
-pub kind_written : (s : LinearPhaseFir) (odd antisymmetric m : ℕ) (taps delay : List Float)
-    → odd ≡ flag_of s.odd → antisymmetric ≡ flag_of s.antisymmetric → phase_of m s.odd s.antisymmetric taps delay ≡ s
-    → phase_of m (is_set odd) (is_set antisymmetric) taps delay ≡ s
-kind_written s odd antisymmetric m taps delay o a put =
-    ap (λ (b : Bool). phase_of m b (is_set antisymmetric) taps delay) (ap is_set o ∙ set_flag s.odd)
-    ∙ ap (λ (b : Bool). phase_of m s.odd b taps delay) (ap is_set a ∙ set_flag s.antisymmetric)
-    ∙ put
 
 -- of three states the one chosen is never the second
 chosen : (part : LinearPhaseFir → Bool) (d z f : LinearPhaseFir) (b c : Bool) → (b ≡ false → c ≡ false) → part f ≡ part d

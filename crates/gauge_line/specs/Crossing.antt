@@ -1,20 +1,21 @@
 -- How an answer crosses to a caller in C or Rust: 01's number comes back, 0 for none, and the values stand in places that the caller lends.
-use Rattle.std.specs.Prelude.{Bool, not, cond, ℕ, eqb, ℤ, pos, Float}
-use Rattle.std.proofs.Math.Option.{Option, none, some}
+use Rattle.std.specs.Prelude.{Bool, not, cond, ℕ, eqb, ℤ, pos, Float, Option, None, Some}
 use Rattle.theory.specs.Feeds.{Event, took, wrote, both, stopped}
-use Rattle.refusal.specs.Table.{number_of}
 use Rattle.refusal.specs.Outcome.{Outcome}
 use Rattle.nonrecursive.specs.declared.thinning.Thinning.{Thinning}
 use Rattle.nonrecursive.specs.declared.thinning.Thinning.TheVariants as thinning
 use Rattle.q15.specs.FirDecimator.{Filtered}
 use Rattle.float.specs.F32.{zero32}
-use Rattle.half_band.specs.declared.hbf_stream.HbfStreamOut.{HbfStreamOut}
-use Rattle.half_band.specs.declared.hbf_stream.HbfStreamOut.TheVariants as stream
 
 -- an output that may be missing: how many there are, and the output, or a zero where there is none (01's table: "The counts and values of a refusal are 0")
 abbrev pub optional : {A : Type 0} → A → Option A → ℕ × A
-optional z none = (0, z)
-optional z (some y) = (1, y)
+optional z None = (0, z)
+optional z (Some y) = (1, y)
+
+-- how many of them there are
+abbrev pub made_in : {A : Type 0} → Option A → ℕ
+made_in None = 0
+made_in (Some y) = 1
 
 abbrev pub crossed : {A S : Type 0} → A → Outcome (Option A) S → Outcome (ℕ × A) S
 crossed z o = record { number = o.number; value = optional z o.value; state = o.state }
@@ -41,17 +42,6 @@ abbrev pub crossed_fir : {S : Type 0} → Outcome Filtered S → Outcome (ℕ ×
 crossed_fir o =
     let made = optional (pos 0) o.value.made in
     record { number = o.number; value = (made.0, (made.1, flag_of o.value.cut)); state = o.state }
-
--- each case of HbfStreamOut: its number, and the output
-abbrev pub stream_number : HbfStreamOut → ℕ
-stream_number stream.Nothing = 0
-stream_number (stream.Value y) = 0
-stream_number (stream.Refused q) = number_of q
-
-abbrev pub stream_value : HbfStreamOut → Option Float
-stream_value stream.Nothing = none
-stream_value (stream.Value y) = some y
-stream_value (stream.Refused q) = none
 
 -- 01, section 6, "it took a sample, wrote one float sample, did both, or stopped": how many samples it took, how many outputs it wrote, and the output, or a zero
 abbrev pub moves : Event Float → ℕ × (ℕ × Float)

@@ -6,6 +6,7 @@ use Rattle.integer.specs.CicDecimator.{decimator_of}
 use Rattle.integer.specs.CicInterpolator.{interpolator_of}
 use Rattle.nonrecursive.specs.NonrecursiveDecimator.{nonrecursive_of}
 use Rattle.q15.specs.FirDecimator.{fir_state}
+use Rattle.half_band.specs.HbfDecCascade.{Cascade, cascade_of}
 use Rattle.half_band.specs.HbfStream.{stream_of}
 use Rattle.float.specs.PolyphaseResamp.{together}
 use Rattle.linear_phase.specs.LinearPhaseFir.{phase_of}
@@ -14,7 +15,6 @@ use Rattle.integer.specs.declared.cic_interpolator.CicInterpolator.{CicInterpola
 use Rattle.nonrecursive.specs.declared.nonrecursive_decimator.NonrecursiveDecimator.{NonrecursiveDecimator}
 use Rattle.q15.specs.declared.fir_decimator.FirDecimator.{FirDecimator}
 use Rattle.half_band.specs.declared.hbf_dec.HbfDec.{HbfDec}
-use Rattle.half_band.specs.declared.hbf_dec_cascade.HbfDecCascade.{HbfDecCascade}
 use Rattle.half_band.specs.declared.hbf_int.HbfInt.{HbfInt}
 use Rattle.half_band.specs.declared.hbf_int_cascade.HbfIntCascade.{HbfIntCascade}
 use Rattle.half_band.specs.declared.hbf_stream.HbfStream.{HbfStream}
@@ -55,8 +55,9 @@ dec_at m M coeffs delay = record { m = at m M; coeffs = at m coeffs; delay = at 
 abbrev pub int_at : Moment → Place ℕ → Place (List Float) → Place (List Float) → HbfInt
 int_at m M coeffs delay = record { m = at m M; coeffs = at m coeffs; delay = at m delay }
 
-abbrev pub dec_cascade_at : Moment → Place ℕ → Place (List Float) → HbfDecCascade
-dec_cascade_at m depth delays = record { depth = at m depth; delays = at m delays }
+-- over whichever table
+abbrev pub dec_cascade_at : Moment → Place ℕ → Place (List Float) → Cascade
+dec_cascade_at m depth delays = cascade_of (at m depth) (at m delays)
 
 abbrev pub int_cascade_at : Moment → Place ℕ → Place (List Float) → HbfIntCascade
 int_cascade_at m depth delays = record { depth = at m depth; delays = at m delays }

@@ -1,22 +1,27 @@
 // `CicDecimator`: stages, r, integrators, combs, sample_counter.
 ghost use Rattle.std.specs.Prelude.{◌≡◌, pos, length};
 ghost use Rattle.theory.specs.Sections.{outs};
-ghost use Rattle.refusal.specs.Outcome.{Moved};
+ghost use Rattle.refusal.specs.declared.Moved.{Moved};
 ghost use Rattle.integer.specs.Opening.{opening, on_state};
 ghost use Rattle.integer.specs.Gain.{gain_of, gain_bits, Least};
-ghost use Rattle.integer.specs.ExactSums.{ExactSums, ExactWithin, Ends, exact_range};
+ghost use Rattle.integer.specs.declared.exact_range.Ends.{Ends};
+ghost use Rattle.integer.specs.ExactSums.{ExactSums, ExactWithin, exact_range};
 ghost use Rattle.integer.specs.CicDecimator as D;
 ghost use Rattle.gauge_line.specs.Crossing.{crossed};
 ghost use Rattle.gauge_line.specs.States.{entry, exit, decimator_at};
 
-use crate::answers::{
-    bits_number, bits_value, counts_number, counts_taken, counts_written, gain_number, gain_value,
-    opening_number, range_greatest, range_least, range_number, sum_made, sum_number, sum_value,
-};
+use crate::answers::{self, NONE_MOVED, number, output};
 use crate::states::{decimator, put_decimator};
 use integer::CicDecimator;
 use integer::cic_decimator::block_at;
+use integer::exact_range::Ends;
 use integer::limits::MAX_STAGES;
+
+// The ends that a refused range tells.
+const NO_ENDS: Ends = Ends {
+    least: 0,
+    greatest: 0,
+};
 
 #[unsafe(no_mangle)]
 pub extern "C" fn gauge_raw_cic_decimator_new(
@@ -35,10 +40,16 @@ pub extern "C" fn gauge_raw_cic_decimator_new(
         ExactSums wanted_stages wanted_r (outs D.decimator opened) (outs D.scaled_decimator opened)) }
 {
     let opened = CicDecimator::new(wanted_stages, wanted_r);
-    let next = opened.state;
-    put_decimator(next, stages, r, integrators, combs, sample_counter);
-    let answer = opened.answer;
-    opening_number(answer)
+    let told = number(&opened);
+    put_decimator(
+        opened.unwrap_or(CicDecimator::fresh(0, 0)),
+        stages,
+        r,
+        integrators,
+        combs,
+        sample_counter,
+    );
+    told
 }
 
 #[unsafe(no_mangle)]
@@ -54,8 +65,8 @@ pub extern "C" fn gauge_raw_cic_decimator_gain(
 {
     let state = decimator(stages, r, *integrators, *combs, sample_counter);
     let answer = state.gain();
-    *gain = gain_value(answer);
-    gain_number(answer)
+    *gain = answer.unwrap_or(0);
+    number(&answer)
 }
 
 #[unsafe(no_mangle)]
@@ -72,8 +83,8 @@ pub extern "C" fn gauge_raw_cic_decimator_gain_bits(
 {
     let state = decimator(stages, r, *integrators, *combs, sample_counter);
     let answer = state.gain_bits();
-    *bits = bits_value(answer);
-    bits_number(answer)
+    *bits = answer.unwrap_or(0);
+    number(&answer)
 }
 
 // The samples of which every sum is exact.
@@ -95,10 +106,11 @@ pub extern "C" fn gauge_raw_cic_decimator_exact_range(
         ExactWithin least.new greatest.new stages r (outs D.decimator opened) (outs D.scaled_decimator opened)) }
 {
     let state = decimator(stages, r, *integrators, *combs, sample_counter);
-    let range = state.exact_range();
-    *least = range_least(range);
-    *greatest = range_greatest(range);
-    range_number(range)
+    let answer = state.exact_range();
+    let ends = answer.unwrap_or(NO_ENDS);
+    *least = ends.least;
+    *greatest = ends.greatest;
+    number(&answer)
 }
 
 #[unsafe(no_mangle)]
@@ -116,14 +128,14 @@ pub extern "C" fn gauge_raw_cic_decimator_process_sample(
         let after = decimator_at exit stages r integrators combs sample_counter in
         record { number = result; value = (made.new, sum.new); state = after } ≡ crossed (pos 0) (D.step before input) }
 {
-    let state = decimator(*stages, *r, *integrators, *combs, *sample_counter);
-    let done = state.process_sample(input);
-    let next = done.state;
-    put_decimator(next, stages, r, integrators, combs, sample_counter);
-    let output = done.output;
-    *made = sum_made(output);
-    *sum = sum_value(output);
-    sum_number(output)
+    let mut state = decimator(*stages, *r, *integrators, *combs, *sample_counter);
+    let answer = state.process_sample(input);
+    put_decimator(state, stages, r, integrators, combs, sample_counter);
+    let told = number(&answer);
+    let next_sum = output(answer);
+    *made = answers::made(&next_sum);
+    *sum = next_sum.unwrap_or(0);
+    told
 }
 
 #[unsafe(no_mangle)]
@@ -141,14 +153,14 @@ pub extern "C" fn gauge_raw_cic_decimator_process_sample_scaled(
         let after = decimator_at exit stages r integrators combs sample_counter in
         record { number = result; value = (made.new, sum.new); state = after } ≡ crossed (pos 0) (D.scaled_step before input) }
 {
-    let state = decimator(*stages, *r, *integrators, *combs, *sample_counter);
-    let done = state.process_sample_scaled(input);
-    let next = done.state;
-    put_decimator(next, stages, r, integrators, combs, sample_counter);
-    let output = done.output;
-    *made = sum_made(output);
-    *sum = sum_value(output);
-    sum_number(output)
+    let mut state = decimator(*stages, *r, *integrators, *combs, *sample_counter);
+    let answer = state.process_sample_scaled(input);
+    put_decimator(state, stages, r, integrators, combs, sample_counter);
+    let told = number(&answer);
+    let next_sum = output(answer);
+    *made = answers::made(&next_sum);
+    *sum = next_sum.unwrap_or(0);
+    told
 }
 
 #[unsafe(no_mangle)]
@@ -170,10 +182,9 @@ pub extern "C" fn gauge_raw_cic_decimator_process_block(
         record { number = result; value = moved; state = after } ≡ D.block before src.now (length dst.old)) }
     ensures span { dst.new ≡ D.block_span (decimator_at entry stages r integrators combs sample_counter) src.now dst.old }
 {
-    let moved = block_at(*stages, *r, *sample_counter, integrators, combs, src, dst);
-    *sample_counter = moved.sample_counter;
-    let counts = moved.counts;
-    *taken = counts_taken(counts);
-    *written = counts_written(counts);
-    counts_number(counts)
+    let answer = block_at(*stages, *r, sample_counter, integrators, combs, src, dst);
+    let moved = answer.unwrap_or(NONE_MOVED);
+    *taken = moved.taken;
+    *written = moved.written;
+    number(&answer)
 }

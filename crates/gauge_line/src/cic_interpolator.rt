@@ -1,15 +1,12 @@
 // `CicInterpolator`: stages, r, combs, integrators.
 ghost use Rattle.std.specs.Prelude.{◌≡◌, ◌-◌, length};
-ghost use Rattle.refusal.specs.Outcome.{Moved};
+ghost use Rattle.refusal.specs.declared.Moved.{Moved};
 ghost use Rattle.integer.specs.Opening.{opening, on_state};
 ghost use Rattle.integer.specs.Gain.{gain_of, gain_bits, Least};
 ghost use Rattle.integer.specs.CicInterpolator as I;
 ghost use Rattle.gauge_line.specs.States.{entry, exit, interpolator_at};
 
-use crate::answers::{
-    bits_number, bits_value, count_number, count_written, counts_number, counts_taken,
-    counts_written, gain_number, gain_value, opening_number,
-};
+use crate::answers::{NONE_MOVED, number};
 use crate::states::{interpolator, put_interpolator};
 use integer::CicInterpolator;
 use integer::cic_interpolator::{block_at, sample_at};
@@ -28,10 +25,15 @@ pub extern "C" fn gauge_raw_cic_interpolator_new(
     ensures stream { result ≡ 0 → I.Streams wanted_stages wanted_r (interpolator_at exit stages r combs integrators) }
 {
     let opened = CicInterpolator::new(wanted_stages, wanted_r);
-    let next = opened.state;
-    put_interpolator(next, stages, r, combs, integrators);
-    let answer = opened.answer;
-    opening_number(answer)
+    let told = number(&opened);
+    put_interpolator(
+        opened.unwrap_or(CicInterpolator::fresh(0, 0)),
+        stages,
+        r,
+        combs,
+        integrators,
+    );
+    told
 }
 
 #[unsafe(no_mangle)]
@@ -46,8 +48,8 @@ pub extern "C" fn gauge_raw_cic_interpolator_gain(
 {
     let state = interpolator(stages, r, *combs, *integrators);
     let answer = state.gain();
-    *gain = gain_value(answer);
-    gain_number(answer)
+    *gain = answer.unwrap_or(0);
+    number(&answer)
 }
 
 #[unsafe(no_mangle)]
@@ -63,8 +65,8 @@ pub extern "C" fn gauge_raw_cic_interpolator_gain_bits(
 {
     let state = interpolator(stages, r, *combs, *integrators);
     let answer = state.gain_bits();
-    *bits = bits_value(answer);
-    bits_number(answer)
+    *bits = answer.unwrap_or(0);
+    number(&answer)
 }
 
 #[unsafe(no_mangle)]
@@ -83,8 +85,8 @@ pub extern "C" fn gauge_raw_cic_interpolator_process_sample(
     ensures span { out_buf.new ≡ I.sample_span (interpolator_at entry stages r combs integrators) input out_buf.old }
 {
     let answer = sample_at(*stages, *r, combs, integrators, input, out_buf);
-    *written = count_written(answer);
-    count_number(answer)
+    *written = answer.unwrap_or(0);
+    number(&answer)
 }
 
 #[unsafe(no_mangle)]
@@ -105,8 +107,9 @@ pub extern "C" fn gauge_raw_cic_interpolator_process_block(
         record { number = result; value = moved; state = after } ≡ I.block before src.now (length dst.old)) }
     ensures span { dst.new ≡ I.block_span (interpolator_at entry stages r combs integrators) src.now dst.old }
 {
-    let counts = block_at(*stages, *r, combs, integrators, src, dst);
-    *taken = counts_taken(counts);
-    *written = counts_written(counts);
-    counts_number(counts)
+    let answer = block_at(*stages, *r, combs, integrators, src, dst);
+    let moved = answer.unwrap_or(NONE_MOVED);
+    *taken = moved.taken;
+    *written = moved.written;
+    number(&answer)
 }

@@ -5,7 +5,7 @@ ghost use Rattle.line.specs.declared.settings.Settings.{Settings};
 ghost use Rattle.plan.specs.Plan.{PlanKept, plan_number};
 ghost use Rattle.gauge_line.specs.Crossing.{is_set, kind_of};
 
-use crate::answers::plan_number;
+use crate::answers::number;
 use crate::states::{is_set, kind};
 use line::Settings;
 use plan::feeding_plan;
@@ -71,5 +71,5 @@ pub extern "C" fn gauge_raw_plan_3(
         thinning: kind(thinning),
     };
     let answer = feeding_plan(settings, taps, prototype, pieces, spans, taken, written);
-    plan_number(answer)
+    number(&answer)
 }

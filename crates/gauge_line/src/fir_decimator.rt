@@ -4,9 +4,15 @@ ghost use Rattle.q15.specs.FirDecimator.{fir_opened, fir_reset, fir_step, Stream
 ghost use Rattle.gauge_line.specs.Crossing.{crossed_fir};
 ghost use Rattle.gauge_line.specs.States.{entry, exit, fir_at};
 
-use crate::answers::{fir_made, fir_number, fir_value, opening_number};
+use crate::answers::{self, number, output};
 use crate::states::{fir, flag, put_fir};
-use q15::{FirDecimator, MOST_TAPS, Q15};
+use q15::{Cut, FirDecimator, MOST_TAPS, Q15};
+
+// What stands in the places of an output where there is none.
+const NO_OUTPUT: Cut = Cut {
+    value: Q15(0),
+    cut: false,
+};
 
 // The number in the name is that of the state's layout: a program that was compiled with a header in which the arrays are shorter does not link.
 #[unsafe(no_mangle)]
@@ -23,10 +29,10 @@ pub extern "C" fn gauge_raw_fir_decimator_new_2(
     ensures stream { result ≡ 0 → Streams wanted_taps.now wanted_factor (fir_at exit taps tap_count factor delay wait) }
 {
     let opened = FirDecimator::new(wanted_taps, wanted_factor);
-    let next = opened.state;
-    put_fir(next, taps, tap_count, factor, delay, wait);
-    let answer = opened.answer;
-    opening_number(answer)
+    let told = number(&opened);
+    let state = opened.unwrap_or(FirDecimator::zeros());
+    put_fir(state, taps, tap_count, factor, delay, wait);
+    told
 }
 
 #[unsafe(no_mangle)]
@@ -41,12 +47,10 @@ pub extern "C" fn gauge_raw_fir_decimator_reset(
         let after = fir_at exit taps tap_count factor delay wait in
         record { number = result; state = after } ≡ fir_reset before }
 {
-    let state = fir(*taps, *tap_count, *factor, *delay, *wait);
-    let opened = state.reset();
-    let next = opened.state;
-    put_fir(next, taps, tap_count, factor, delay, wait);
-    let answer = opened.answer;
-    opening_number(answer)
+    let mut state = fir(*taps, *tap_count, *factor, *delay, *wait);
+    let answer = state.reset();
+    put_fir(state, taps, tap_count, factor, delay, wait);
+    number(&answer)
 }
 
 #[unsafe(no_mangle)]
@@ -65,13 +69,14 @@ pub extern "C" fn gauge_raw_fir_decimator_process_sample(
         let after = fir_at exit taps tap_count factor delay wait in
         record { number = result; value = (made.new, (value.new, cut.new)); state = after } ≡ crossed_fir (fir_step before sample) }
 {
-    let state = fir(*taps, *tap_count, *factor, *delay, *wait);
-    let done = state.process_sample(Q15(sample));
-    let next = done.state;
-    put_fir(next, taps, tap_count, factor, delay, wait);
-    let output = done.output;
-    *made = fir_made(output);
-    *value = fir_value(output);
-    *cut = flag(done.cut);
-    fir_number(output)
+    let mut state = fir(*taps, *tap_count, *factor, *delay, *wait);
+    let answer = state.process_sample(Q15(sample));
+    put_fir(state, taps, tap_count, factor, delay, wait);
+    let told = number(&answer);
+    let filtered = output(answer);
+    *made = answers::made(&filtered);
+    let last = filtered.unwrap_or(NO_OUTPUT);
+    *value = last.value.0;
+    *cut = flag(last.cut);
+    told
 }

@@ -1,7 +1,7 @@
 // The gauge line: the fields of its decimator, its FIR, its half-band stages and its resampler, in this order, and its count of cut values; then which kind thins, and the neighbours.
 ghost use Rattle.std.specs.Prelude.{◌≡◌, true, ltb, length, drop};
 ghost use Rattle.theory.specs.Feeds.{head_of};
-ghost use Rattle.refusal.specs.Outcome.{Moved};
+ghost use Rattle.refusal.specs.declared.Moved.{Moved};
 ghost use Rattle.line.specs.Outputs.{Opening};
 ghost use Rattle.line.specs.Line as L;
 ghost use Rattle.line.specs.Lent as N;
@@ -10,15 +10,12 @@ ghost use Rattle.line.specs.declared.settings.Settings.{Settings};
 ghost use Rattle.gauge_line.specs.Crossing.{crossed_step, is_set, kind_of};
 ghost use Rattle.gauge_line.specs.States.{entry, exit, IsFlag, line_at};
 
-use crate::answers::{
-    counts_number, counts_taken, counts_written, opening_number, step_number, step_taken,
-    step_value, step_written,
-};
+use crate::answers::{NONE_MOVED, number, step_moves};
 use crate::states::{
-    decimator, fir, flag, is_set, kind, kind_number, put_decimator, put_fir, put_resampler,
-    put_stream, put_thinning, resampler, stream,
+    decimator, fir, flag, is_set, kind, kind_number, line_or_zeros, put_decimator, put_fir,
+    put_resampler, put_stream, put_thinning, resampler, stream,
 };
-use float::polyphase_resamp::{MOST_CELLS, MOST_TAPS as MOST_PHASE_TAPS};
+use float::settings::{MOST_CELLS, MOST_TAPS as MOST_PHASE_TAPS};
 use half_band::{DEC_CASCADE_DELAYS, MOST_STAGES};
 use integer::limits::MAX_STAGES;
 use line::{Line, LineNumbers, Settings, feed_lent, step_lent};
@@ -94,7 +91,8 @@ pub extern "C" fn gauge_raw_line_open_3(
         thinning: kind(wanted_thinning),
     };
     let opened = Line::open(settings, wanted_taps, wanted_prototype);
-    let next = opened.line;
+    let told = number(&opened);
+    let next = line_or_zeros(opened);
     put_decimator(next.cic, stages, r, integrators, combs, sample_counter);
     put_fir(next.fir, taps, tap_count, factor, fir_delay, wait);
     put_stream(next.half_band, depth, delays, held, counts);
@@ -112,8 +110,7 @@ pub extern "C" fn gauge_raw_line_open_3(
     let thins = next.thinning;
     let next_neighbours = next.neighbours;
     put_thinning(thins, next_neighbours, thinning, neighbours);
-    let answer = opened.answer;
-    opening_number(answer)
+    told
 }
 
 #[unsafe(no_mangle)]
@@ -153,7 +150,7 @@ pub extern "C" fn gauge_raw_line_reset(
         depth delays held counts phases phase_taps straight mu step delay prototype cuts thinning neighbours in
         L.valid before ≡ true → result ≡ 0 }
 {
-    let line = Line {
+    let mut next = Line {
         thinning: kind(*thinning),
         cic: decimator(*stages, *r, *integrators, *combs, *sample_counter),
         neighbours: *neighbours,
@@ -170,8 +167,7 @@ pub extern "C" fn gauge_raw_line_reset(
         ),
         cuts: *cuts,
     };
-    let opened = line.reset();
-    let next = opened.line;
+    let answer = next.reset();
     put_decimator(next.cic, stages, r, integrators, combs, sample_counter);
     put_fir(next.fir, taps, tap_count, factor, fir_delay, wait);
     put_stream(next.half_band, depth, delays, held, counts);
@@ -189,8 +185,7 @@ pub extern "C" fn gauge_raw_line_reset(
     let thins = next.thinning;
     let next_neighbours = next.neighbours;
     put_thinning(thins, next_neighbours, thinning, neighbours);
-    let answer = opened.answer;
-    opening_number(answer)
+    number(&answer)
 }
 
 // One step, a place of the span left where `places` is above 0, with the sample at `at` of those lent as the next, if there is one.
@@ -235,7 +230,7 @@ pub extern "C" fn gauge_raw_line_step(
         record { number = result; value = (taken.new, (written.new, value.new)); state = after }
         ≡ crossed_step (L.step_outcome before (ltb 0 places) (head_of (drop at samples.now))) }
 {
-    let n = LineNumbers {
+    let mut n = LineNumbers {
         stages: *stages,
         r: *r,
         sample_counter: *sample_counter,
@@ -252,7 +247,7 @@ pub extern "C" fn gauge_raw_line_step(
         thinning: kind(*thinning),
     };
     let done = step_lent(
-        n,
+        &mut n,
         integrators,
         combs,
         neighbours,
@@ -267,93 +262,25 @@ pub extern "C" fn gauge_raw_line_step(
         at,
         0 < places,
     );
-    let m = done.numbers;
-    *stages = m.stages;
-    *r = m.r;
-    *sample_counter = m.sample_counter;
-    *tap_count = m.tap_count;
-    *factor = m.factor;
-    *wait = m.wait;
-    *depth = m.depth;
-    *phases = m.phases;
-    *phase_taps = m.taps;
-    *straight = flag(m.straight);
-    *mu = m.mu;
-    *step = m.step;
-    *cuts = m.cuts;
-    let after = m.thinning;
-    *thinning = kind_number(after);
-    let did = done.step;
-    *taken = step_taken(did);
-    *written = step_written(did);
-    *value = step_value(did);
-    step_number(did)
-}
-
-// The number of a feed, and the line's numbers after it.
-#[derive(Drop)]
-struct FedNumbers {
-    number: usize,
-    numbers: LineNumbers,
-}
-
-// A feed of the numbers and the arrays, with its counts in places.
-fn feed_numbers(
-    n: LineNumbers,
-    integrators: &mut [i32; MAX_STAGES],
-    combs: &mut [i32; MAX_STAGES],
-    neighbours: &mut [i32; MAX_NEIGHBOURS],
-    taps: &[i16; MOST_TAPS],
-    fir_delay: &mut [i16; MOST_TAPS],
-    delays: &mut [f32; DEC_CASCADE_DELAYS],
-    held: &mut [f32; MOST_STAGES],
-    counts: &mut [usize; MOST_STAGES],
-    delay: &mut [f32; MOST_PHASE_TAPS],
-    prototype: &[f32; MOST_CELLS],
-    samples: &[i32],
-    out: &mut [f32],
-    taken: &mut usize,
-    written: &mut usize,
-) -> FedNumbers
-    ensures answer { (
-        let before = N.line_of n integrators.old combs.old neighbours.old taps.now fir_delay.old delays.old
-        held.old counts.old delay.old prototype.now in
-        let after = N.line_of result.numbers integrators.new combs.new neighbours.new taps.now fir_delay.new
-        delays.new held.new counts.new delay.new prototype.now in
-        let moved : Moved = record { taken = taken.exit.now; written = written.new } in
-        record { number = result.number; value = moved; state = after } ≡ L.feed_outcome before samples.now (length out.old)) }
-    ensures span { let before = N.line_of n integrators.old combs.old neighbours.old taps.now fir_delay.old delays.old
-        held.old counts.old delay.old prototype.now in
-        out.new ≡ L.feed_span before samples.now out.old }
-    ensures demand3 { (
-        let before = N.line_of n integrators.old combs.old neighbours.old taps.now fir_delay.old delays.old
-        held.old counts.old delay.old prototype.now in
-        let after = N.line_of result.numbers integrators.new combs.new neighbours.new taps.now fir_delay.new
-        delays.new held.new counts.new delay.new prototype.now in
-        let moved : Moved = record { taken = taken.exit.now; written = written.new } in
-        Demand3 before samples.now out.old out.new (record { number = result.number; value = moved; state = after })) }
-{
-    let done = feed_lent(
-        n,
-        integrators,
-        combs,
-        neighbours,
-        taps,
-        fir_delay,
-        delays,
-        held,
-        counts,
-        delay,
-        prototype,
-        samples,
-        out,
-    );
-    let moved = done.moved;
-    *taken = counts_taken(moved);
-    *written = counts_written(moved);
-    let number = counts_number(moved);
-    let numbers = done.numbers;
-    FedNumbers { number, numbers }
+    *stages = n.stages;
+    *r = n.r;
+    *sample_counter = n.sample_counter;
+    *tap_count = n.tap_count;
+    *factor = n.factor;
+    *wait = n.wait;
+    *depth = n.depth;
+    *phases = n.phases;
+    *phase_taps = n.taps;
+    *straight = flag(n.straight);
+    *mu = n.mu;
+    *step = n.step;
+    *cuts = n.cuts;
+    *thinning = kind_number(n.thinning);
+    let moves = step_moves(done);
+    *taken = moves.0;
+    *written = moves.1;
+    *value = moves.2;
+    number(&done)
 }
 
 // Steps until stopped. The clause `demand3` is the whole claim over every list of feeds.
@@ -407,7 +334,7 @@ pub extern "C" fn gauge_raw_line_feed(
         let moved : Moved = record { taken = taken.exit.now; written = written.new } in
         Demand3 before samples.now out.old out.new (record { number = result; value = moved; state = after })) }
 {
-    let n = LineNumbers {
+    let mut n = LineNumbers {
         stages: *stages,
         r: *r,
         sample_counter: *sample_counter,
@@ -423,8 +350,8 @@ pub extern "C" fn gauge_raw_line_feed(
         cuts: *cuts,
         thinning: kind(*thinning),
     };
-    let done = feed_numbers(
-        n,
+    let done = feed_lent(
+        &mut n,
         integrators,
         combs,
         neighbours,
@@ -437,24 +364,23 @@ pub extern "C" fn gauge_raw_line_feed(
         prototype,
         samples,
         out,
-        taken,
-        written,
     );
-    let m = done.numbers;
-    *stages = m.stages;
-    *r = m.r;
-    *sample_counter = m.sample_counter;
-    *tap_count = m.tap_count;
-    *factor = m.factor;
-    *wait = m.wait;
-    *depth = m.depth;
-    *phases = m.phases;
-    *phase_taps = m.taps;
-    *straight = flag(m.straight);
-    *mu = m.mu;
-    *step = m.step;
-    *cuts = m.cuts;
-    let after = m.thinning;
-    *thinning = kind_number(after);
-    done.number
+    *stages = n.stages;
+    *r = n.r;
+    *sample_counter = n.sample_counter;
+    *tap_count = n.tap_count;
+    *factor = n.factor;
+    *wait = n.wait;
+    *depth = n.depth;
+    *phases = n.phases;
+    *phase_taps = n.taps;
+    *straight = flag(n.straight);
+    *mu = n.mu;
+    *step = n.step;
+    *cuts = n.cuts;
+    *thinning = kind_number(n.thinning);
+    let moved = done.unwrap_or(NONE_MOVED);
+    *taken = moved.taken;
+    *written = moved.written;
+    number(&done)
 }

@@ -3,8 +3,9 @@ ghost use Rattle.std.specs.Prelude.{◌≡◌, length};
 ghost use Rattle.half_band.specs.HbfDec.{dec_opening, dec_reset, dec_step, dec_block, dec_span, DecMeets};
 ghost use Rattle.gauge_line.specs.States.{entry, exit, dec_at};
 
-use crate::answers::{count_number, count_written, opening_number, pair_number, pair_value};
+use crate::answers::number;
 use crate::states::{dec, put_dec};
+use half_band::hbf_dec::{pair_lent, pairs_lent};
 use half_band::{DEC_DELAYS, HbfDec, MOST_HALF_BAND_TAPS};
 
 #[unsafe(no_mangle)]
@@ -18,10 +19,9 @@ pub extern "C" fn gauge_raw_hbf_dec_new(
     ensures meets { result ≡ 0 → DecMeets taps.now (dec_at exit m coeffs delay) }
 {
     let opened = HbfDec::new(taps);
-    let next = opened.state;
-    put_dec(next, m, coeffs, delay);
-    let answer = opened.answer;
-    opening_number(answer)
+    let told = number(&opened);
+    put_dec(opened.unwrap_or(HbfDec::zeros()), m, coeffs, delay);
+    told
 }
 
 #[unsafe(no_mangle)]
@@ -32,12 +32,10 @@ pub extern "C" fn gauge_raw_hbf_dec_reset(
 ) -> usize
     ensures answer { record { number = result; state = dec_at exit m coeffs delay } ≡ dec_reset (dec_at entry m coeffs delay) }
 {
-    let state = dec(*m, *coeffs, *delay);
-    let opened = state.reset();
-    let next = opened.state;
-    put_dec(next, m, coeffs, delay);
-    let answer = opened.answer;
-    opening_number(answer)
+    let mut state = dec(*m, *coeffs, *delay);
+    let answer = state.reset();
+    put_dec(state, m, coeffs, delay);
+    number(&answer)
 }
 
 #[unsafe(no_mangle)]
@@ -53,13 +51,9 @@ pub extern "C" fn gauge_raw_hbf_dec_process_pair(
         let after = dec_at exit m coeffs delay in
         record { number = result; value = value.new; state = after } ≡ dec_step before a b }
 {
-    let state = dec(*m, *coeffs, *delay);
-    let done = state.process_pair(a, b);
-    let next = done.state;
-    put_dec(next, m, coeffs, delay);
-    let out = done.out;
-    *value = pair_value(out);
-    pair_number(out)
+    let answer = pair_lent(*m, coeffs, delay, a, b);
+    *value = answer.unwrap_or(0.0);
+    number(&answer)
 }
 
 #[unsafe(no_mangle)]
@@ -76,11 +70,7 @@ pub extern "C" fn gauge_raw_hbf_dec_process(
         record { number = result; value = written.new; state = after } ≡ dec_block before src.now (length dst.old) }
     ensures span { dst.new ≡ dec_span (dec_at entry m coeffs delay) src.now dst.old }
 {
-    let state = dec(*m, *coeffs, *delay);
-    let done = state.process(src, dst);
-    let next = done.state;
-    put_dec(next, m, coeffs, delay);
-    let answer = done.answer;
-    *written = count_written(answer);
-    count_number(answer)
+    let answer = pairs_lent(*m, coeffs, delay, src, dst);
+    *written = answer.unwrap_or(0);
+    number(&answer)
 }

@@ -3,7 +3,7 @@ ghost use Rattle.std.specs.Prelude.{◌≡◌, length};
 ghost use Rattle.half_band.specs.HbfDecCascade.{dec_cascade_opening, dec_cascade_reset, dec_cascade_block, dec_cascade_span, DecCascadeMeets};
 ghost use Rattle.gauge_line.specs.States.{entry, exit, dec_cascade_at};
 
-use crate::answers::{count_number, count_written, opening_number};
+use crate::answers::number;
 use crate::states::{dec_cascade, put_dec_cascade};
 use half_band::{DEC_CASCADE_DELAYS, HbfDecCascade};
 
@@ -17,10 +17,9 @@ pub extern "C" fn gauge_raw_hbf_dec_cascade_new(
     ensures meets { result ≡ 0 → DecCascadeMeets wanted_depth (dec_cascade_at exit depth delays) }
 {
     let opened = HbfDecCascade::new(wanted_depth);
-    let next = opened.state;
-    put_dec_cascade(next, depth, delays);
-    let answer = opened.answer;
-    opening_number(answer)
+    let told = number(&opened);
+    put_dec_cascade(opened.unwrap_or(HbfDecCascade::zeros()), depth, delays);
+    told
 }
 
 #[unsafe(no_mangle)]
@@ -30,12 +29,10 @@ pub extern "C" fn gauge_raw_hbf_dec_cascade_reset(
 ) -> usize
     ensures answer { record { number = result; state = dec_cascade_at exit depth delays } ≡ dec_cascade_reset (dec_cascade_at entry depth delays) }
 {
-    let state = dec_cascade(*depth, *delays);
-    let opened = state.reset();
-    let next = opened.state;
-    put_dec_cascade(next, depth, delays);
-    let answer = opened.answer;
-    opening_number(answer)
+    let mut state: HbfDecCascade = dec_cascade(*depth, *delays);
+    let answer = state.reset();
+    put_dec_cascade(state, depth, delays);
+    number(&answer)
 }
 
 #[unsafe(no_mangle)]
@@ -51,11 +48,9 @@ pub extern "C" fn gauge_raw_hbf_dec_cascade_process(
         record { number = result; value = written.new; state = after } ≡ dec_cascade_block before src.now (length dst.old) }
     ensures span { dst.new ≡ dec_cascade_span (dec_cascade_at entry depth delays) src.now dst.old }
 {
-    let state = dec_cascade(*depth, *delays);
-    let done = state.process(src, dst);
-    let next = done.state;
-    put_dec_cascade(next, depth, delays);
-    let answer = done.answer;
-    *written = count_written(answer);
-    count_number(answer)
+    let mut state: HbfDecCascade = dec_cascade(*depth, *delays);
+    let answer = state.process(src, dst);
+    put_dec_cascade(state, depth, delays);
+    *written = answer.unwrap_or(0);
+    number(&answer)
 }

@@ -3,7 +3,7 @@ ghost use Rattle.std.specs.Prelude.{◌≡◌, length};
 ghost use Rattle.half_band.specs.HbfDecCascade.{dec_cascade_opening, dec_cascade_reset, dec_cascade98_block, dec_cascade98_span, DecCascade98Meets};
 ghost use Rattle.gauge_line.specs.States.{entry, exit, dec_cascade_at};
 
-use crate::answers::{count_number, count_written, opening_number};
+use crate::answers::number;
 use crate::states::{dec_cascade, put_dec_cascade};
 use half_band::{DEC_CASCADE_DELAYS, HbfDecCascade98};
 
@@ -17,11 +17,9 @@ pub extern "C" fn gauge_raw_hbf_dec_cascade_98_new(
     ensures meets { result ≡ 0 → DecCascade98Meets wanted_depth (dec_cascade_at exit depth delays) }
 {
     let opened = HbfDecCascade98::new(wanted_depth);
-    let after = opened.state;
-    let next = after.cascade;
-    put_dec_cascade(next, depth, delays);
-    let answer = opened.answer;
-    opening_number(answer)
+    let told = number(&opened);
+    put_dec_cascade(opened.unwrap_or(HbfDecCascade98::zeros()), depth, delays);
+    told
 }
 
 #[unsafe(no_mangle)]
@@ -31,14 +29,10 @@ pub extern "C" fn gauge_raw_hbf_dec_cascade_98_reset(
 ) -> usize
     ensures answer { record { number = result; state = dec_cascade_at exit depth delays } ≡ dec_cascade_reset (dec_cascade_at entry depth delays) }
 {
-    let cascade = dec_cascade(*depth, *delays);
-    let state = HbfDecCascade98 { cascade };
-    let opened = state.reset();
-    let after = opened.state;
-    let next = after.cascade;
-    put_dec_cascade(next, depth, delays);
-    let answer = opened.answer;
-    opening_number(answer)
+    let mut state: HbfDecCascade98 = dec_cascade(*depth, *delays);
+    let answer = state.reset();
+    put_dec_cascade(state, depth, delays);
+    number(&answer)
 }
 
 #[unsafe(no_mangle)]
@@ -54,13 +48,9 @@ pub extern "C" fn gauge_raw_hbf_dec_cascade_98_process(
         record { number = result; value = written.new; state = after } ≡ dec_cascade98_block before src.now (length dst.old) }
     ensures span { dst.new ≡ dec_cascade98_span (dec_cascade_at entry depth delays) src.now dst.old }
 {
-    let cascade = dec_cascade(*depth, *delays);
-    let state = HbfDecCascade98 { cascade };
-    let done = state.process(src, dst);
-    let after = done.state;
-    let next = after.cascade;
-    put_dec_cascade(next, depth, delays);
-    let answer = done.answer;
-    *written = count_written(answer);
-    count_number(answer)
+    let mut state: HbfDecCascade98 = dec_cascade(*depth, *delays);
+    let answer = state.process(src, dst);
+    put_dec_cascade(state, depth, delays);
+    *written = answer.unwrap_or(0);
+    number(&answer)
 }

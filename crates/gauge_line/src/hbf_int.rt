@@ -3,11 +3,9 @@ ghost use Rattle.std.specs.Prelude.{◌≡◌, length};
 ghost use Rattle.half_band.specs.HbfInt.{int_opening, int_reset, int_step, int_block, int_span, IntMeets};
 ghost use Rattle.gauge_line.specs.States.{entry, exit, int_at};
 
-use crate::answers::{
-    both_even, both_number, both_odd, count_number, count_written, opening_number,
-};
+use crate::answers::number;
 use crate::states::{int, put_int};
-use half_band::hbf_int::interpolate_lent;
+use half_band::hbf_int::{interpolate_lent, sample_lent};
 use half_band::{HbfInt, INT_DELAYS, MOST_HALF_BAND_TAPS};
 
 #[unsafe(no_mangle)]
@@ -21,10 +19,9 @@ pub extern "C" fn gauge_raw_hbf_int_new(
     ensures meets { result ≡ 0 → IntMeets taps.now (int_at exit m coeffs delay) }
 {
     let opened = HbfInt::new(taps);
-    let next = opened.state;
-    put_int(next, m, coeffs, delay);
-    let answer = opened.answer;
-    opening_number(answer)
+    let told = number(&opened);
+    put_int(opened.unwrap_or(HbfInt::zeros()), m, coeffs, delay);
+    told
 }
 
 #[unsafe(no_mangle)]
@@ -35,12 +32,10 @@ pub extern "C" fn gauge_raw_hbf_int_reset(
 ) -> usize
     ensures answer { record { number = result; state = int_at exit m coeffs delay } ≡ int_reset (int_at entry m coeffs delay) }
 {
-    let state = int(*m, *coeffs, *delay);
-    let opened = state.reset();
-    let next = opened.state;
-    put_int(next, m, coeffs, delay);
-    let answer = opened.answer;
-    opening_number(answer)
+    let mut state = int(*m, *coeffs, *delay);
+    let answer = state.reset();
+    put_int(state, m, coeffs, delay);
+    number(&answer)
 }
 
 #[unsafe(no_mangle)]
@@ -56,14 +51,11 @@ pub extern "C" fn gauge_raw_hbf_int_process_sample(
         let after = int_at exit m coeffs delay in
         record { number = result; value = (even.new, odd.new); state = after } ≡ int_step before x }
 {
-    let state = int(*m, *coeffs, *delay);
-    let done = state.process_sample(x);
-    let next = done.state;
-    put_int(next, m, coeffs, delay);
-    let out = done.out;
-    *even = both_even(out);
-    *odd = both_odd(out);
-    both_number(out)
+    let answer = sample_lent(*m, coeffs, delay, x);
+    let both = answer.unwrap_or((0.0, 0.0));
+    *even = both.0;
+    *odd = both.1;
+    number(&answer)
 }
 
 #[unsafe(no_mangle)]
@@ -81,6 +73,6 @@ pub extern "C" fn gauge_raw_hbf_int_process(
     ensures span { dst.new ≡ int_span (int_at entry m coeffs delay) src.now dst.old }
 {
     let answer = interpolate_lent(*m, coeffs, delay, src, dst);
-    *written = count_written(answer);
-    count_number(answer)
+    *written = answer.unwrap_or(0);
+    number(&answer)
 }

@@ -3,7 +3,7 @@ ghost use Rattle.std.specs.Prelude.{◌≡◌, length};
 ghost use Rattle.half_band.specs.HbfIntCascade.{int_cascade_opening, int_cascade_reset, int_cascade_block, int_cascade_span, IntCascadeMeets};
 ghost use Rattle.gauge_line.specs.States.{entry, exit, int_cascade_at};
 
-use crate::answers::{count_number, count_written, opening_number};
+use crate::answers::number;
 use crate::states::{int_cascade, put_int_cascade};
 use half_band::{HbfIntCascade, INT_CASCADE_DELAYS};
 
@@ -17,10 +17,9 @@ pub extern "C" fn gauge_raw_hbf_int_cascade_new(
     ensures meets { result ≡ 0 → IntCascadeMeets wanted_depth (int_cascade_at exit depth delays) }
 {
     let opened = HbfIntCascade::new(wanted_depth);
-    let next = opened.state;
-    put_int_cascade(next, depth, delays);
-    let answer = opened.answer;
-    opening_number(answer)
+    let told = number(&opened);
+    put_int_cascade(opened.unwrap_or(HbfIntCascade::zeros()), depth, delays);
+    told
 }
 
 #[unsafe(no_mangle)]
@@ -30,12 +29,10 @@ pub extern "C" fn gauge_raw_hbf_int_cascade_reset(
 ) -> usize
     ensures answer { record { number = result; state = int_cascade_at exit depth delays } ≡ int_cascade_reset (int_cascade_at entry depth delays) }
 {
-    let state = int_cascade(*depth, *delays);
-    let opened = state.reset();
-    let next = opened.state;
-    put_int_cascade(next, depth, delays);
-    let answer = opened.answer;
-    opening_number(answer)
+    let mut state = int_cascade(*depth, *delays);
+    let answer = state.reset();
+    put_int_cascade(state, depth, delays);
+    number(&answer)
 }
 
 #[unsafe(no_mangle)]
@@ -51,11 +48,9 @@ pub extern "C" fn gauge_raw_hbf_int_cascade_process(
         record { number = result; value = written.new; state = after } ≡ int_cascade_block before src.now (length dst.old) }
     ensures span { dst.new ≡ int_cascade_span (int_cascade_at entry depth delays) src.now dst.old }
 {
-    let state = int_cascade(*depth, *delays);
-    let done = state.process(src, dst);
-    let next = done.state;
-    put_int_cascade(next, depth, delays);
-    let answer = done.answer;
-    *written = count_written(answer);
-    count_number(answer)
+    let mut state = int_cascade(*depth, *delays);
+    let answer = state.process(src, dst);
+    put_int_cascade(state, depth, delays);
+    *written = answer.unwrap_or(0);
+    number(&answer)
 }

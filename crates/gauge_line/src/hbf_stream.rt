@@ -5,7 +5,7 @@ ghost use Rattle.half_band.specs.HbfStream.{stream_opening, stream_reset, stream
 ghost use Rattle.gauge_line.specs.Crossing.{crossed};
 ghost use Rattle.gauge_line.specs.States.{entry, exit, stream_at};
 
-use crate::answers::{opening_number, stream_made, stream_number, stream_value};
+use crate::answers::{self, number, output};
 use crate::states::{put_stream, stream};
 use half_band::{DEC_CASCADE_DELAYS, HbfStream, MOST_STAGES};
 
@@ -21,10 +21,15 @@ pub extern "C" fn gauge_raw_hbf_stream_new(
     ensures meets { result ≡ 0 → StreamMeets wanted_depth (stream_at exit depth delays held counts) }
 {
     let opened = HbfStream::new(wanted_depth);
-    let next = opened.state;
-    put_stream(next, depth, delays, held, counts);
-    let answer = opened.answer;
-    opening_number(answer)
+    let told = number(&opened);
+    put_stream(
+        opened.unwrap_or(HbfStream::fresh(0)),
+        depth,
+        delays,
+        held,
+        counts,
+    );
+    told
 }
 
 #[unsafe(no_mangle)]
@@ -36,12 +41,10 @@ pub extern "C" fn gauge_raw_hbf_stream_reset(
 ) -> usize
     ensures answer { record { number = result; state = stream_at exit depth delays held counts } ≡ stream_reset (stream_at entry depth delays held counts) }
 {
-    let state = stream(*depth, *delays, *held, *counts);
-    let opened = state.reset();
-    let next = opened.state;
-    put_stream(next, depth, delays, held, counts);
-    let answer = opened.answer;
-    opening_number(answer)
+    let mut state = stream(*depth, *delays, *held, *counts);
+    let answer = state.reset();
+    put_stream(state, depth, delays, held, counts);
+    number(&answer)
 }
 
 #[unsafe(no_mangle)]
@@ -58,12 +61,12 @@ pub extern "C" fn gauge_raw_hbf_stream_process_sample(
         let after = stream_at exit depth delays held counts in
         record { number = result; value = (made.new, value.new); state = after } ≡ crossed zero32 (stream_step before x) }
 {
-    let state = stream(*depth, *delays, *held, *counts);
-    let done = state.process_sample(x);
-    let next = done.state;
-    put_stream(next, depth, delays, held, counts);
-    let out = done.out;
-    *made = stream_made(out);
-    *value = stream_value(out);
-    stream_number(out)
+    let mut state = stream(*depth, *delays, *held, *counts);
+    let answer = state.process_sample(x);
+    put_stream(state, depth, delays, held, counts);
+    let told = number(&answer);
+    let out = output(answer);
+    *made = answers::made(&out);
+    *value = out.unwrap_or(0.0);
+    told
 }

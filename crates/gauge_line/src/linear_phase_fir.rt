@@ -4,13 +4,20 @@ ghost use Rattle.linear_phase.specs.LinearPhaseFir as P;
 ghost use Rattle.gauge_line.specs.Crossing.{is_set, flag_of};
 ghost use Rattle.gauge_line.specs.States.{entry, exit, phase_at};
 
-use crate::answers::{
-    count_number, count_written, length_number, length_value, opening_number, phase_number,
-    phase_value,
-};
-use crate::states::{flag, phase, put_phase};
+use crate::answers::number;
+use crate::states::{flag, is_set, phase, put_phase};
 use linear_phase::linear_phase_fir::{block_at, inplace_at, process_at};
-use linear_phase::{LINEAR_PHASE_DELAYS, LinearPhaseFir, MOST_LINEAR_PHASE_TAPS};
+use linear_phase::{Kind, LINEAR_PHASE_DELAYS, LinearPhaseFir, MOST_LINEAR_PHASE_TAPS};
+
+// The kind as it was lent.
+fn kind(odd: usize, antisymmetric: usize) -> Kind
+    ensures { result ≡ record { odd = is_set odd; antisymmetric = is_set antisymmetric } }
+{
+    Kind {
+        odd: is_set(odd),
+        antisymmetric: is_set(antisymmetric),
+    }
+}
 
 #[unsafe(no_mangle)]
 pub extern "C" fn gauge_raw_linear_phase_fir_new(
@@ -30,13 +37,14 @@ pub extern "C" fn gauge_raw_linear_phase_fir_new(
     ensures kind { let opened = P.phase_opening (is_set wanted_odd) (is_set wanted_antisymmetric) wanted_taps.now in
         (odd.new ≡ flag_of opened.state.odd) × (antisymmetric.new ≡ flag_of opened.state.antisymmetric) }
 {
-    let opened = LinearPhaseFir::new(wanted_odd != 0, wanted_antisymmetric != 0, wanted_taps);
-    let next = opened.state;
-    *odd = flag(next.odd);
-    *antisymmetric = flag(next.antisymmetric);
-    put_phase(next, m, taps, delay);
-    let answer = opened.answer;
-    opening_number(answer)
+    let wanted = kind(wanted_odd, wanted_antisymmetric);
+    let opened = LinearPhaseFir::new(wanted.odd, wanted.antisymmetric, wanted_taps);
+    let told = number(&opened);
+    let state = opened.unwrap_or(LinearPhaseFir::zeros());
+    *odd = flag(state.odd);
+    *antisymmetric = flag(state.antisymmetric);
+    put_phase(state, m, taps, delay);
+    told
 }
 
 #[unsafe(no_mangle)]
@@ -52,12 +60,10 @@ pub extern "C" fn gauge_raw_linear_phase_fir_reset(
         record { number = result; state = after } ≡ P.phase_reset before }
     ensures kind { (odd.new ≡ odd.old) × (antisymmetric.new ≡ antisymmetric.old) }
 {
-    let state = phase(*m, *odd != 0, *antisymmetric != 0, *taps, *delay);
-    let opened = state.reset();
-    let next = opened.state;
-    put_phase(next, m, taps, delay);
-    let answer = opened.answer;
-    opening_number(answer)
+    let mut state = phase(*m, kind(*odd, *antisymmetric), *taps, *delay);
+    let answer = state.reset();
+    put_phase(state, m, taps, delay);
+    number(&answer)
 }
 
 #[unsafe(no_mangle)]
@@ -72,10 +78,10 @@ pub extern "C" fn gauge_raw_linear_phase_fir_response_length(
     ensures answer { let state = P.phase_of m (is_set odd) (is_set antisymmetric) taps.now delay.now in
         record { number = result; value = length.new } ≡ P.phase_response_length state }
 {
-    let state = phase(m, odd != 0, antisymmetric != 0, *taps, *delay);
+    let state = phase(m, kind(odd, antisymmetric), *taps, *delay);
     let answer = state.response_length();
-    *length = length_value(answer);
-    length_number(answer)
+    *length = answer.unwrap_or(0);
+    number(&answer)
 }
 
 #[unsafe(no_mangle)]
@@ -93,9 +99,9 @@ pub extern "C" fn gauge_raw_linear_phase_fir_process(
         record { number = result; value = value.new; state = after } ≡ P.phase_step before x }
     ensures kind { (odd.new ≡ odd.old) × (antisymmetric.new ≡ antisymmetric.old) }
 {
-    let out = process_at(*m, *odd != 0, *antisymmetric != 0, taps, delay, x);
-    *value = phase_value(out);
-    phase_number(out)
+    let answer = process_at(*m, kind(*odd, *antisymmetric), taps, delay, x);
+    *value = answer.unwrap_or(0.0);
+    number(&answer)
 }
 
 #[unsafe(no_mangle)]
@@ -115,9 +121,9 @@ pub extern "C" fn gauge_raw_linear_phase_fir_block(
     ensures span { span.new ≡ P.phase_span (phase_at entry m odd antisymmetric taps delay) src.now span.old }
     ensures kind { (odd.new ≡ odd.old) × (antisymmetric.new ≡ antisymmetric.old) }
 {
-    let answer = block_at(*m, *odd != 0, *antisymmetric != 0, taps, delay, src, span);
-    *written = count_written(answer);
-    count_number(answer)
+    let answer = block_at(*m, kind(*odd, *antisymmetric), taps, delay, src, span);
+    *written = answer.unwrap_or(0);
+    number(&answer)
 }
 
 #[unsafe(no_mangle)]
@@ -136,7 +142,7 @@ pub extern "C" fn gauge_raw_linear_phase_fir_inplace(
     ensures span { span.new ≡ P.phase_inplace_span (phase_at entry m odd antisymmetric taps delay) span.old }
     ensures kind { (odd.new ≡ odd.old) × (antisymmetric.new ≡ antisymmetric.old) }
 {
-    let answer = inplace_at(*m, *odd != 0, *antisymmetric != 0, taps, delay, span);
-    *written = count_written(answer);
-    count_number(answer)
+    let answer = inplace_at(*m, kind(*odd, *antisymmetric), taps, delay, span);
+    *written = answer.unwrap_or(0);
+    number(&answer)
 }

@@ -1,7 +1,7 @@
 // `NonrecursiveDecimator`: stages, r, neighbours, place.
 ghost use Rattle.std.specs.Prelude.{◌≡◌, pos, length};
 ghost use Rattle.theory.specs.Sections.{outs};
-ghost use Rattle.refusal.specs.Outcome.{Moved};
+ghost use Rattle.refusal.specs.declared.Moved.{Moved};
 ghost use Rattle.integer.specs.Opening.{on_state};
 ghost use Rattle.integer.specs.Gain.{gain_of, gain_bits, Least};
 ghost use Rattle.integer.specs.ExactSums.{ExactSums};
@@ -9,10 +9,7 @@ ghost use Rattle.nonrecursive.specs.NonrecursiveDecimator as D;
 ghost use Rattle.gauge_line.specs.Crossing.{crossed};
 ghost use Rattle.gauge_line.specs.States.{entry, exit, nonrecursive_at};
 
-use crate::answers::{
-    bits_number, bits_value, counts_number, counts_taken, counts_written, gain_number, gain_value,
-    opening_number, sum_made, sum_number, sum_value,
-};
+use crate::answers::{self, NONE_MOVED, number, output};
 use crate::states::{nonrecursive, put_nonrecursive};
 use nonrecursive::NonrecursiveDecimator;
 use nonrecursive::block::block_at;
@@ -34,10 +31,15 @@ pub extern "C" fn gauge_raw_nonrecursive_decimator_new(
         ExactSums wanted_stages wanted_r (outs D.nonrecursive opened) (outs D.scaled_nonrecursive opened)) }
 {
     let opened = NonrecursiveDecimator::new(wanted_stages, wanted_r);
-    let next = opened.state;
-    put_nonrecursive(next, stages, r, neighbours, place);
-    let answer = opened.answer;
-    opening_number(answer)
+    let told = number(&opened);
+    put_nonrecursive(
+        opened.unwrap_or(NonrecursiveDecimator::fresh(0, 0)),
+        stages,
+        r,
+        neighbours,
+        place,
+    );
+    told
 }
 
 #[unsafe(no_mangle)]
@@ -52,8 +54,8 @@ pub extern "C" fn gauge_raw_nonrecursive_decimator_gain(
 {
     let state = nonrecursive(stages, r, *neighbours, place);
     let answer = state.gain();
-    *gain = gain_value(answer);
-    gain_number(answer)
+    *gain = answer.unwrap_or(0);
+    number(&answer)
 }
 
 #[unsafe(no_mangle)]
@@ -69,8 +71,8 @@ pub extern "C" fn gauge_raw_nonrecursive_decimator_gain_bits(
 {
     let state = nonrecursive(stages, r, *neighbours, place);
     let answer = state.gain_bits();
-    *bits = bits_value(answer);
-    bits_number(answer)
+    *bits = answer.unwrap_or(0);
+    number(&answer)
 }
 
 #[unsafe(no_mangle)]
@@ -87,14 +89,14 @@ pub extern "C" fn gauge_raw_nonrecursive_decimator_process_sample(
         let after = nonrecursive_at exit stages r neighbours place in
         record { number = result; value = (made.new, sum.new); state = after } ≡ crossed (pos 0) (D.step before input) }
 {
-    let state = nonrecursive(*stages, *r, *neighbours, *place);
-    let done = state.process_sample(input);
-    let next = done.state;
-    put_nonrecursive(next, stages, r, neighbours, place);
-    let output = done.output;
-    *made = sum_made(output);
-    *sum = sum_value(output);
-    sum_number(output)
+    let mut state = nonrecursive(*stages, *r, *neighbours, *place);
+    let answer = state.process_sample(input);
+    put_nonrecursive(state, stages, r, neighbours, place);
+    let told = number(&answer);
+    let next_sum = output(answer);
+    *made = answers::made(&next_sum);
+    *sum = next_sum.unwrap_or(0);
+    told
 }
 
 #[unsafe(no_mangle)]
@@ -111,14 +113,14 @@ pub extern "C" fn gauge_raw_nonrecursive_decimator_process_sample_scaled(
         let after = nonrecursive_at exit stages r neighbours place in
         record { number = result; value = (made.new, sum.new); state = after } ≡ crossed (pos 0) (D.scaled_step before input) }
 {
-    let state = nonrecursive(*stages, *r, *neighbours, *place);
-    let done = state.process_sample_scaled(input);
-    let next = done.state;
-    put_nonrecursive(next, stages, r, neighbours, place);
-    let output = done.output;
-    *made = sum_made(output);
-    *sum = sum_value(output);
-    sum_number(output)
+    let mut state = nonrecursive(*stages, *r, *neighbours, *place);
+    let answer = state.process_sample_scaled(input);
+    put_nonrecursive(state, stages, r, neighbours, place);
+    let told = number(&answer);
+    let next_sum = output(answer);
+    *made = answers::made(&next_sum);
+    *sum = next_sum.unwrap_or(0);
+    told
 }
 
 #[unsafe(no_mangle)]
@@ -139,10 +141,9 @@ pub extern "C" fn gauge_raw_nonrecursive_decimator_process_block(
         record { number = result; value = moved; state = after } ≡ D.block before src.now (length dst.old)) }
     ensures span { dst.new ≡ D.block_span (nonrecursive_at entry stages r neighbours place) src.now dst.old }
 {
-    let moved = block_at(*stages, *r, *place, neighbours, src, dst);
-    *place = moved.place;
-    let counts = moved.counts;
-    *taken = counts_taken(counts);
-    *written = counts_written(counts);
-    counts_number(counts)
+    let answer = block_at(*stages, *r, place, neighbours, src, dst);
+    let moved = answer.unwrap_or(NONE_MOVED);
+    *taken = moved.taken;
+    *written = moved.written;
+    number(&answer)
 }

@@ -1,5 +1,6 @@
 // A line parked as a tap sheet, and taken up again. A line that is parked is not changed: its numbers cross by value, its arrays are only read.
 ghost use Rattle.std.specs.Prelude.{◌≡◌, length, take};
+ghost use Rattle.line.specs.Line as L;
 ghost use Rattle.parking.specs.Older.{ForOlder, StillTaken};
 ghost use Rattle.parking.specs.Parked as P;
 ghost use Rattle.parking.specs.Parking as K;
@@ -7,12 +8,12 @@ ghost use Rattle.taking_up.specs.AsParked.{AsParked};
 ghost use Rattle.taking_up.specs.TakenBack.{TakenBack};
 ghost use Rattle.gauge_line.specs.States.{exit, IsFlag, line_at, line_by};
 
-use crate::answers::{count_number, count_written, opening_number};
+use crate::answers::number;
 use crate::states::{
-    decimator, fir, is_set, kind, put_decimator, put_fir, put_resampler, put_stream, put_thinning,
-    resampler, stream,
+    decimator, fir, is_set, kind, line_or_zeros, put_decimator, put_fir, put_resampler, put_stream,
+    put_thinning, resampler, stream,
 };
-use float::polyphase_resamp::{MOST_CELLS, MOST_TAPS as MOST_PHASE_TAPS};
+use float::settings::{MOST_CELLS, MOST_TAPS as MOST_PHASE_TAPS};
 use half_band::{DEC_CASCADE_DELAYS, MOST_STAGES};
 use integer::limits::MAX_STAGES;
 use line::Line;
@@ -130,9 +131,9 @@ pub extern "C" fn gauge_raw_line_parked_len(
         thinning,
         *neighbours,
     );
-    let answer = parked_len(line);
-    *bytes = count_written(answer);
-    count_number(answer)
+    let answer = parked_len(&line);
+    *bytes = answer.unwrap_or(0);
+    number(&answer)
 }
 
 // Writes the line as a tap sheet at the front of a span. The clause `older`: to the bytes of a panel before request 7, or to some that it answers with 15.
@@ -204,9 +205,9 @@ pub extern "C" fn gauge_raw_line_park(
         thinning,
         *neighbours,
     );
-    let answer = park(line, span);
-    *written = count_written(answer);
-    count_number(answer)
+    let answer = park(&line, span);
+    *written = answer.unwrap_or(0);
+    number(&answer)
 }
 
 // The line of a parked sheet. The clause `back`: of what parking left in front of a span, after any feeds and parkings, the line never parked. The clause `parked`: what
@@ -254,8 +255,9 @@ pub extern "C" fn gauge_raw_line_take_up_3(
         depth delays held counts phases phase_taps straight mu step delay prototype cuts thinning neighbours in
         StillTaken bytes.now (record { number = result; state = after }) }
 {
-    let opened = take_up(bytes);
-    let next = opened.line;
+    let answer = take_up(bytes);
+    let told = number(&answer);
+    let next = line_or_zeros(answer);
     put_decimator(next.cic, stages, r, integrators, combs, sample_counter);
     put_fir(next.fir, taps, tap_count, factor, fir_delay, wait);
     put_stream(next.half_band, depth, delays, held, counts);
@@ -273,6 +275,5 @@ pub extern "C" fn gauge_raw_line_take_up_3(
     let thins = next.thinning;
     let next_neighbours = next.neighbours;
     put_thinning(thins, next_neighbours, thinning, neighbours);
-    let answer = opened.answer;
-    opening_number(answer)
+    told
 }

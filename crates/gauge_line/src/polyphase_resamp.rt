@@ -2,12 +2,25 @@
 ghost use Rattle.std.specs.Prelude.{◌≡◌, true, false};
 ghost use Rattle.float.specs.PolyphaseResamp as R;
 ghost use Rattle.float.specs.PolyphaseWhole as W;
+ghost use Rattle.gauge_line.specs.Crossing.{is_set};
 ghost use Rattle.gauge_line.specs.States.{entry, exit, IsFlag, resampler_at};
 
-use crate::answers::{count_number, count_written, opening_number};
+use crate::answers::{NONE_MOVED, number};
 use crate::states::{is_set, put_resampler, resampler};
 use float::PolyphaseResampF32;
-use float::polyphase_resamp::{MOST_CELLS, MOST_TAPS as MOST_PHASE_TAPS, block_at, push_at};
+use float::settings::{MOST_CELLS, MOST_TAPS as MOST_PHASE_TAPS, Setting};
+
+// What an opening set, of the numbers that a caller lends.
+fn setting(phases: usize, taps: usize, straight: usize, step: f32) -> Setting
+    ensures { result ≡ record { phases = phases; taps = taps; straight = is_set straight; step = step } }
+{
+    Setting {
+        phases,
+        taps,
+        straight: is_set(straight),
+        step,
+    }
+}
 
 #[unsafe(no_mangle)]
 pub extern "C" fn gauge_raw_polyphase_resamp_from_taps(
@@ -35,10 +48,10 @@ pub extern "C" fn gauge_raw_polyphase_resamp_from_taps(
         wanted_prototype,
         wanted_step,
     );
-    let next = opened.state;
-    put_resampler(next, phases, taps, straight, mu, step, delay, prototype);
-    let answer = opened.answer;
-    opening_number(answer)
+    let told = number(&opened);
+    let state = opened.unwrap_or(PolyphaseResampF32::zeros());
+    put_resampler(state, phases, taps, straight, mu, step, delay, prototype);
+    told
 }
 
 #[unsafe(no_mangle)]
@@ -67,10 +80,10 @@ pub extern "C" fn gauge_raw_polyphase_resamp_from_taps_straight(
         wanted_prototype,
         wanted_step,
     );
-    let next = opened.state;
-    put_resampler(next, phases, taps, straight, mu, step, delay, prototype);
-    let answer = opened.answer;
-    opening_number(answer)
+    let told = number(&opened);
+    let state = opened.unwrap_or(PolyphaseResampF32::zeros());
+    put_resampler(state, phases, taps, straight, mu, step, delay, prototype);
+    told
 }
 
 #[unsafe(no_mangle)]
@@ -91,7 +104,7 @@ pub extern "C" fn gauge_raw_polyphase_resamp_reset(
         let after = resampler_at exit phases taps straight mu step delay prototype in
         W.Resets before (record { number = result; state = after }) }
 {
-    let state = resampler(
+    let mut state = resampler(
         *phases,
         *taps,
         is_set(*straight),
@@ -100,11 +113,9 @@ pub extern "C" fn gauge_raw_polyphase_resamp_reset(
         *delay,
         *prototype,
     );
-    let opened = state.reset();
-    let next = opened.state;
-    put_resampler(next, phases, taps, straight, mu, step, delay, prototype);
-    let answer = opened.answer;
-    opening_number(answer)
+    let answer = state.reset();
+    put_resampler(state, phases, taps, straight, mu, step, delay, prototype);
+    number(&answer)
 }
 
 #[unsafe(no_mangle)]
@@ -134,22 +145,12 @@ pub extern "C" fn gauge_raw_polyphase_resamp_process_block(
         let moved : R.Counts = record { written = written.exit.now; taken = taken.new } in
         W.BlockKept before src.now dst.old dst.new (record { number = result; value = moved; state = after })) }
 {
-    let moved = block_at(
-        is_set(*straight),
-        *phases,
-        *taps,
-        *step,
-        *mu,
-        delay,
-        prototype,
-        src,
-        dst,
-    );
-    *mu = moved.mu;
+    let answer = setting(*phases, *taps, *straight, *step).block(mu, delay, prototype, src, dst);
+    let told = number(&answer);
+    let moved = answer.unwrap_or(NONE_MOVED);
     *taken = moved.taken;
-    let answer = moved.answer;
-    *written = count_written(answer);
-    count_number(answer)
+    *written = moved.written;
+    told
 }
 
 #[unsafe(no_mangle)]
@@ -174,19 +175,8 @@ pub extern "C" fn gauge_raw_polyphase_resamp_push(
         let after = resampler_at exit phases taps straight mu step delay prototype in
         W.PushKept before x out.old out.new (record { number = result; value = written.new; state = after }) }
 {
-    let pushed = push_at(
-        is_set(*straight),
-        *phases,
-        *taps,
-        *step,
-        *mu,
-        delay,
-        prototype,
-        x,
-        out,
-    );
-    *mu = pushed.mu;
-    let answer = pushed.answer;
-    *written = count_written(answer);
-    count_number(answer)
+    let answer = setting(*phases, *taps, *straight, *step).push(mu, delay, prototype, x, out);
+    let told = number(&answer);
+    *written = answer.unwrap_or(0);
+    told
 }

@@ -2,7 +2,7 @@
 ghost use Rattle.std.specs.Prelude.{◌≡◌, ◌*◌, length};
 ghost use Rattle.phase_rows.specs.PhaseRows as R;
 
-use crate::answers::{count_number, count_written};
+use crate::answers::number;
 use phase_rows::{prototype_by_phase, prototype_by_tap};
 
 #[unsafe(no_mangle)]
@@ -19,8 +19,9 @@ pub extern "C" fn gauge_raw_prototype_by_phase(
     ensures rearranges { length prototype.now ≡ phases * taps → R.Rearranges phases taps prototype.now }
 {
     let answer = prototype_by_phase(phases, taps, prototype, rows);
-    *written = count_written(answer);
-    count_number(answer)
+    let told = number(&answer);
+    *written = answer.unwrap_or(0);
+    told
 }
 
 #[unsafe(no_mangle)]
@@ -37,6 +38,7 @@ pub extern "C" fn gauge_raw_prototype_by_tap(
     ensures rearranges { length rows.now ≡ phases * taps → R.Rearranges phases taps rows.now }
 {
     let answer = prototype_by_tap(phases, taps, rows, prototype);
-    *written = count_written(answer);
-    count_number(answer)
+    let told = number(&answer);
+    *written = answer.unwrap_or(0);
+    told
 }

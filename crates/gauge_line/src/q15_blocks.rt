@@ -4,8 +4,14 @@ ghost use Rattle.q15.specs.PolyphaseDecimate.{decimate_answer, decimate_span, de
 ghost use Rattle.q15.specs.Rounding.{Rounded};
 ghost use Rattle.q15.specs.PolyphaseInterpolate.{interpolate_answer, interpolate_span, interpolate_cuts};
 
-use crate::answers::{count_number, count_written};
-use q15::{polyphase_decimate_q15, polyphase_interpolate_q15};
+use crate::answers::number;
+use q15::{FirBlock, polyphase_decimate_q15, polyphase_interpolate_q15};
+
+// What a refused block wrote.
+const NONE_WRITTEN: FirBlock = FirBlock {
+    written: 0,
+    cuts: 0,
+};
 
 #[unsafe(no_mangle)]
 pub extern "C" fn gauge_raw_polyphase_decimate_q15(
@@ -21,11 +27,12 @@ pub extern "C" fn gauge_raw_polyphase_decimate_q15(
     ensures cuts { cuts.new ≡ decimate_cuts coeffs.now decimation_factor src.now dst.old }
     ensures rounding { Rounded coeffs.now decimation_factor src.now }
 {
-    let block = polyphase_decimate_q15(src, coeffs, decimation_factor, dst);
+    let answer = polyphase_decimate_q15(src, coeffs, decimation_factor, dst);
+    let told = number(&answer);
+    let block = answer.unwrap_or(NONE_WRITTEN);
+    *written = block.written;
     *cuts = block.cuts;
-    let answer = block.answer;
-    *written = count_written(answer);
-    count_number(answer)
+    told
 }
 
 #[unsafe(no_mangle)]
@@ -41,9 +48,10 @@ pub extern "C" fn gauge_raw_polyphase_interpolate_q15(
     ensures span { dst.new ≡ interpolate_span coeffs.now interpolation_factor src.now dst.old }
     ensures cuts { cuts.new ≡ interpolate_cuts coeffs.now interpolation_factor src.now dst.old }
 {
-    let block = polyphase_interpolate_q15(src, coeffs, interpolation_factor, dst);
+    let answer = polyphase_interpolate_q15(src, coeffs, interpolation_factor, dst);
+    let told = number(&answer);
+    let block = answer.unwrap_or(NONE_WRITTEN);
+    *written = block.written;
     *cuts = block.cuts;
-    let answer = block.answer;
-    *written = count_written(answer);
-    count_number(answer)
+    told
 }

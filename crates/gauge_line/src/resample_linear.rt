@@ -3,7 +3,7 @@ ghost use Rattle.std.specs.Prelude.{◌≡◌};
 ghost use Rattle.q15.specs.ResampleLinear as Q;
 ghost use Rattle.float.specs.ResampleLinear as F;
 
-use crate::answers::{count_number, count_written};
+use crate::answers::number;
 use float::resample_linear_f32;
 use q15::resample_linear_q15;
 
@@ -18,8 +18,9 @@ pub extern "C" fn gauge_raw_resample_linear_q15(
     ensures span { dst.new ≡ Q.linear_span src.now ratio_q16 dst.old }
 {
     let answer = resample_linear_q15(src, dst, ratio_q16);
-    *written = count_written(answer);
-    count_number(answer)
+    let told = number(&answer);
+    *written = answer.unwrap_or(0);
+    told
 }
 
 #[unsafe(no_mangle)]
@@ -33,6 +34,7 @@ pub extern "C" fn gauge_raw_resample_linear_f32(
     ensures span { dst.new ≡ F.linear_span src.now dst.old ratio }
 {
     let answer = resample_linear_f32(src, dst, ratio);
-    *written = count_written(answer);
-    count_number(answer)
+    let told = number(&answer);
+    *written = answer.unwrap_or(0);
+    told
 }

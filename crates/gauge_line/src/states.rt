@@ -1,27 +1,33 @@
 // The states as callers keep them: put together from the fields that were lent, and put back into them.
 ghost use Rattle.std.specs.Prelude.{◌≡◌};
+ghost use Rattle.refusal.specs.Outcome.{value_in};
 ghost use Rattle.integer.specs.CicDecimator.{decimator_of};
 ghost use Rattle.integer.specs.CicInterpolator.{interpolator_of};
 ghost use Rattle.nonrecursive.specs.NonrecursiveDecimator.{nonrecursive_of};
 ghost use Rattle.q15.specs.FirDecimator.{fir_state};
+ghost use Rattle.half_band.specs.HbfDecCascade.{cascade_of};
 ghost use Rattle.half_band.specs.HbfStream.{stream_of};
 ghost use Rattle.float.specs.PolyphaseResamp.{together};
 ghost use Rattle.linear_phase.specs.LinearPhaseFir.{phase_of};
+ghost use Rattle.line.specs.Line as L;
 ghost use Rattle.gauge_line.specs.Crossing.{is_set, flag_of, kind_of, kind_number};
 ghost use Rattle.gauge_line.specs.States.{exit, decimator_at, nonrecursive_at, interpolator_at, fir_at, dec_at, int_at, dec_cascade_at, int_cascade_at, stream_at, IsFlag, resampler_at};
 
 use float::PolyphaseResampF32;
-use float::polyphase_resamp::{MOST_CELLS, MOST_TAPS as MOST_PHASE_TAPS};
+use float::settings::{MOST_CELLS, MOST_TAPS as MOST_PHASE_TAPS};
 use half_band::{
-    DEC_CASCADE_DELAYS, DEC_DELAYS, HbfDec, HbfDecCascade, HbfInt, HbfIntCascade, HbfStream,
+    DEC_CASCADE_DELAYS, DEC_DELAYS, DecCascade, HbfDec, HbfInt, HbfIntCascade, HbfStream,
     INT_CASCADE_DELAYS, INT_DELAYS, MOST_HALF_BAND_TAPS, MOST_STAGES,
 };
 use integer::limits::MAX_STAGES;
 use integer::{CicDecimator, CicInterpolator};
-use linear_phase::{LINEAR_PHASE_DELAYS, LinearPhaseFir, MOST_LINEAR_PHASE_TAPS};
+use line::{Line, zeros};
+use linear_phase::{Kind, LINEAR_PHASE_DELAYS, LinearPhaseFir, MOST_LINEAR_PHASE_TAPS};
 use nonrecursive::nonrecursive_decimator::MAX_NEIGHBOURS;
 use nonrecursive::{NonrecursiveDecimator, Thinning};
 use q15::{FirDecimator, MOST_TAPS};
+use refusal::Refusal;
+use std::marker::PhantomData;
 
 pub(crate) fn decimator(
     stages: usize,
@@ -204,18 +210,22 @@ pub(crate) fn put_int(
     *delay = next_delay;
 }
 
-pub(crate) fn dec_cascade(depth: usize, delays: [f32; DEC_CASCADE_DELAYS]) -> HbfDecCascade
-    ensures { result ≡ record { depth = depth; delays = delays } }
+pub(crate) fn dec_cascade<T>(depth: usize, delays: [f32; DEC_CASCADE_DELAYS]) -> DecCascade<T>
+    ensures { cascade_of result.depth result.delays ≡ cascade_of depth delays }
 {
-    HbfDecCascade { depth, delays }
+    DecCascade {
+        depth,
+        delays,
+        table: PhantomData,
+    }
 }
 
-pub(crate) fn put_dec_cascade(
-    next: HbfDecCascade,
+pub(crate) fn put_dec_cascade<T: Drop>(
+    next: DecCascade<T>,
     depth: &mut usize,
     delays: &mut [f32; DEC_CASCADE_DELAYS],
 )
-    ensures { dec_cascade_at exit depth delays ≡ next }
+    ensures { dec_cascade_at exit depth delays ≡ cascade_of next.depth next.delays }
 {
     let next_delays = next.delays;
     *depth = next.depth;
@@ -285,10 +295,7 @@ pub(crate) fn is_set(n: usize) -> bool
 pub(crate) fn flag(yes: bool) -> usize
     ensures { result ≡ flag_of yes }
 {
-    if yes {
-        return 1;
-    }
-    0
+    usize::from(yes)
 }
 
 // Which kind thins a line crosses as a number: 0 is the integrators, any other the neighbours.
@@ -373,17 +380,16 @@ pub(crate) fn put_resampler(
 
 pub(crate) fn phase(
     m: usize,
-    odd: bool,
-    antisymmetric: bool,
+    kind: Kind,
     taps: [f32; MOST_LINEAR_PHASE_TAPS],
     delay: [f32; LINEAR_PHASE_DELAYS],
 ) -> LinearPhaseFir
-    ensures { result ≡ phase_of m odd antisymmetric taps delay }
+    ensures { result ≡ phase_of m kind.odd kind.antisymmetric taps delay }
 {
     LinearPhaseFir {
         m,
-        odd,
-        antisymmetric,
+        odd: kind.odd,
+        antisymmetric: kind.antisymmetric,
         taps,
         delay,
     }
@@ -403,4 +409,14 @@ pub(crate) fn put_phase(
     *m = next.m;
     *taps = next_taps;
     *delay = next_delay;
+}
+
+// The line of an opening; zeros where it is refused.
+pub(crate) fn line_or_zeros(opened: Result<Line, Refusal>) -> Line
+    ensures { result ≡ value_in L.zeros opened }
+{
+    match opened {
+        Ok(line) => line,
+        Err(_) => zeros(),
+    }
 }

@@ -2,10 +2,8 @@
 ghost use Rattle.std.specs.Prelude.{◌≡◌, ◌<◌, length, take, drop};
 ghost use Rattle.sheet.specs.Sheet as S;
 
-use crate::answers::{
-    count_number, count_written, entries_number, entries_value, size_number, size_value,
-};
-use sheet::{entry_offset, entry_size, sheet_count, write_sheet};
+use crate::answers::{number, placed};
+use sheet::{TapSheet, sheet_count, write_sheet};
 
 #[unsafe(no_mangle)]
 pub extern "C" fn gauge_raw_sheet_count(bytes: &[u8], count: &mut usize) -> usize
@@ -13,8 +11,8 @@ pub extern "C" fn gauge_raw_sheet_count(bytes: &[u8], count: &mut usize) -> usiz
     ensures earlier { S.le16 bytes.now 0 < S.mark → record { number = result; value = count.new } ≡ S.sheet_answer S.Rule.former bytes.now }
 {
     let answer = sheet_count(bytes);
-    *count = entries_value(answer);
-    entries_number(answer)
+    *count = answer.unwrap_or(0);
+    number(&answer)
 }
 
 #[unsafe(no_mangle)]
@@ -30,10 +28,11 @@ pub extern "C" fn gauge_raw_sheet_entry(
     ensures part { take size.new (drop offset.new bytes.now) ≡ S.entry S.Rule.present bytes.now count k }
     ensures earlier { S.le16 bytes.now 0 < S.mark → record { number = result; value = size.new } ≡ S.entry_answer S.Rule.former bytes.now count k }
 {
-    *offset = entry_offset(bytes, count, k);
-    let answer = entry_size(bytes, count, k);
-    *size = size_value(answer);
-    size_number(answer)
+    let answer = TapSheet { bytes, count }.place(k);
+    let place = placed(answer);
+    *offset = place.offset;
+    *size = place.size;
+    number(&answer)
 }
 
 #[unsafe(no_mangle)]
@@ -49,6 +48,6 @@ pub extern "C" fn gauge_raw_sheet_write(
     ensures older { result ≡ 0 → S.ForOlder joined.now lengths.now (take written.new span.new) }
 {
     let answer = write_sheet(joined, lengths, span);
-    *written = count_written(answer);
-    count_number(answer)
+    *written = answer.unwrap_or(0);
+    number(&answer)
 }

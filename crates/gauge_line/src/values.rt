@@ -7,7 +7,7 @@ ghost use Rattle.half_band.specs.HbfTaps.{hbf_taps};
 ghost use Rattle.half_band.specs.HbfTaps98.{hbf_taps98};
 ghost use Rattle.half_band.specs.ResponseLength.{dec_lengths, int_lengths, length_at};
 
-use crate::answers::{length_number, length_value};
+use crate::answers::number;
 use crate::states::flag;
 use float::q15_to_f32;
 use half_band::{
@@ -21,9 +21,7 @@ pub extern "C" fn gauge_raw_cut_q15(sum: i64, value: &mut i16, cut: &mut usize)
     ensures cut { cut.new ≡ Q.cut_one w16 sum }
 {
     let made = cut_q15(sum);
-    let q = made.value;
-    let bits = q.0;
-    *value = bits;
+    *value = made.value.0;
     *cut = flag(made.cut);
 }
 
@@ -40,8 +38,9 @@ pub extern "C" fn gauge_raw_hbf_dec_response_length(depth: usize, length: &mut u
     ensures { record { number = result; value = length.new } ≡ length_at dec_lengths depth }
 {
     let answer = hbf_dec_response_length(depth);
-    *length = length_value(answer);
-    length_number(answer)
+    let told = number(&answer);
+    *length = answer.unwrap_or(0);
+    told
 }
 
 #[unsafe(no_mangle)]
@@ -49,22 +48,21 @@ pub extern "C" fn gauge_raw_hbf_int_response_length(depth: usize, length: &mut u
     ensures { record { number = result; value = length.new } ≡ length_at int_lengths depth }
 {
     let answer = hbf_int_response_length(depth);
-    *length = length_value(answer);
-    length_number(answer)
+    let told = number(&answer);
+    *length = answer.unwrap_or(0);
+    told
 }
 
 #[unsafe(no_mangle)]
 pub extern "C" fn gauge_raw_hbf_tap_table(taps: &mut [f32; 45])
     ensures { taps.new ≡ hbf_taps }
 {
-    let table = hbf_tap_table();
-    *taps = table;
+    *taps = hbf_tap_table();
 }
 
 #[unsafe(no_mangle)]
 pub extern "C" fn gauge_raw_hbf_tap_table_98(taps: &mut [f32; 29])
     ensures { taps.new ≡ hbf_taps98 }
 {
-    let table = hbf_tap_table_98();
-    *taps = table;
+    *taps = hbf_tap_table_98();
 }

@@ -1,7 +1,7 @@
 -- Two sections of which one follows the other: a map of states under which each step and each output agree carries whole runs over.
 use mathlib.Core.Path.{◌≡◌, refl, ap, ◌∙◌}
 use mathlib.Core.List.{List, [], ◌∷◌}
-use mathlib.Core.Option.{Option}
+use Rattle.std.specs.Prelude.{Option}
 use Rattle.theory.specs.Sections.{Section, onto, state, outs}
 
 module _ {S T A B : Type 0} (f : Section S A B) (g : Section T A B) (h : T → S) (Fine : T → Type 0)

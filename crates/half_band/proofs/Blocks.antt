@@ -1,12 +1,12 @@
 -- A section run by a loop over the front of a list: one more value, and what it leaves in a span filled from the front.
 use mathlib.Core.Path.{◌≡◌, refl, sym, ap, ◌∙◌}
 use mathlib.Core.List.{List, [], ◌∷◌, ◌++◌, append_assoc}
-use mathlib.Core.Option.{Option, some}
-use Prim.Native.Nat.{ℕ, suc, ◌+◌, ◌-◌, ◌≤◌, ◌<◌}
+use Rattle.std.specs.Prelude.{Option, Some}
+use Prim.Native.Nat.{ℕ, suc, ◌+◌, ◌<◌}
 use native.Mathlib.Numerals.{add-one}
 use native.Mathlib.Omega.{arith}
 use lib.ListN.{length, get_or, set, take, drop, length-set, length-append}
-use lib.Seq.{take-suc, take_at, drop_at, take-add, drop-drop, get_or-append-add, get_or-drop}
+use lib.Seq.{take-suc, take_at, drop_at, take-add, drop-drop}
 use Rattle.theory.specs.Sections.{Section, onto, state, outs}
 use Rattle.theory.proofs.Sections.{state_append, outs_append}
 use Rattle.half_band.proofs.Filling.{store_next}
@@ -25,16 +25,16 @@ module _ {S A B : Type 0} (f : Section S A B) (s : S) (v : List A) (i : ℕ) (z 
       ∙ ap (λ (t : Option B). outs f s (take i v) ++ onto t []) e
 
   -- the span with the outputs so far, and one more
-  pub span_next : (y : B) (k : ℕ) (d : List B) → f.out (state f s (take i v)) (get_or v i z) ≡ some y → length (outs f s (take i v)) ≡ k → k < length d
+  pub span_next : (y : B) (k : ℕ) (d : List B) → f.out (state f s (take i v)) (get_or v i z) ≡ Some y → length (outs f s (take i v)) ≡ k → k < length d
       → set (outs f s (take i v) ++ drop k d) k y ≡ outs f s (take (i + 1) v) ++ drop (k + 1) d
   span_next y k d e l g =
       ap (λ (n : ℕ). set (outs f s (take i v) ++ drop n d) n y) (sym l)
       ∙ store_next (outs f s (take i v)) d y (omega arith)
       ∙ ap (λ (n : ℕ). (outs f s (take i v) ++ (y ∷ [])) ++ drop (n + 1) d) l
-      ∙ ap (λ (t : List B). t ++ drop (k + 1) d) (sym (outs_next (some y) e))
+      ∙ ap (λ (t : List B). t ++ drop (k + 1) d) (sym (outs_next (Some y) e))
 
 -- a section that makes an output of every value
-pub outs_length : {S A B : Type 0} (f : Section S A B) (made : S → A → B) → ((s : S) (a : A) → f.out s a ≡ some (made s a)) → (s : S) (w : List A) → length (outs f s w) ≡ length w
+pub outs_length : {S A B : Type 0} (f : Section S A B) (made : S → A → B) → ((s : S) (a : A) → f.out s a ≡ Some (made s a)) → (s : S) (w : List A) → length (outs f s w) ≡ length w
 outs_length f made e s [] = refl
 outs_length {B = B} f made e s (a ∷ w) = ap (λ (o : Option B). length (onto o (outs f (f.next s a) w))) (e s a) ∙ ap suc (outs_length f made e (f.next s a) w)
 
@@ -44,26 +44,6 @@ pub record Emitted {S A B : Type 0} (f : Section S A B) (s : S) (v : List A) (d�
   pub count_is : length (outs f s (take i v)) ≡ k
   pub span_is : d ≡ outs f s (take i v) ++ drop k d₀
   pub same : length d ≡ length d₀
-
-pub emitted_start : {S A B : Type 0} (f : Section S A B) (s : S) (v : List A) (d : List B) → Emitted f s v d s d 0 0
-emitted_start f s v d = record { state_is = refl; count_is = refl; span_is = refl; same = refl }
-
--- behind the outputs the span is as it was
-pub emitted_rest :
-    {S A B : Type 0} (f : Section S A B) (s : S) (v : List A) (d₀ : List B) (t : S) (d : List B) (i k : ℕ) → Emitted f s v d₀ t d i k
-    → (j : ℕ) (z : B) → k ≤ j → get_or d j z ≡ get_or d₀ j z
-emitted_rest {B = B} f s v d₀ t d i k q j z h =
-    let e : j ≡ length (outs f s (take i v)) + (j - k) = omega (arith, q.count_is) in
-    let b : k + (j - k) ≡ j = omega arith in
-    ap (λ (l : List B). get_or l j z) q.span_is
-    ∙ ap (λ (n : ℕ). get_or (outs f s (take i v) ++ drop k d₀) n z) e
-    ∙ get_or-append-add (outs f s (take i v)) (drop k d₀) (j - k) z
-    ∙ get_or-drop k d₀ (j - k) z
-    ∙ ap (λ (n : ℕ). get_or d₀ n z) b
-
-pub emitted_behind :
-    {S A B : Type 0} (f : Section S A B) (s : S) (v : List A) (d₀ : List B) (t : S) (d : List B) (i k : ℕ) → Emitted f s v d₀ t d i k → drop k d ≡ drop k d₀
-emitted_behind f s v d₀ t d i k q = ap (drop k) q.span_is ∙ drop_at (outs f s (take i v)) (drop k d₀) k q.count_is
 
 -- m values more, and their c outputs put behind those that are there
 pub emitted_many :
@@ -106,14 +86,14 @@ module _ {S A B : Type 0} (f : Section S A B) (s : S) (v : List A) (d₀ : List 
   made_of o e = ap (λ (x : S). f.out x (get_or v i z)) (sym q.state_is) ∙ e
 
   -- how many there are then
-  count_more : (y : B) → f.out t (get_or v i z) ≡ some y → length (outs f s (take (i + 1) v)) ≡ k + 1
-  count_more y e = ap length (outs_next f s v i z h (some y) (made_of (some y) e)) ∙ length-append (outs f s (take i v)) (y ∷ []) ∙ ap (λ (n : ℕ). n + 1) q.count_is
+  count_more : (y : B) → f.out t (get_or v i z) ≡ Some y → length (outs f s (take (i + 1) v)) ≡ k + 1
+  count_more y e = ap length (outs_next f s v i z h (Some y) (made_of (Some y) e)) ∙ length-append (outs f s (take i v)) (y ∷ []) ∙ ap (λ (n : ℕ). n + 1) q.count_is
 
-  pub emitted_one : (y : B) → f.out t (get_or v i z) ≡ some y → k < length d₀ → Emitted f s v d₀ u (set d k y) (i + 1) (k + 1)
+  pub emitted_one : (y : B) → f.out t (get_or v i z) ≡ Some y → k < length d₀ → Emitted f s v d₀ u (set d k y) (i + 1) (k + 1)
   emitted_one y e g =
       record {
         state_is = moved_on;
         count_is = count_more y e;
-        span_is = ap (λ (l : List B). set l k y) q.span_is ∙ span_next f s v i z h y k d₀ (made_of (some y) e) q.count_is g;
+        span_is = ap (λ (l : List B). set l k y) q.span_is ∙ span_next f s v i z h y k d₀ (made_of (Some y) e) q.count_is g;
         same = length-set d k y ∙ q.same;
       }

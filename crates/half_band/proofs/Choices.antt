@@ -8,8 +8,5 @@ chosen b x y e = ap (λ (t : Bool). cond t x y) (sym e)
 pub other : {A : Type 0} (b : Bool) (x y : A) → b ≡ false → y ≡ cond b x y
 other b x y e = ap (λ (t : Bool). cond t x y) (sym e)
 
-pub second : {A : Type 0} (b t : Bool) (x y z : A) → b ≡ false → t ≡ true → y ≡ cond b x (cond t y z)
-second b t x y z e f = chosen t y z f ∙ other b x (cond t y z) e
-
 pub third : {A : Type 0} (b t : Bool) (x y z : A) → b ≡ false → t ≡ false → z ≡ cond b x (cond t y z)
 third b t x y z e f = other t y z f ∙ other b x (cond t y z) e

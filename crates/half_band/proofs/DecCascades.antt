@@ -1,6 +1,5 @@
 -- `HbfDecCascade`: a block's frames fill the span's places in step, and the opening's claims follow from those of the streaming cascade.
 use mathlib.Core.Path.{◌≡◌, refl, sym, ap, ◌∙◌, subst}
-use mathlib.Core.Bool.{false}
 use mathlib.Core.List.{List, ◌++◌}
 use Prim.Native.Nat.{ℕ, zero, suc, ◌+◌, ◌-◌, ◌*◌, ◌/◌, ◌^◌, ◌≤◌, ◌<◌, min}
 use native.Mathlib.Nat.{le_trans, sub-zero, mul-one, mul_left_comm, add-mul, mul-le-mul_right, div-mul-le_self, pow-zero, pow-succ'}
@@ -10,19 +9,14 @@ use lib.ListN.{length, take, drop, replicate, length-replicate, get_or-replicate
 use lib.Seq.{length-take-le, length_front, take_at}
 use lib.Ieee.{Float, nan}
 use Rattle.theory.specs.Sections.{Section, state, outs}
-use Rattle.refusal.specs.declared.Count.TheVariants.{Written}
-use Rattle.half_band.specs.Answers.{told_count}
-use Rattle.refusal.specs.Rows.{samples_refused}
 use Rattle.float.specs.F32.{zero32}
 use Rattle.half_band.specs.Windows.{pairs, decimator, spliced}
 use Rattle.half_band.specs.HbfStream.{stream, stream_of}
-use Rattle.half_band.specs.HbfDecCascade.{unheld, dec_cascade_fresh, dec_cascade_refused, dec_cascade_count, after_by, block_by, span_by, MeetsBy}
+use Rattle.half_band.specs.HbfDecCascade.{dec_cascade_fresh, MeetsBy}
 use Rattle.half_band.specs.declared.hbf_stream.HbfStream.{HbfStream}
-use Rattle.half_band.specs.declared.hbf_dec_cascade.HbfDecCascade.{HbfDecCascade}
 use Rattle.refusal.proofs.Limits.{Between, not_outside}
-use Rattle.half_band.proofs.Choices.{third}
 use Rattle.half_band.proofs.WholeLists.{pairs_front}
-use Rattle.half_band.proofs.StageTables.{FiveStages}
+use Rattle.half_band.specs.HbfTaps.{FiveStages}
 use Rattle.half_band.proofs.Streaming.{stream_whole}
 use Rattle.half_band.proofs.Reaching.{stream_reaches}
 use Rattle.half_band.proofs.Frames.{made_count, nothing_held}
@@ -172,19 +166,6 @@ module _ (taps : ℕ → List Float) (five : FiveStages taps) where
           all_filled_of h =
               let z : depth - k ≡ 0 = omega arith in
               q.count ∙ ap (λ (m : ℕ). frames * 2 ^ m) z ∙ ap (λ (m : ℕ). frames * m) (pow-zero 2) ∙ mul-one frames
-
-  -- a block of so many frames that is not refused
-  module _ (s : HbfDecCascade) (v span : List Float) (n : ℕ) (fine : dec_cascade_refused s ≡ false) (in_limits_lem : samples_refused (length v) (length span) ≡ false)
-      (count : n ≡ dec_cascade_count s.depth (length v) (length span)) where
-    pub block_answer_lem : (d : List Float) → d ≡ (state (stream taps) (unheld s) (take (n * 2 ^ s.depth) v)).delays
-        → told_count {S = HbfDecCascade} (Written n) (record { depth = s.depth; delays = d }) ≡ block_by taps s v (length span)
-    block_answer_lem d e =
-        ap (λ (l : List Float). told_count {S = HbfDecCascade} (Written n) (record { depth = s.depth; delays = l })) e
-        ∙ ap (λ (k : ℕ). told_count (Written k) (after_by taps s (take (k * 2 ^ s.depth) v))) count
-        ∙ third _ _ _ _ _ fine in_limits_lem
-
-    pub block_span_lem : (t : List Float) → t ≡ outs (stream taps) (unheld s) (take (n * 2 ^ s.depth) v) ++ drop n span → t ≡ span_by taps s v span
-    block_span_lem t e = e ∙ ap (λ (k : ℕ). outs (stream taps) (unheld s) (take (k * 2 ^ s.depth) v) ++ drop k span) count ∙ third _ _ _ _ _ fine in_limits_lem
 
   -- an opening
   pub fresh_meets : (d : ℕ) → Between 1 d 5 → MeetsBy taps d (dec_cascade_fresh d)

@@ -1,4 +1,5 @@
 -- `HbfDec` runs as the decimator on windows; so its blocks are those of the definition, and its opening makes section 4's list.
+use Rattle.std.specs.Prelude.{Ok}
 use mathlib.Core.Path.{◌≡◌, refl, sym, ap, ◌∙◌}
 use mathlib.Core.Bool.{false}
 use mathlib.Core.List.{List, [], ◌∷◌, ◌++◌}
@@ -8,9 +9,8 @@ use lib.ListN.{length, take, drop, replicate}
 use lib.Seq.{take_at}
 use lib.Ieee.{Float}
 use Rattle.theory.specs.Sections.{state, outs}
-use Rattle.refusal.specs.declared.Count.TheVariants.{Written}
 use Rattle.refusal.specs.Rows.{samples_refused}
-use Rattle.half_band.specs.Answers.{told_count}
+use Rattle.refusal.specs.Outcome.{told_on}
 use Rattle.float.specs.F32.{zero32}
 use Rattle.half_band.specs.Windows.{pairs, decimator}
 use Rattle.half_band.specs.HbfDec.{dec_taps, dec_window, with_dec_window, dec_next, dec_out, hbf_dec, dec_fresh, dec_refused, dec_block, dec_span, DecMeets}
@@ -53,11 +53,11 @@ module _ (d : HbfDec) (u : Usable d) where
 
   -- a block of n pairs that is not refused
   module _ (v span : List Float) (n : ℕ) (fine : dec_refused d ≡ false) (in_limits_lem : samples_refused (length v) (length span) ≡ false) (count : n ≡ min (length span) (length v / 2)) where
-    pub block_answer_lem : (w : List Float) → w ≡ state (decimator (dec_taps d)) (dec_window d) (take n (pairs v)) → told_count (Written n) (with_dec_window d w) ≡ dec_block d v (length span)
+    pub block_answer_lem : (w : List Float) → w ≡ state (decimator (dec_taps d)) (dec_window d) (take n (pairs v)) → told_on 0 (Ok n) (with_dec_window d w) ≡ dec_block d v (length span)
     block_answer_lem w e =
-        ap (λ (t : List Float). told_count (Written n) (with_dec_window d t)) e
-        ∙ ap (λ (t : HbfDec). told_count (Written n) t) (sym (state_window (take n (pairs v))))
-        ∙ ap (λ (k : ℕ). told_count (Written k) (state hbf_dec d (take k (pairs v)))) count
+        ap (λ (t : List Float). told_on 0 (Ok n) (with_dec_window d t)) e
+        ∙ ap (λ (t : HbfDec). told_on 0 (Ok n) t) (sym (state_window (take n (pairs v))))
+        ∙ ap (λ (k : ℕ). told_on 0 (Ok k) (state hbf_dec d (take k (pairs v)))) count
         ∙ third _ _ _ _ _ fine in_limits_lem
 
     pub block_span_lem : (t : List Float) → t ≡ outs (decimator (dec_taps d)) (dec_window d) (take n (pairs v)) ++ drop n span → t ≡ dec_span d v span

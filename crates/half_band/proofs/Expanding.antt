@@ -1,13 +1,13 @@
 -- A span whose last n samples are turned into 2n outputs in place: the outputs so far stand in front, and the samples still to be read as they were.
-use mathlib.Core.Path.{◌≡◌, refl, sym, ap, ◌∙◌, subst}
+use mathlib.Core.Path.{◌≡◌, sym, ap, ◌∙◌, subst}
 use mathlib.Core.List.{List, [], ◌∷◌, ◌++◌, append_assoc}
-use mathlib.Core.Option.{some}
+use Rattle.std.specs.Prelude.{Some}
 use Prim.Native.Nat.{ℕ, suc, ◌+◌, ◌-◌, ◌*◌, ◌≤◌, ◌<◌}
 use native.Mathlib.Nat.{add-zero}
 use native.Mathlib.Numerals.{add-one}
 use native.Mathlib.Omega.{arith}
-use lib.ListN.{length, get_or, set, take, drop, length-set, length-drop, length-append}
-use lib.Seq.{take-suc-set, drop-set-lt, drop-drop, get_or-drop, take_all, length-take-le, drop-append_seam}
+use lib.ListN.{length, get_or, set, take, drop, length-set, length-drop}
+use lib.Seq.{take-suc-set, drop-set-lt, drop-drop, get_or-drop}
 use lib.Ieee.{Float, nan}
 use Rattle.theory.specs.Sections.{Section, state, outs}
 use Rattle.half_band.specs.HalfBand.{flat}
@@ -31,9 +31,6 @@ module _ {S : Type 0} (f : Section S Float (Float × Float)) (s : S) (span₀ : 
     pub rest : drop (from + i) span ≡ drop (from + i) span₀
     pub same : length span ≡ length span₀
 
-  pub expanded_start : Expanded s span₀ 0
-  expanded_start = record { state_is = refl; front = ap (λ (k : ℕ). take k span₀) (add-zero to) ∙ sym (mathlib.Core.List.append-nil (take to span₀)); rest = refl; same = refl }
-
   module _ (room : 2 * n ≤ length span₀) where
     sample_long : length w ≡ n
     sample_long = length-drop from span₀ ∙ less
@@ -52,7 +49,7 @@ module _ {S : Type 0} (f : Section S Float (Float × Float)) (s : S) (span₀ : 
           ∙ ap (λ (k : ℕ). get_or span₀ k nan) (add-zero (from + i))
           ∙ sym (get_or-drop from span₀ i nan)
 
-      pub expanded_next : (u : S) (a b : Float) → u ≡ f.next t (get_or w i nan) → f.out t (get_or w i nan) ≡ some (a, b) → Expanded u (set (set span (to + 2 * i) a) (to + 2 * i + 1) b) (i + 1)
+      pub expanded_next : (u : S) (a b : Float) → u ≡ f.next t (get_or w i nan) → f.out t (get_or w i nan) ≡ Some (a, b) → Expanded u (set (set span (to + 2 * i) a) (to + 2 * i + 1) b) (i + 1)
       expanded_next u a b eu eo =
           record {
             state_is = eu ∙ ap (λ (x : S). f.next x (get_or w i nan)) q.state_is ∙ sym (state_next f s w i nan in_range);
@@ -63,7 +60,7 @@ module _ {S : Type 0} (f : Section S Float (Float × Float)) (s : S) (span₀ : 
                 ∙ append_assoc (take p span) (a ∷ []) (b ∷ [])
                 ∙ ap (λ (l : List Float). l ++ (a ∷ b ∷ [])) q.front
                 ∙ append_assoc (take to span₀) (flat (outs f s (take i w))) (a ∷ b ∷ [])
-                ∙ ap (λ (l : List Float). take to span₀ ++ l) (sym (flat_snoc (outs f s (take i w)) (a, b)) ∙ ap flat (sym (outs_next f s w i nan in_range (some (a, b)) (ap (λ (x : S). f.out x (get_or w i nan)) (sym q.state_is) ∙ eo))));
+                ∙ ap (λ (l : List Float). take to span₀ ++ l) (sym (flat_snoc (outs f s (take i w)) (a, b)) ∙ ap flat (sym (outs_next f s w i nan in_range (Some (a, b)) (ap (λ (x : S). f.out x (get_or w i nan)) (sym q.state_is) ∙ eo))));
             rest =
                 drop-set-lt (from + (i + 1)) (set span p a) (p + 1) b (omega arith)
                 ∙ drop-set-lt (from + (i + 1)) span p a (omega arith)
@@ -90,31 +87,3 @@ module _ {S : Type 0} (f : Section S Float (Float × Float)) (s : S) (span₀ : 
             where
               further : from + (i + 1) ≡ from + i + 1
               further = omega arith
-
-    -- all of them
-    pub expanded_all : (t : S) (span : List Float) → Expanded t span n → (t ≡ state f s w) × (span ≡ take (length span₀ - 2 * n) span₀ ++ flat (outs f s w))
-    expanded_all t span q =
-        let e : take n w ≡ w = take_all n w (omega (arith, sample_long)) in
-        let k : to + 2 * n ≡ length span₀ = omega arith in
-        let j : to ≡ length span₀ - 2 * n = omega arith in (
-          q.state_is ∙ ap (state f s) e,
-          sym (take_all (to + 2 * n) span (omega (arith, q.same)))
-              ∙ q.front
-              ∙ ap (λ (l : List Float). take to span₀ ++ flat (outs f s l)) e
-              ∙ ap (λ (m : ℕ). take m span₀ ++ flat (outs f s w)) j,
-        )
-
--- samples put at the end of a span of twice their number, and expanded, fill it
-pub ends : (p q : List Float) → length p ≡ 2 * length q → drop (length (take (length p - length q) p ++ q) - length q) (take (length p - length q) p ++ q) ≡ q
-ends p q e =
-    ap (λ (n : ℕ). drop n (take (length p - length q) p ++ q)) (less ∙ sym (length-take-le (length p - length q) p (omega arith)))
-    ∙ drop-append_seam (take (length p - length q) p) q
-  where
-    less : length (take (length p - length q) p ++ q) - length q ≡ length p - length q
-    less = simp (length-append, length-take-le (length p - length q) p (omega arith)) (omega arith)
-
-pub long : (p q : List Float) → length p ≡ 2 * length q → length (take (length p - length q) p ++ q) ≡ 2 * length q
-long p q e = length-append (take (length p - length q) p) q ∙ ap (λ (n : ℕ). n + length q) (length-take-le (length p - length q) p (omega arith)) ∙ sum
-  where
-    sum : length p - length q + length q ≡ 2 * length q
-    sum = omega arith

@@ -1,11 +1,11 @@
--- A list filled from the front by a loop of stores: after i turns it has the first i of what is to go in, and the rest as it was.
+-- Lists written from the front by stores, and the front and the rest of a list of equal values.
 use mathlib.Core.Path.{◌≡◌, refl, sym, ap, ◌∙◌}
 use mathlib.Core.List.{List, [], ◌∷◌, ◌++◌}
 use Prim.Native.Nat.{ℕ, zero, suc, ◌+◌, ◌-◌, ◌≤◌, ◌<◌}
 use native.Mathlib.Numerals.{add-one}
 use native.Mathlib.Omega.{arith}
 use lib.ListN.{length, get_or, set, take, drop, replicate}
-use lib.Seq.{take-length, take-suc, length-take-le, drop-cons, set_at, append_snoc}
+use lib.Seq.{take-suc, length-take-le, drop-cons, set_at, append_snoc}
 
 abbrev pub filled : {A : Type 0} → List A → List A → ℕ → List A
 filled d s i = take i s ++ drop i d
@@ -25,9 +25,6 @@ fill_next {A} d s i z h l =
     ∙ store_next (take i s) d (get_or s i z) (omega arith)
     ∙ ap (λ (n : ℕ). (take i s ++ (get_or s i z ∷ [])) ++ drop (n + 1) d) e
     ∙ ap (λ (t : List A). t ++ drop (i + 1) d) (sym (take-suc s i z l) ∙ ap (λ (n : ℕ). take n s) (sym (add-one i)))
-
-pub fill_all : {A : Type 0} (d s : List A) → filled d s (length s) ≡ s ++ drop (length s) d
-fill_all {A} d s = ap (λ (t : List A). t ++ drop (length s) d) (take-length s)
 
 pub drop_replicate : {A : Type 0} (k n : ℕ) (a : A) → drop k (replicate n a) ≡ replicate (n - k) a
 drop_replicate zero n a = ap (λ (z : ℕ). replicate z a) (less n)

@@ -2,7 +2,7 @@
 -- nothing after an even number.
 use mathlib.Core.Path.{◌≡◌, refl, sym, ap, ◌∙◌, subst}
 use mathlib.Core.List.{List, [], ◌∷◌}
-use mathlib.Core.Option.{Option, none, some}
+use Rattle.std.specs.Prelude.{Option, None, Some}
 use Prim.Native.Nat.{ℕ, zero, suc, ◌+◌, ◌*◌, ◌/◌, ◌^◌, ◌≤◌, ◌<◌, min}
 use native.Mathlib.Nat.{pow-succ', mul_left_comm}
 use native.Mathlib.Omega.{arith}
@@ -18,7 +18,7 @@ use Rattle.half_band.specs.HbfStream.{Half, half, stage_in, with_stage, through,
 use Rattle.half_band.specs.declared.hbf_stream.HbfStream.{HbfStream}
 use Rattle.half_band.proofs.Blocks.{outs_length}
 use Rattle.half_band.proofs.WholeLists.{length_pairs, dec_made}
-use Rattle.half_band.proofs.StageTables.{FiveStages}
+use Rattle.half_band.specs.HbfTaps.{FiveStages}
 use Rattle.half_band.proofs.Stages.{Sized, stage, stages_from}
 use Rattle.half_band.proofs.Streaming.{half_pairs, view, state_view, depth_state, sized_state}
 
@@ -60,8 +60,8 @@ module _ {S A : Type 0} (stages : ℕ → Section S A A) where
   state_one k s ss (a ∷ v) = state_one k ((stages k).next s a) (stay (cascade_next stages (suc k) ss) ss ((stages k).out s a)) v ∙ ap (λ (l : List S). state (stages k) ((stages k).next s a) v ∷ l) (go ((stages k).out s a))
     where
       go : (o : Option A) → state (cascade stages (suc k)) (stay (cascade_next stages (suc k) ss) ss o) (outs (stages k) ((stages k).next s a) v) ≡ state (cascade stages (suc k)) ss (onto o (outs (stages k) ((stages k).next s a) v))
-      go none = refl
-      go (some b) = refl
+      go None = refl
+      go (Some b) = refl
 
 module _ (taps : ℕ → List Float) (five : FiveStages taps) where
   cascade_empty : (k : ℕ) (hs : List Half) (v : List Float) (q : ℕ) → AllEmpty hs → length v ≡ q * 2 ^ length hs → AllEmpty (state (cascade (stage taps five) k) hs v)
@@ -112,8 +112,8 @@ module _ (taps : ℕ → List Float) (five : FiveStages taps) where
       → (get_or (through taps n k o s).state.held j nan ≡ get_or s.held j nan) × (get_or (through taps n k o s).state.counts j 0 ≡ get_or s.counts j 0)
   unfolding through with_stage
   past_through zero k o s j h = (refl, refl)
-  past_through (suc n) k none s j h = (refl, refl)
-  past_through (suc n) k (some x) s j h =
+  past_through (suc n) k None s j h = (refl, refl)
+  past_through (suc n) k (Some x) s j h =
       let a : Half = (half (taps k)).next (stage_in taps k s) x in
       let q : j ≡ k → ⊥ = omega arith in
       let ih = past_through n (suc k) ((half (taps k)).out (stage_in taps k s) x) (with_stage taps k a s) j (omega arith) in
@@ -126,7 +126,7 @@ module _ (taps : ℕ → List Float) (five : FiveStages taps) where
   past_state s (x ∷ v) j h = go (past_state ((stream taps).next s x) v j (subst (λ (d : ℕ). d ≤ j) (sym (depth_state taps five s (x ∷ []))) h))
     where
       one : (get_or ((stream taps).next s x).held j nan ≡ get_or s.held j nan) × (get_or ((stream taps).next s x).counts j 0 ≡ get_or s.counts j 0)
-      one = past_through (min s.depth 5) 0 (some x) s j (omega arith)
+      one = past_through (min s.depth 5) 0 (Some x) s j (omega arith)
 
       go :
           (get_or (state (stream taps) ((stream taps).next s x) v).held j nan ≡ get_or ((stream taps).next s x).held j nan) × (get_or (state (stream taps) ((stream taps).next s x) v).counts j 0 ≡ get_or ((stream taps).next s x).counts j 0)

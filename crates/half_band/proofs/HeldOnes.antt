@@ -2,7 +2,7 @@
 use mathlib.Core.Path.{◌≡◌, refl, sym, ap, ◌∙◌, subst}
 use mathlib.Core.Bool.{Bool, true, false, cond, ◌&&◌, true≢false, false≢true}
 use mathlib.Core.List.{List, [], ◌∷◌}
-use mathlib.Core.Option.{Option, none, some}
+use Rattle.std.specs.Prelude.{Option, None, Some}
 use Prim.Native.Nat.{ℕ, zero, suc, ◌≤◌, ◌<◌, min}
 use native.Mathlib.Omega.{arith}
 use native.Mathlib.Decide.{dec_le, dec_lt}
@@ -15,12 +15,11 @@ use Rattle.refusal.proofs.Limits.{within, not_outside}
 use Rattle.theory.specs.Sections.{state, outs}
 use Rattle.float.specs.F32.{zero32}
 use Rattle.half_band.specs.HalfBand.{decimated_by}
-use Rattle.half_band.specs.HbfTaps.{stage_taps, decimation}
+use Rattle.half_band.specs.HbfTaps.{stage_taps, decimation, decimation_five}
 use Rattle.half_band.specs.Reach.{reach_of, Reaches}
 use Rattle.half_band.specs.Windows.{slid}
 use Rattle.half_band.specs.HbfStream.{Half, half, stage_in, with_stage, through, stream, hbf_stream, stream_fresh, held_fine, stream_refused, stream_refused_in_line, StreamMeets}
 use Rattle.half_band.specs.declared.hbf_stream.HbfStream.{HbfStream}
-use Rattle.half_band.proofs.StageTables.{dec_stages}
 use Rattle.half_band.proofs.Streaming.{depth_next, stream_whole}
 use Rattle.half_band.proofs.Reaching.{stream_reaches}
 
@@ -113,8 +112,8 @@ module _ (taps : ℕ → List Float) where
   through_most : (m n k : ℕ) (o : Option Float) (s : HbfStream) → AtMostOne m s.counts → AtMostOne m (through taps n k o s).state.counts
   unfolding through with_stage
   through_most m zero k o s a = a
-  through_most m (suc n) k none s a = a
-  through_most m (suc n) k (some x) s a =
+  through_most m (suc n) k None s a = a
+  through_most m (suc n) k (Some x) s a =
       through_most m n (suc k) ((half (taps k)).out (stage_in taps k s) x) (with_stage taps k ((half (taps k)).next (stage_in taps k s) x) s)
       (λ j h. set_most s.counts k ((half (taps k)).next (stage_in taps k s) x).count j (half_count (taps k) (stage_in taps k s) x) (a j h))
 
@@ -123,8 +122,8 @@ pub next_not_refused : (s : HbfStream) (x : Float) → stream_refused s.depth s.
 unfolding hbf_stream stream
 next_not_refused s x e =
     let f = refused_says s.depth s.counts e in
-    let d : (hbf_stream.next s x).depth ≡ s.depth = depth_next (stage_taps decimation) dec_stages s x in
-    let m : AtMostOne s.depth (hbf_stream.next s x).counts = through_most (stage_taps decimation) s.depth (min s.depth 5) 0 (some x) s f.held in
+    let d : (hbf_stream.next s x).depth ≡ s.depth = depth_next (stage_taps decimation) decimation_five s x in
+    let m : AtMostOne s.depth (hbf_stream.next s x).counts = through_most (stage_taps decimation) s.depth (min s.depth 5) 0 (Some x) s f.held in
     ap (λ (n : ℕ). stream_refused n (hbf_stream.next s x).counts) d
     ∙ not_refused s.depth (hbf_stream.next s x).counts (record { some = f.some; few = f.few; held = m })
 
@@ -143,11 +142,11 @@ line_fresh_not_refused d h = line_not_refused d (replicate 5 0) (λ p. fresh_not
 -- the outputs of any list, of no stages the list itself
 pub fresh_whole : (d : ℕ) → d ≤ 5 → (v : List Float) → outs hbf_stream (stream_fresh d) v ≡ decimated_by (stage_taps decimation) 0 d v
 unfolding hbf_stream
-fresh_whole d h v = stream_whole (stage_taps decimation) dec_stages d h v
+fresh_whole d h v = stream_whole (stage_taps decimation) decimation_five d h v
 
 fresh_reach : (d : ℕ) → d ≤ 5 → Reaches (reach_of (stage_taps decimation) d) d (outs hbf_stream (stream_fresh d))
 unfolding hbf_stream
-fresh_reach d h = stream_reaches (stage_taps decimation) dec_stages d h
+fresh_reach d h = stream_reaches (stage_taps decimation) decimation_five d h
 
 pub stream_meets : (d : ℕ) → 1 ≤ d → d ≤ 5 → StreamMeets d (stream_fresh d)
 stream_meets d p h =
@@ -163,14 +162,10 @@ unfolding stream_refused
 too_many d k counts h l m =
     ap (λ (b : Bool). cond b true (cond (held_fine d counts) false true)) h ∙ ap (λ (b : Bool). cond b false true) (held_not d k counts l m)
 
--- a cascade of no stages hands its samples on, and stays as it is
-pub off_out : (s : HbfStream) (x : Float) → s.depth ≡ 0 → hbf_stream.out s x ≡ some x
-unfolding hbf_stream stream through
-off_out s x e = ap (λ (n : ℕ). (through (stage_taps decimation) n 0 (some x) s).out) (ap (λ (d : ℕ). min d 5) e)
-
+-- a cascade of no stages stays as it is
 pub off_next : (s : HbfStream) (x : Float) → s.depth ≡ 0 → hbf_stream.next s x ≡ s
 unfolding hbf_stream stream through
-off_next s x e = ap (λ (n : ℕ). (through (stage_taps decimation) n 0 (some x) s).state) (ap (λ (d : ℕ). min d 5) e)
+off_next s x e = ap (λ (n : ℕ). (through (stage_taps decimation) n 0 (Some x) s).state) (ap (λ (d : ℕ). min d 5) e)
 
 -- in the line every sample keeps a state from being refused
 pub line_next_not_refused :

@@ -1,10 +1,11 @@
 -- A cascade of interpolators on flat delays runs as its stages on windows of their own; so blocks one after the other make what their samples joined make,
 -- and from windows of zeros that is section 7's list.
+use Rattle.std.specs.Prelude.{Ok}
 use mathlib.Core.Path.{◌≡◌, refl, sym, ap, ◌∙◌, subst}
 use mathlib.Core.Bool.{false}
 use mathlib.Core.List.{List, [], ◌∷◌, ◌++◌}
 use Prim.Native.Nat.{ℕ, zero, suc, ◌+◌, ◌-◌, ◌*◌, ◌^◌, ◌≤◌, ◌<◌, min}
-use native.Mathlib.Nat.{mul_assoc, mul_left_comm, pow-succ', pow-zero, mul-one}
+use native.Mathlib.Nat.{mul_assoc, mul_left_comm, pow-succ', pow-zero, mul-one, mul_comm}
 use native.Mathlib.Numerals.{add-one}
 use native.Mathlib.Omega.{arith}
 use lib.Pow.{pow_pos}
@@ -13,12 +14,11 @@ use lib.Seq.{drop-append-add, length-take-le}
 use lib.Ieee.{Float}
 use Rattle.theory.specs.Sections.{Section, state, outs}
 use Rattle.theory.proofs.Sections.{outs_append, state_keeps}
-use Rattle.refusal.specs.declared.Count.TheVariants.{Written}
-use Rattle.half_band.specs.Answers.{told_count}
+use Rattle.refusal.specs.Outcome.{told_on}
 use Rattle.refusal.specs.Rows.{samples_refused}
 use Rattle.half_band.specs.HalfBand.{flat, interpolated, interpolated_by}
 use Rattle.float.specs.F32.{zero32}
-use Rattle.half_band.specs.HbfTaps.{stage_taps, interpolation}
+use Rattle.half_band.specs.HbfTaps.{stage_taps, interpolation, FiveStages, interpolation_five}
 use Rattle.half_band.specs.Windows.{slid, int_value, interpolator, spliced}
 use Rattle.half_band.specs.HbfIntCascade.{Upsampled, int_stage, upsampled, int_cascade_run, int_cascade_after, int_cascade_fresh, int_cascade_refused, int_cascade_count, int_cascade_block, int_cascade_span, joined, int_cascade_left, int_cascade_blocks, IntCascadeMeets}
 use Rattle.half_band.specs.declared.hbf_int_cascade.HbfIntCascade.{HbfIntCascade}
@@ -28,7 +28,6 @@ use Rattle.half_band.proofs.Blocks.{outs_length}
 use Rattle.half_band.proofs.Filling.{drop_replicate, take_replicate}
 use Rattle.half_band.proofs.Moving.{length_slid}
 use Rattle.half_band.proofs.Parts.{part_long, part_found, part_elsewhere, length_with}
-use Rattle.half_band.proofs.StageTables.{FiveStages, int_stages, fewer}
 use Rattle.half_band.proofs.WholeLists.{interpolator_whole}
 
 -- ---- two outputs of each sample
@@ -244,14 +243,14 @@ run_of s v h = ap (λ (n : ℕ). upsampled (stage_taps interpolation) n 0 s.dela
 
 blocks_joined : (s : HbfIntCascade) (vs : List (List Float)) → s.depth ≤ 5 → length s.delays ≡ 240 → int_cascade_blocks s vs ≡ (int_cascade_run s (joined vs)).outs
 unfolding int_cascade_blocks
-blocks_joined s [] h l = sym (ap (λ (r : Upsampled). r.outs) (run_of s [] h) ∙ run_nothing (stage_taps interpolation) int_stages s.depth s.delays h l)
+blocks_joined s [] h l = sym (ap (λ (r : Upsampled). r.outs) (run_of s [] h) ∙ run_nothing (stage_taps interpolation) interpolation_five s.depth s.delays h l)
 blocks_joined s (v ∷ vs) h l =
     let t : HbfIntCascade = int_cascade_after s v in
     let e : int_cascade_run s v ≡ upsampled (stage_taps interpolation) s.depth 0 s.delays v = run_of s v h in
-    let long : length t.delays ≡ 240 = ap (λ (r : Upsampled). length r.delays) e ∙ up_long (stage_taps interpolation) int_stages s.depth 0 s.delays v (omega arith) l in
+    let long : length t.delays ≡ 240 = ap (λ (r : Upsampled). length r.delays) e ∙ up_long (stage_taps interpolation) interpolation_five s.depth 0 s.delays v (omega arith) l in
     ap (λ (b : List Float). (int_cascade_run s v).outs ++ b) (blocks_joined t vs h long ∙ ap (λ (r : Upsampled). r.outs) (run_of t (joined vs) h))
     ∙ ap (λ (r : Upsampled). r.outs ++ (upsampled (stage_taps interpolation) s.depth 0 r.delays (joined vs)).outs) e
-    ∙ sym (run_joined (stage_taps interpolation) int_stages s.depth s.delays v (joined vs) h l)
+    ∙ sym (run_joined (stage_taps interpolation) interpolation_five s.depth s.delays v (joined vs) h l)
     ∙ ap (λ (r : Upsampled). r.outs) (sym (run_of s (v ++ joined vs) h))
 
 -- blocks leave the depth as it is, and nothing else is looked at
@@ -267,18 +266,18 @@ fresh_meets d b =
       whole = λ vs.
           blocks_joined (int_cascade_fresh d) vs b.most (length-replicate 240 zero32)
           ∙ ap (λ (r : Upsampled). r.outs) (run_of (int_cascade_fresh d) (joined vs) b.most)
-          ∙ run_whole (stage_taps interpolation) int_stages d (joined vs) b.most;
+          ∙ run_whole (stage_taps interpolation) interpolation_five d (joined vs) b.most;
     }
 
 -- a block of n samples that is not refused
 module _ (s : HbfIntCascade) (v span : List Float) (n c : ℕ) (fine : int_cascade_refused s ≡ false) (in_limits_lem : samples_refused (length v) (length span) ≡ false)
     (deep : s.depth ≤ 5) (count : n ≡ int_cascade_count s.depth (length v) (length span)) (places : c ≡ n * 2 ^ s.depth) where
   pub block_answer_lem : (d : List Float) → d ≡ (upsampled (stage_taps interpolation) s.depth 0 s.delays (take n v)).delays
-      → told_count {S = HbfIntCascade} (Written c) (record { depth = s.depth; delays = d }) ≡ int_cascade_block s v (length span)
+      → told_on {S = HbfIntCascade} 0 (Ok c) (record { depth = s.depth; delays = d }) ≡ int_cascade_block s v (length span)
   block_answer_lem d e =
-      ap (λ (l : List Float). told_count {S = HbfIntCascade} (Written c) (record { depth = s.depth; delays = l })) (e ∙ ap (λ (r : Upsampled). r.delays) (sym (run_of s (take n v) deep)))
-      ∙ ap (λ (k : ℕ). told_count (Written k) (int_cascade_after s (take n v))) places
-      ∙ ap (λ (k : ℕ). told_count (Written (k * 2 ^ s.depth)) (int_cascade_after s (take k v))) count
+      ap (λ (l : List Float). told_on {S = HbfIntCascade} 0 (Ok c) (record { depth = s.depth; delays = l })) (e ∙ ap (λ (r : Upsampled). r.delays) (sym (run_of s (take n v) deep)))
+      ∙ ap (λ (k : ℕ). told_on 0 (Ok k) (int_cascade_after s (take n v))) places
+      ∙ ap (λ (k : ℕ). told_on 0 (Ok (k * 2 ^ s.depth)) (int_cascade_after s (take k v))) count
       ∙ third _ _ _ _ _ fine in_limits_lem
 
   pub block_span_lem : (t : List Float) → t ≡ (upsampled (stage_taps interpolation) s.depth 0 s.delays (take n v)).outs → t ++ drop c span ≡ int_cascade_span s v span
@@ -297,56 +296,19 @@ pub record Growing (want : Upsampled) (depth L : ℕ) (delays span : List Float)
   pub long : length delays ≡ 240
   pub rest : upsampled (stage_taps interpolation) (depth - k) k delays (drop (L - n) span) ≡ want
 
--- the samples stand at the end
-pub grow_start : (depth : ℕ) (delays span src t : List Float) → length span ≡ length src * 2 ^ depth → length delays ≡ 240 → t ≡ take (length span - length src) span ++ src
-    → Growing (upsampled (stage_taps interpolation) depth 0 delays src) depth (length t) delays t (length src) 0
-grow_start depth delays span src t e l p =
-    record {
-      deep = omega arith;
-      filled = ap (λ (k : ℕ). length src * 2 ^ k) less ∙ sym (long_as ∙ e);
-      room = omega (arith, fits, long_as);
-      same = refl;
-      long = l;
-      rest = ap (λ (k : ℕ). upsampled (stage_taps interpolation) k 0 delays (drop (length t - length src) t)) less ∙ ap (upsampled (stage_taps interpolation) depth 0 delays) found;
-    }
-  where
-    fits : length src ≤ length span
-    fits = fewer (length src) (length span) depth e
-
-    less : depth - 0 ≡ depth
-    less = omega arith
-
-    front : length (take (length span - length src) span) ≡ length span - length src
-    front = length-take-le (length span - length src) span (omega arith)
-
-    long_as : length t ≡ length span
-    long_as = ap length p ∙ length-append (take (length span - length src) span) src ∙ ap (λ (k : ℕ). k + length src) front ∙ back (length span) (length src) fits
-      where
-        back : (a b : ℕ) → b ≤ a → a - b + b ≡ a
-        back a b h = omega arith
-
-    found : drop (length t - length src) t ≡ src
-    found =
-        ap (λ (k : ℕ). drop k t) place
-        ∙ ap (drop (length (take (length span - length src) span) + 0)) p
-        ∙ drop-append-add (take (length span - length src) span) src 0
-      where
-        place : length t - length src ≡ length (take (length span - length src) span) + 0
-        place = omega (arith, long_as, front)
-
 -- one stage
-pub grow_next : (want : Upsampled) (depth L : ℕ) (delays span : List Float) (n k : ℕ) → depth ≤ 5 → Growing want depth L delays span n k → k < depth
+stage_more : (want : Upsampled) (depth L : ℕ) (delays span : List Float) (n k : ℕ) → depth ≤ 5 → Growing want depth L delays span n k → k < depth
     → (d t : List Float)
     → d ≡ spliced (48 * k) (2 * length (stage_taps interpolation k)) (state (interpolator (stage_taps interpolation k)) (int_stage (stage_taps interpolation) k delays) (drop (length span - n) span)) delays
     → t ≡ take (length span - 2 * n) span ++ flat (outs (interpolator (stage_taps interpolation k)) (int_stage (stage_taps interpolation) k delays) (drop (length span - n) span))
     → Growing want depth L d t (2 * n) (k + 1)
-grow_next want depth L delays span n k five g h d t ed et =
+stage_more want depth L delays span n k five g h d t ed et =
     record {
       deep = omega arith;
       filled = more.0;
       room = more.1;
       same = long_as;
-      long = ap length ed ∙ stepped_long (stage_taps interpolation) int_stages k delays v (omega arith) g.long;
+      long = ap length ed ∙ stepped_long (stage_taps interpolation) interpolation_five k delays v (omega arith) g.long;
       rest =
           sym (stage_on (stage_taps interpolation) depth k delays (drop (L - n) span) h d (drop (L - 2 * n) t) (ed ∙ ap (λ (m : ℕ). spliced (48 * k) (2 * length (stage_taps interpolation k)) (state i w (drop (m - n) span)) delays) g.same)
           (found ∙ ap (λ (m : ℕ). flat (outs i w (drop (m - n) span))) g.same))
@@ -385,6 +347,15 @@ grow_next want depth L delays span n k five g h d t ed et =
       where
         place : L - 2 * n ≡ length (take (length span - 2 * n) span) + 0
         place = omega (arith, g.same, front)
+
+-- the code's product has its factors the other way round
+pub grow_next : (want : Upsampled) (depth L : ℕ) (delays span : List Float) (n k : ℕ) → depth ≤ 5 → Growing want depth L delays span n k → k < depth
+    → (d t : List Float)
+    → d ≡ spliced (48 * k) (2 * length (stage_taps interpolation k)) (state (interpolator (stage_taps interpolation k)) (int_stage (stage_taps interpolation) k delays) (drop (length span - n) span)) delays
+    → t ≡ take (length span - 2 * n) span ++ flat (outs (interpolator (stage_taps interpolation k)) (int_stage (stage_taps interpolation) k delays) (drop (length span - n) span))
+    → Growing want depth L d t (n * 2) (k + 1)
+grow_next want depth L delays span n k five g h d t ed et =
+    subst (λ (m : ℕ). Growing want depth L d t m (k + 1)) (mul_comm 2 n) (stage_more want depth L delays span n k five g h d t ed et)
 
 -- all stages
 pub grow_end : (want : Upsampled) (depth L : ℕ) (delays span : List Float) (n k : ℕ) → Growing want depth L delays span n k → depth ≤ k → (delays ≡ want.delays) × (span ≡ want.outs)

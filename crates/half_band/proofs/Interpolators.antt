@@ -1,4 +1,5 @@
 -- `HbfInt` runs as the interpolator on windows; so its blocks are those of the definition, and its opening makes section 7's list.
+use Rattle.std.specs.Prelude.{Ok}
 use mathlib.Core.Path.{◌≡◌, refl, sym, ap, ◌∙◌}
 use mathlib.Core.Bool.{false}
 use mathlib.Core.List.{List, [], ◌∷◌, ◌++◌}
@@ -8,9 +9,8 @@ use lib.ListN.{length, take, drop, replicate}
 use lib.Seq.{take_at}
 use lib.Ieee.{Float}
 use Rattle.theory.specs.Sections.{state, outs}
-use Rattle.refusal.specs.declared.Count.TheVariants.{Written}
 use Rattle.refusal.specs.Rows.{samples_refused}
-use Rattle.half_band.specs.Answers.{told_count}
+use Rattle.refusal.specs.Outcome.{told_on}
 use Rattle.half_band.specs.HalfBand.{flat}
 use Rattle.float.specs.F32.{zero32}
 use Rattle.half_band.specs.Windows.{interpolator}
@@ -54,11 +54,11 @@ module _ (d : HbfInt) (u : Usable d) where
 
   -- a block of n samples that is not refused
   module _ (v span : List Float) (n : ℕ) (fine : int_refused d ≡ false) (in_limits_lem : samples_refused (length v) (length span) ≡ false) (count : n ≡ min (length v) (length span / 2)) where
-    pub block_answer_lem : (w : List Float) → w ≡ state (interpolator (int_taps d)) (int_window d) (take n v) → told_count (Written (2 * n)) (with_int_window d w) ≡ int_block d v (length span)
+    pub block_answer_lem : (w : List Float) → w ≡ state (interpolator (int_taps d)) (int_window d) (take n v) → told_on 0 (Ok (2 * n)) (with_int_window d w) ≡ int_block d v (length span)
     block_answer_lem w e =
-        ap (λ (t : List Float). told_count (Written (2 * n)) (with_int_window d t)) e
-        ∙ ap (λ (t : HbfInt). told_count (Written (2 * n)) t) (sym (state_window (take n v)))
-        ∙ ap (λ (k : ℕ). told_count (Written (2 * k)) (state hbf_int d (take k v))) count
+        ap (λ (t : List Float). told_on 0 (Ok (2 * n)) (with_int_window d t)) e
+        ∙ ap (λ (t : HbfInt). told_on 0 (Ok (2 * n)) t) (sym (state_window (take n v)))
+        ∙ ap (λ (k : ℕ). told_on 0 (Ok (2 * k)) (state hbf_int d (take k v))) count
         ∙ third _ _ _ _ _ fine in_limits_lem
 
     pub block_span_lem : (t : List Float) → t ≡ flat (outs (interpolator (int_taps d)) (int_window d) (take n v)) ++ drop (2 * n) span → t ≡ int_span d v span

@@ -4,7 +4,6 @@ pub mod StageTables
 pub mod Choices
 pub mod Filling
 pub mod Moving
-pub mod Folding
 pub mod Sliding
 pub mod Earlier
 pub mod WholeLists
@@ -22,7 +21,6 @@ pub mod Stages
 pub mod Streaming
 pub mod Equality
 pub mod Reaching
-pub mod ReachTables
 pub mod HeldOnes
 pub mod Frames
 pub mod StageRuns

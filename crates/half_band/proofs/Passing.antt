@@ -2,7 +2,7 @@
 use mathlib.Core.Path.{◌≡◌, refl, sym, ap, ◌∙◌}
 use mathlib.Core.Bool.{Bool, true, false, cond}
 use mathlib.Core.List.{List, [], ◌∷◌}
-use mathlib.Core.Option.{none, some}
+use Rattle.std.specs.Prelude.{None, Some}
 use Prim.Native.Nat.{ℕ, zero, suc, ◌+◌, ◌-◌, ◌*◌, ◌≤◌, ◌<◌}
 use native.Mathlib.Numerals.{add-one}
 use native.Mathlib.Omega.{arith}
@@ -17,7 +17,7 @@ use Rattle.half_band.specs.declared.hbf_stream.HbfStream.{HbfStream}
 use Rattle.half_band.proofs.Splicing.{splice_same}
 
 module _ (taps : ℕ → List Float) where
-  pub none_through : (n k : ℕ) (s : HbfStream) → through taps n k none s ≡ record { out = none; state = s }
+  pub none_through : (n k : ℕ) (s : HbfStream) → through taps n k None s ≡ record { out = None; state = s }
   unfolding through
   none_through zero k s = refl
   none_through (suc n) k s = refl
@@ -38,35 +38,35 @@ module _ (taps : ℕ → List Float) where
 
     -- by whether stage k holds nothing
     stage_by : (b : Bool) → eqb (get_or s.counts k 0) 0 ≡ b
-        → through taps (n - k) k (some x) s ≡ through taps (n - (k + 1)) (suc k) (cond b none (some (dec_value (taps k) window))) (with_stage taps k (cond b first second) s)
+        → through taps (n - k) k (Some x) s ≡ through taps (n - (k + 1)) (suc k) (cond b None (Some (dec_value (taps k) window))) (with_stage taps k (cond b first second) s)
     unfolding through half stage_in
     stage_by b e =
-        ap (λ (m : ℕ). through taps m k (some x) s) less
-        ∙ ap (λ (c : Bool). through taps (n - (k + 1)) (suc k) (cond c none (some (dec_value (taps k) window))) (with_stage taps k (cond c first second) s)) e
+        ap (λ (m : ℕ). through taps m k (Some x) s) less
+        ∙ ap (λ (c : Bool). through taps (n - (k + 1)) (suc k) (cond c None (Some (dec_value (taps k) window))) (with_stage taps k (cond c first second) s)) e
 
     -- it holds nothing: it keeps the value
     pub kept : get_or s.counts k 0 ≡ 0
-        → through taps (n - k) k (some x) s ≡ record { out = none; state = stream_of s.depth s.delays (set s.held k x) (set s.counts k 1) }
+        → through taps (n - k) k (Some x) s ≡ record { out = None; state = stream_of s.depth s.delays (set s.held k x) (set s.counts k 1) }
     unfolding with_stage
     kept e =
         stage_by true (eq-eqb _ _ e)
         ∙ none_through (n - (k + 1)) (suc k) (with_stage taps k first s)
-        ∙ ap {B = Passed} (λ (d : List Float). record { out = none; state = stream_of s.depth d (set s.held k x) (set s.counts k 1) }) (splice_same (96 * k) (4 * length (taps k)) s.delays)
+        ∙ ap {B = Passed} (λ (d : List Float). record { out = None; state = stream_of s.depth d (set s.held k x) (set s.counts k 1) }) (splice_same (96 * k) (4 * length (taps k)) s.delays)
 
     -- it holds one: the pair makes a value for the stages behind it
     pub paired : (get_or s.counts k 0 ≡ 0 → ⊥) → (y : Float) (d : List Float) → y ≡ dec_value (taps k) window → d ≡ spliced (96 * k) (4 * length (taps k)) window s.delays
-        → through taps (n - k) k (some x) s ≡ through taps (n - (k + 1)) (k + 1) (some y) (stream_of s.depth d (set s.held k zero32) (set s.counts k 0))
+        → through taps (n - k) k (Some x) s ≡ through taps (n - (k + 1)) (k + 1) (Some y) (stream_of s.depth d (set s.held k zero32) (set s.counts k 0))
     unfolding with_stage
     paired e y d ey ed =
         stage_by false (ne_eqb _ _ e)
-        ∙ ap (λ (z : Float). through taps (n - (k + 1)) (suc k) (some z) (with_stage taps k second s)) (sym ey)
-        ∙ ap (λ (z : List Float). through taps (n - (k + 1)) (suc k) (some y) (stream_of s.depth z (set s.held k zero32) (set s.counts k 0))) (sym ed)
-        ∙ ap (λ (j : ℕ). through taps (n - (k + 1)) j (some y) (stream_of s.depth d (set s.held k zero32) (set s.counts k 0))) (sym (add-one k))
+        ∙ ap (λ (z : Float). through taps (n - (k + 1)) (suc k) (Some z) (with_stage taps k second s)) (sym ey)
+        ∙ ap (λ (z : List Float). through taps (n - (k + 1)) (suc k) (Some y) (stream_of s.depth z (set s.held k zero32) (set s.counts k 0))) (sym ed)
+        ∙ ap (λ (j : ℕ). through taps (n - (k + 1)) j (Some y) (stream_of s.depth d (set s.held k zero32) (set s.counts k 0))) (sym (add-one k))
 
   -- no stage is left
-  pub ended : (n k : ℕ) (x : Float) (s : HbfStream) → n ≤ k → through taps (n - k) k (some x) s ≡ record { out = some x; state = s }
+  pub ended : (n k : ℕ) (x : Float) (s : HbfStream) → n ≤ k → through taps (n - k) k (Some x) s ≡ record { out = Some x; state = s }
   unfolding through
-  ended n k x s h = ap (λ (m : ℕ). through taps m k (some x) s) none_left
+  ended n k x s h = ap (λ (m : ℕ). through taps m k (Some x) s) none_left
     where
       none_left : n - k ≡ 0
       none_left = omega arith

@@ -2,7 +2,7 @@
 -- pairs, and holds nothing again.
 use mathlib.Core.Path.{◌≡◌, refl, sym, ap, ◌∙◌}
 use mathlib.Core.List.{List, [], ◌∷◌}
-use mathlib.Core.Option.{some}
+use Rattle.std.specs.Prelude.{Some}
 use Prim.Native.Nat.{ℕ, ◌+◌, ◌-◌, ◌*◌, ◌%◌, ◌≤◌, ◌<◌, min}
 use native.Mathlib.Omega.{arith}
 use lib.ListN.{length, get_or, set, take, drop}
@@ -16,7 +16,7 @@ use Rattle.half_band.specs.HbfStream.{Half, half, Passed, stage_in, with_stage, 
 use Rattle.half_band.specs.declared.hbf_stream.HbfStream.{HbfStream}
 use Rattle.half_band.proofs.Moving.{length_slid}
 use Rattle.half_band.proofs.Parts.{part_long, length_with}
-use Rattle.half_band.proofs.StageTables.{FiveStages}
+use Rattle.half_band.specs.HbfTaps.{FiveStages}
 use Rattle.half_band.proofs.Passing.{ended}
 use Rattle.half_band.proofs.Stages.{Sized}
 use Rattle.half_band.proofs.Streaming.{depth_next, half_pairs}
@@ -126,8 +126,8 @@ module _ (taps : ℕ → List Float) (five : FiveStages taps) where
   stages_all N s [] e = (refl, refl)
   stages_all N s (x ∷ v) e =
       let ih = stages_all N ((stream taps).next s x) v (ap (λ (d : ℕ). min d 5) (depth_next taps five s x) ∙ e) in (
-        ap (λ (m : ℕ). state (stages_on taps five N 0) (through taps m 0 (some x) s).state v) (sym e) ∙ ih.0,
-        ap (λ (m : ℕ). onto (through taps m 0 (some x) s).out (outs (stages_on taps five N 0) (through taps m 0 (some x) s).state v)) (sym e) ∙ ap (onto ((stream taps).out s x)) ih.1,
+        ap (λ (m : ℕ). state (stages_on taps five N 0) (through taps m 0 (Some x) s).state v) (sym e) ∙ ih.0,
+        ap (λ (m : ℕ). onto (through taps m 0 (Some x) s).out (outs (stages_on taps five N 0) (through taps m 0 (Some x) s).state v)) (sym e) ∙ ap (onto ((stream taps).out s x)) ih.1,
       )
 
   pub stages_none : (N k : ℕ) (s : HbfStream) (v : List Float) → N ≤ k → (state (stages_on taps five (N - k) k) s v ≡ s) × (outs (stages_on taps five (N - k) k) s v ≡ v)

@@ -2,7 +2,7 @@
 -- after all that it makes of the list.
 use mathlib.Core.Path.{◌≡◌, refl, sym, ap, ◌∙◌}
 use mathlib.Core.List.{List, [], ◌∷◌}
-use mathlib.Core.Option.{Option, none, some}
+use Rattle.std.specs.Prelude.{Option, None, Some}
 use Prim.Native.Nat.{ℕ, zero, suc, ◌+◌, ◌-◌, ◌*◌, ◌≤◌, ◌<◌}
 use native.Mathlib.Numerals.{add-one}
 use native.Mathlib.Omega.{arith}
@@ -14,14 +14,14 @@ use Rattle.theory.proofs.Sections.{state_keeps}
 use Rattle.half_band.specs.HbfStream.{Half, half, Passed, stage_in, with_stage, through, stream_of}
 use Rattle.half_band.specs.declared.hbf_stream.HbfStream.{HbfStream}
 use Rattle.half_band.proofs.Splicing.{splice_same, splice_again, splice_order}
-use Rattle.half_band.proofs.StageTables.{FiveStages}
+use Rattle.half_band.specs.HbfTaps.{FiveStages}
 use Rattle.half_band.proofs.Passing.{none_through}
 use Rattle.half_band.proofs.Stages.{Sized, half_long, window_long, found, sized_with, elsewhere, sized_through, before_through}
 
 module _ (taps : ℕ → List Float) (five : FiveStages taps) where
   -- n stages from stage k on
   abbrev pub stages_on : ℕ → ℕ → Section HbfStream Float Float
-  stages_on n k = record { next = λ s x. (through taps n k (some x) s).state; out = λ s x. (through taps n k (some x) s).out }
+  stages_on n k = record { next = λ s x. (through taps n k (Some x) s).state; out = λ s x. (through taps n k (Some x) s).out }
 
   fits : (k : ℕ) → k < 5 → 4 * length (taps k) ≤ 96
   fits k h = omega (arith, five.most k h)
@@ -63,13 +63,13 @@ module _ (taps : ℕ → List Float) (five : FiveStages taps) where
         → through taps n j o (with_stage taps k h s) ≡ record { out = (through taps n j o s).out; state = with_stage taps k h (through taps n j o s).state }
     unfolding through
     unseen zero j o s l b z = refl
-    unseen (suc n) j none s l b z = refl
-    unseen (suc n) j (some x) s l b z =
+    unseen (suc n) j None s l b z = refl
+    unseen (suc n) j (Some x) s l b z =
         let other : j ≡ k → ⊥ = omega arith in
         ap (λ (g : Half). through taps n (suc j) ((half (taps j)).out g x) (with_stage taps j ((half (taps j)).next g x) (with_stage taps k h s))) (elsewhere taps five k h s in_range z long j (omega arith) other)
         ∙ ap (through taps n (suc j) ((half (taps j)).out (stage_in taps j s) x)) (with_order j ((half (taps j)).next (stage_in taps j s) x) s l (omega arith) z)
         ∙ unseen n (suc j) ((half (taps j)).out (stage_in taps j s) x) (with_stage taps j ((half (taps j)).next (stage_in taps j s) x) s) (omega arith) (omega arith)
-        (sized_through taps five 1 j (some x) s (omega arith) z)
+        (sized_through taps five 1 j (Some x) s (omega arith) z)
 
   -- a stage keeps its window's length
   pub kept_long : (k : ℕ) → k < 5 → (h : Half) (v : List Float) → length h.window ≡ 4 * length (taps k) → length (state (half (taps k)) h v).window ≡ 4 * length (taps k)
@@ -111,9 +111,9 @@ module _ (taps : ℕ → List Float) (five : FiveStages taps) where
       abbrev passed : Passed
       passed = through taps (N - (k + 1)) (k + 1) made (with_stage taps k after s)
 
-      step_is : through taps (N - k) k (some x) s ≡ passed
+      step_is : through taps (N - k) k (Some x) s ≡ passed
       unfolding through
-      step_is = ap (λ (m : ℕ). through taps m k (some x) s) less ∙ ap (λ (j : ℕ). through taps (N - (k + 1)) j made (with_stage taps k after s)) (sym (add-one k))
+      step_is = ap (λ (m : ℕ). through taps m k (Some x) s) less ∙ ap (λ (j : ℕ). through taps (N - (k + 1)) j made (with_stage taps k after s)) (sym (add-one k))
         where
           less : N - k ≡ suc (N - (k + 1))
           less = omega arith
@@ -145,13 +145,13 @@ module _ (taps : ℕ → List Float) (five : FiveStages taps) where
             ∙ unseen k last under (kept_long k under after v after_long_lem) (N - (k + 1)) (k + 1) made (with_stage taps k after s) (omega arith) (omega arith) sized_after
 
         state_on : (o : Option Float) (t : HbfStream) → state behind (through taps (N - (k + 1)) (k + 1) o t).state more ≡ state behind t (onto o more)
-        state_on none t = ap (λ (p : Passed). state behind p.state more) (none_through taps (N - (k + 1)) (k + 1) t)
-        state_on (some y) t = refl
+        state_on None t = ap (λ (p : Passed). state behind p.state more) (none_through taps (N - (k + 1)) (k + 1) t)
+        state_on (Some y) t = refl
 
         outs_on : (o : Option Float) (t : HbfStream)
             → onto (through taps (N - (k + 1)) (k + 1) o t).out (outs behind (through taps (N - (k + 1)) (k + 1) o t).state more) ≡ outs behind t (onto o more)
-        outs_on none t = ap (λ (p : Passed). onto p.out (outs behind p.state more)) (none_through taps (N - (k + 1)) (k + 1) t)
-        outs_on (some y) t = refl
+        outs_on None t = ap (λ (p : Passed). onto p.out (outs behind p.state more)) (none_through taps (N - (k + 1)) (k + 1) t)
+        outs_on (Some y) t = refl
 
         by_stage_more : ByStage s (x ∷ v)
         by_stage_more = (

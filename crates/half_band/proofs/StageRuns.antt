@@ -3,7 +3,7 @@
 use mathlib.Core.Path.{◌≡◌, refl, sym, ap, ◌∙◌}
 use mathlib.Core.Bool.{Bool, cond}
 use mathlib.Core.List.{List, [], ◌∷◌, ◌++◌}
-use mathlib.Core.Option.{Option, none, some}
+use Rattle.std.specs.Prelude.{Option, None, Some}
 use Prim.Native.Nat.{ℕ, zero, suc, ◌+◌, ◌-◌, ◌*◌, ◌/◌, ◌%◌, ◌≤◌, min}
 use native.Mathlib.Omega.{arith}
 use borrow.Author.Tests.{ne_eqb}
@@ -113,9 +113,9 @@ module _ (c w : List Float) (y : Float) where
     pair_next =
         ap {B = Half} (λ (b : Bool). cond b (record { window = w; held = x; count = 1 }) (record { window = slid w (y ∷ x ∷ []); held = zero32; count = 0 })) (ne_eqb (suc n) 0 holds)
 
-    pair_out : (half c).out (with_count (suc n)) x ≡ some (dec_value c (slid w (y ∷ x ∷ [])))
+    pair_out : (half c).out (with_count (suc n)) x ≡ Some (dec_value c (slid w (y ∷ x ∷ [])))
     unfolding half
-    pair_out = ap (λ (b : Bool). cond b none (some (dec_value c (slid w (y ∷ x ∷ []))))) (ne_eqb (suc n) 0 holds)
+    pair_out = ap (λ (b : Bool). cond b None (Some (dec_value c (slid w (y ∷ x ∷ []))))) (ne_eqb (suc n) 0 holds)
 
   no_one : 0 ≡ min 0 1
   no_one = omega arith

@@ -3,7 +3,7 @@
 use mathlib.Core.Path.{◌≡◌, refl, ap, ◌∙◌}
 use mathlib.Core.Bool.{Bool, true, false, cond}
 use mathlib.Core.List.{List, [], ◌∷◌}
-use mathlib.Core.Option.{Option, none, some}
+use Rattle.std.specs.Prelude.{Option, None, Some}
 use Prim.Native.Nat.{ℕ, zero, suc, ◌+◌, ◌*◌, ◌≤◌, ◌<◌}
 use native.Mathlib.Omega.{arith}
 use lib.Dec.{eqb}
@@ -18,7 +18,7 @@ use Rattle.half_band.specs.HbfStream.{Half, half, Passed, stage_in, with_stage, 
 use Rattle.half_band.specs.declared.hbf_stream.HbfStream.{HbfStream}
 use Rattle.half_band.proofs.Moving.{length_slid}
 use Rattle.half_band.proofs.Parts.{part_long, part_found, part_elsewhere, length_with}
-use Rattle.half_band.proofs.StageTables.{FiveStages}
+use Rattle.half_band.specs.HbfTaps.{FiveStages}
 use Rattle.half_band.proofs.Passing.{none_through}
 
 -- the arrays as long as their types say
@@ -116,28 +116,28 @@ module _ (taps : ℕ → List Float) (five : FiveStages taps) where
   pub sized_through : (n k : ℕ) (o : Option Float) (s : HbfStream) → k + n ≤ 5 → Sized s → Sized (through taps n k o s).state
   unfolding through
   sized_through zero k o s h z = z
-  sized_through (suc n) k none s h z = z
-  sized_through (suc n) k (some x) s h z =
+  sized_through (suc n) k None s h z = z
+  sized_through (suc n) k (Some x) s h z =
       sized_through n (suc k) ((half (taps k)).out (stage_in taps k s) x) (stepped k x s (omega arith) z) (omega arith) (sized_stepped k x s (omega arith) z)
 
   pub depth_through : (n k : ℕ) (o : Option Float) (s : HbfStream) → (through taps n k o s).state.depth ≡ s.depth
   unfolding through with_stage
   depth_through zero k o s = refl
-  depth_through (suc n) k none s = refl
-  depth_through (suc n) k (some x) s = depth_through n (suc k) ((half (taps k)).out (stage_in taps k s) x) (with_stage taps k ((half (taps k)).next (stage_in taps k s) x) s)
+  depth_through (suc n) k None s = refl
+  depth_through (suc n) k (Some x) s = depth_through n (suc k) ((half (taps k)).out (stage_in taps k s) x) (with_stage taps k ((half (taps k)).next (stage_in taps k s) x) s)
 
   -- a stage before k is as it was
   pub before_through : (n k : ℕ) (o : Option Float) (s : HbfStream) → k + n ≤ 5 → Sized s → (j : ℕ) → j < k → stage_in taps j (through taps n k o s).state ≡ stage_in taps j s
   unfolding through
   before_through zero k o s h z j l = refl
-  before_through (suc n) k none s h z j l = refl
-  before_through (suc n) k (some x) s h z j l =
+  before_through (suc n) k None s h z j l = refl
+  before_through (suc n) k (Some x) s h z j l =
       let in_range : k < 5 = omega arith in
       let q : j ≡ k → ⊥ = omega arith in
       before_through n (suc k) ((half (taps k)).out (stage_in taps k s) x) (stepped k x s in_range z) (omega arith) (sized_stepped k x s in_range z) j (omega arith)
       ∙ elsewhere k (after k x s in_range z) s in_range z (after_long_lem k x s in_range z) j (omega arith) q
 
-  pub out_through : (n k : ℕ) (x : Float) (s : HbfStream) → k + n ≤ 5 → Sized s → (through taps n k (some x) s).out ≡ cascade_out stage k (stages_from n k s) x
+  pub out_through : (n k : ℕ) (x : Float) (s : HbfStream) → k + n ≤ 5 → Sized s → (through taps n k (Some x) s).out ≡ cascade_out stage k (stages_from n k s) x
   unfolding through
   out_through zero k x s h z = refl
   out_through (suc n) k x s h z = go ((half (taps k)).out (stage_in taps k s) x) (out_through n (suc k))
@@ -149,12 +149,12 @@ module _ (taps : ℕ → List Float) (five : FiveStages taps) where
       t = stepped k x s in_range z
 
       go :
-          (o : Option Float) → ((y : Float) (u : HbfStream) → suc k + n ≤ 5 → Sized u → (through taps n (suc k) (some y) u).out ≡ cascade_out stage (suc k) (stages_from n (suc k) u) y)
-          → (through taps n (suc k) o t).out ≡ stay (cascade_out stage (suc k) (stages_from n (suc k) s)) none o
-      go none ih = ap (λ (p : Passed). p.out) (none_through taps n (suc k) t)
-      go (some y) ih = ih y t (omega arith) (sized_stepped k x s in_range z) ∙ ap (λ (l : List Half). cascade_out stage (suc k) l y) (later_stepped k x s in_range z n h)
+          (o : Option Float) → ((y : Float) (u : HbfStream) → suc k + n ≤ 5 → Sized u → (through taps n (suc k) (Some y) u).out ≡ cascade_out stage (suc k) (stages_from n (suc k) u) y)
+          → (through taps n (suc k) o t).out ≡ stay (cascade_out stage (suc k) (stages_from n (suc k) s)) None o
+      go None ih = ap (λ (p : Passed). p.out) (none_through taps n (suc k) t)
+      go (Some y) ih = ih y t (omega arith) (sized_stepped k x s in_range z) ∙ ap (λ (l : List Half). cascade_out stage (suc k) l y) (later_stepped k x s in_range z n h)
 
-  pub stages_through : (n k : ℕ) (x : Float) (s : HbfStream) → k + n ≤ 5 → Sized s → stages_from n k (through taps n k (some x) s).state ≡ cascade_next stage k (stages_from n k s) x
+  pub stages_through : (n k : ℕ) (x : Float) (s : HbfStream) → k + n ≤ 5 → Sized s → stages_from n k (through taps n k (Some x) s).state ≡ cascade_next stage k (stages_from n k s) x
   unfolding through
   stages_through zero k x s h z = refl
   stages_through (suc n) k x s h z =
@@ -172,7 +172,7 @@ module _ (taps : ℕ → List Float) (five : FiveStages taps) where
 
       go :
           (o : Option Float)
-          → ((y : Float) (u : HbfStream) → suc k + n ≤ 5 → Sized u → stages_from n (suc k) (through taps n (suc k) (some y) u).state ≡ cascade_next stage (suc k) (stages_from n (suc k) u) y)
+          → ((y : Float) (u : HbfStream) → suc k + n ≤ 5 → Sized u → stages_from n (suc k) (through taps n (suc k) (Some y) u).state ≡ cascade_next stage (suc k) (stages_from n (suc k) u) y)
           → stages_from n (suc k) (through taps n (suc k) o t).state ≡ stay (cascade_next stage (suc k) (stages_from n (suc k) s)) (stages_from n (suc k) s) o
-      go none ih = ap (λ (p : Passed). stages_from n (suc k) p.state) (none_through taps n (suc k) t) ∙ later_stepped k x s in_range z n h
-      go (some y) ih = ih y t (omega arith) (sized_stepped k x s in_range z) ∙ ap (λ (l : List Half). cascade_next stage (suc k) l y) (later_stepped k x s in_range z n h)
+      go None ih = ap (λ (p : Passed). stages_from n (suc k) p.state) (none_through taps n (suc k) t) ∙ later_stepped k x s in_range z n h
+      go (Some y) ih = ih y t (omega arith) (sized_stepped k x s in_range z) ∙ ap (λ (l : List Half). cascade_next stage (suc k) l y) (later_stepped k x s in_range z n h)

@@ -1,6 +1,7 @@
 -- A filter that stores its M taps in front of 23 places and its window of W samples in front of N: whatever lies behind them, it runs as the filter on
 -- windows. `build` makes the state of its parts, `g` is the filter on windows, over the taps.
 use mathlib.Core.Path.{◌≡◌, sym, ap, ◌∙◌}
+use mathlib.Core.Bool.{false}
 use mathlib.Core.List.{List, ◌++◌}
 use Prim.Native.Nat.{ℕ, ◌+◌, ◌-◌, ◌≤◌}
 use native.Mathlib.Omega.{arith}
@@ -10,7 +11,8 @@ use lib.Ieee.{Float}
 use Rattle.theory.specs.Sections.{Section, state, outs}
 use Rattle.float.specs.F32.{zero32}
 use Rattle.half_band.proofs.Along.{outs_along, state_along}
-use Rattle.refusal.proofs.Limits.{Between}
+use Rattle.refusal.specs.Rows.{outside}
+use Rattle.refusal.proofs.Limits.{Between, within}
 
 -- a state that is not refused, its arrays as long as their types say
 pub record Usable (N m : ℕ) (coeffs delay : List Float) : Type 0 where
@@ -18,6 +20,9 @@ pub record Usable (N m : ℕ) (coeffs delay : List Float) : Type 0 where
   pub most : m ≤ 23
   pub coeffs_long : length coeffs ≡ 23
   pub delay_long : length delay ≡ N
+
+pub usable : (N m : ℕ) (coeffs delay : List Float) → outside m 1 23 ≡ false → length coeffs ≡ 23 → length delay ≡ N → Usable N m coeffs delay
+usable N m coeffs delay fine c d = let b = within m 1 23 fine in record { least = b.least; most = b.most; coeffs_long = c; delay_long = d }
 
 -- an opening with the taps c
 pub fresh_usable : (N : ℕ) (c : List Float) → Between 1 (length c) 23 → Usable N (length c) (c ++ replicate (23 - length c) zero32) (replicate N zero32)

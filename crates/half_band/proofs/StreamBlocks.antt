@@ -3,7 +3,7 @@
 use mathlib.Core.Path.{◌≡◌, refl, sym, ap, ◌∙◌, subst}
 use mathlib.Core.Bool.{cond}
 use mathlib.Core.List.{List, [], ◌∷◌, ◌++◌}
-use mathlib.Core.Option.{Option, none, some}
+use Rattle.std.specs.Prelude.{Option, None, Some}
 use Prim.Native.Nat.{ℕ, suc, ◌+◌, ◌-◌, ◌*◌, ◌/◌, ◌%◌, ◌≤◌, ◌<◌, min}
 use native.Mathlib.Omega.{arith}
 use lib.Dec.{eqb}
@@ -12,13 +12,12 @@ use lib.Seq.{length-take-le, length_front, take_at, take-append-add, drop-append
 use lib.Ieee.{Float, nan}
 use Rattle.theory.specs.Sections.{Section, onto, state, outs}
 use Rattle.float.specs.F32.{zero32}
-use Rattle.half_band.specs.HbfTaps.{stage_taps, decimation}
+use Rattle.half_band.specs.HbfTaps.{stage_taps, decimation, decimation_five}
 use Rattle.half_band.specs.Windows.{pairs, decimator, spliced}
 use Rattle.half_band.specs.HbfStream.{Half, half, stage_in, with_stage, hbf_stream, stream_of}
 use Rattle.half_band.specs.HbfStreamBlock.{stage_after, stage_outs}
 use Rattle.half_band.specs.declared.hbf_stream.HbfStream.{HbfStream}
 use Rattle.half_band.proofs.WholeLists.{length_pairs}
-use Rattle.half_band.proofs.StageTables.{dec_stages}
 use Rattle.half_band.proofs.Frames.{made_count}
 use Rattle.half_band.proofs.Stages.{Sized}
 use Rattle.half_band.proofs.StageRuns.{odd_one, odd_is, front_pairs, rested, half_run, half_made}
@@ -38,7 +37,7 @@ module _ (k : ℕ) (delays held : List Float) (counts : List ℕ) (span : List F
       → (lent ≡ stage_after k lent (take n span)) × ((0 ≡ length (stage_outs k lent (take n span))) × (span ≡ stage_outs k lent (take n span) ++ drop 0 span))
   stage_none n e =
       subst (λ (m : ℕ). (lent ≡ stage_after k lent (take m span)) × ((0 ≡ length (stage_outs k lent (take m span))) × (span ≡ stage_outs k lent (take m span) ++ drop 0 span))) (sym e)
-      (sym (with_same T dec_stages k lent), (refl, refl))
+      (sym (with_same T decimation_five k lent), (refl, refl))
 
   abbrev window : List Float
   window = take (4 * length (T k)) (drop (96 * k) delays)
@@ -152,8 +151,8 @@ outs_few f s [] = omega arith
 outs_few f s (a ∷ v) = more (f.out s a) (outs f (f.next s a) v) (outs_few f (f.next s a) v)
   where
     more : {B : Type 0} (o : Option B) (l : List B) → length l ≤ length v → length (onto o l) ≤ suc (length v)
-    more none l h = omega arith
-    more (some b) l h = omega arith
+    more None l h = omega arith
+    more (Some b) l h = omega arith
 
 -- values put in front of a span leave what lies behind them
 put_in_front_lem : (t l span : List Float) (r n : ℕ) → r ≡ length l → r ≤ n → n ≤ length span → t ≡ l ++ drop r span → (length t ≡ length span) × (drop n t ≡ drop n span)
@@ -170,7 +169,7 @@ put_in_front_lem t l span r n er few room e = (
 
 -- ---- the loop over the stages
 abbrev left : ℕ → ℕ → Section HbfStream Float Float
-left most k = stages_on T dec_stages (most - k) k
+left most k = stages_on T decimation_five (most - k) k
 
 -- m values in front of the span where k stages are done: what the stages left make of them is what all make of the first n values of the span lent
 pub record Going (depth n most : ℕ) (s₀ : HbfStream) (span₀ delays held : List Float) (counts : List ℕ) (span : List Float) (m k : ℕ) : Type 0 where
@@ -192,7 +191,7 @@ module _ (depth n most : ℕ) (delays₀ held₀ : List Float) (counts₀ : List
   unfolding hbf_stream
   going_start e z h =
       let many : min depth 5 ≡ most - 0 = omega arith in
-      let all = stages_all T dec_stages (most - 0) s₀ (take n span₀) many in
+      let all = stages_all T decimation_five (most - 0) s₀ (take n span₀) many in
       record { stages = omega arith; deep = e; sized = z; room = h; fewer = omega arith; same = refl; behind = refl; state_is = all.0; outs_is = all.1 }
 
   module _ (delays held : List Float) (counts : List ℕ) (span : List Float) (m k : ℕ) (q : Going depth n most s₀ span₀ delays held counts span m k) where
@@ -210,7 +209,7 @@ module _ (depth n most : ℕ) (delays₀ held₀ : List Float) (counts₀ : List
         record {
           stages = omega arith;
           deep = q.deep;
-          sized = subst Sized (sym after) (sized_staged T dec_stages most k more under s (take m span) q.sized);
+          sized = subst Sized (sym after) (sized_staged T decimation_five most k more under s (take m span) q.sized);
           room = q.room;
           fewer = few;
           same = fronted.0 ∙ q.same;
@@ -222,8 +221,8 @@ module _ (depth n most : ℕ) (delays₀ held₀ : List Float) (counts₀ : List
         under : most ≤ 5
         under = omega (arith, q.deep)
 
-        done : ByStage T dec_stages most k more under s (take m span)
-        done = by_stage T dec_stages most k more under (take m span) s q.sized
+        done : ByStage T decimation_five most k more under s (take m span)
+        done = by_stage T decimation_five most k more under (take m span) s q.sized
 
         after : stream_of depth d h c ≡ stage_after k s (take m span)
         after = next_at depth k delays held counts (take m span) d h c next
@@ -255,6 +254,6 @@ module _ (depth n most : ℕ) (delays₀ held₀ : List Float) (counts₀ : List
         × (((m ≡ length (outs hbf_stream s₀ (take n span₀))) × (take m span ≡ outs hbf_stream s₀ (take n span₀)))
         × ((length span ≡ length span₀) × (drop n span ≡ drop n span₀)))
     going_end h =
-        let e = stages_none T dec_stages most k s (take m span) h in
+        let e = stages_none T decimation_five most k s (take m span) h in
         let f : take m span ≡ outs hbf_stream s₀ (take n span₀) = sym e.1 ∙ q.outs_is in
         (sym e.0 ∙ q.state_is, ((sym (length-take-le m span (omega (arith, q.room, q.fewer, q.same))) ∙ ap length f, f), (q.same, q.behind)))

@@ -2,7 +2,7 @@
 -- that holds an odd sample makes of a list what the decimator makes of its pairs.
 use mathlib.Core.Path.{◌≡◌, refl, sym, ap, ◌∙◌}
 use mathlib.Core.List.{List, [], ◌∷◌}
-use mathlib.Core.Option.{some}
+use Rattle.std.specs.Prelude.{Some}
 use Prim.Native.Nat.{ℕ, zero, suc, ◌+◌, ◌-◌, ◌*◌, ◌≤◌, ◌<◌, min}
 use native.Mathlib.Omega.{arith}
 use lib.ListN.{length, get_or, take, replicate, get_or-replicate, length-replicate}
@@ -19,7 +19,7 @@ use Rattle.half_band.specs.declared.hbf_stream.HbfStream.{HbfStream}
 use Rattle.half_band.proofs.Filling.{drop_replicate, take_replicate}
 use Rattle.half_band.proofs.WholeLists.{decimator_whole}
 use Rattle.half_band.proofs.Along.{outs_along, state_along}
-use Rattle.half_band.proofs.StageTables.{FiveStages}
+use Rattle.half_band.specs.HbfTaps.{FiveStages}
 use Rattle.half_band.proofs.Stages.{Sized, stage, stages_from, sized_through, depth_through, out_through, stages_through}
 
 -- a stage that holds nothing
@@ -46,11 +46,11 @@ module _ (taps : ℕ → List Float) (five : FiveStages taps) where
 
   pub sized_next : (s : HbfStream) (x : Float) → Sized s → Sized ((stream taps).next s x)
   unfolding stream
-  sized_next s x z = sized_through taps five (min s.depth 5) 0 (some x) s (under s.depth) z
+  sized_next s x z = sized_through taps five (min s.depth 5) 0 (Some x) s (under s.depth) z
 
   pub depth_next : (s : HbfStream) (x : Float) → ((stream taps).next s x).depth ≡ s.depth
   unfolding stream
-  depth_next s x = depth_through taps five (min s.depth 5) 0 (some x) s
+  depth_next s x = depth_through taps five (min s.depth 5) 0 (Some x) s
 
   view_next : (s : HbfStream) (x : Float) → Sized s → (cascade (stage taps five) 0).next (view s) x ≡ view ((stream taps).next s x)
   unfolding stream

@@ -3,7 +3,7 @@
 use mathlib.Core.Path.{◌≡◌, refl, sym, ap, ◌∙◌}
 use mathlib.Core.List.{List, [], ◌∷◌, ◌++◌}
 use mathlib.Core.Bool.{true, true≢false}
-use mathlib.Core.Option.{Option, some}
+use Rattle.std.specs.Prelude.{Option, Some}
 use Prim.Native.Nat.{ℕ, zero, suc, ◌+◌, ◌-◌, ◌*◌, ◌/◌, ◌≤◌, ◌<◌}
 use native.Mathlib.Nat.{le_refl}
 use native.Mathlib.Numerals.{add-one}
@@ -27,7 +27,7 @@ listed_same {B} (suc n) f g e =
 -- a section that makes an output of every value, whose state and output follow from the values so far
 module _ {S A B : Type 0} (f : Section S A B) (at : List A → S) (g : List A → B)
     (next_at : (v : List A) (a : A) → f.next (at v) a ≡ at (v ++ (a ∷ [])))
-    (out_at : (v : List A) (a : A) → f.out (at v) a ≡ some (g (v ++ (a ∷ [])))) where
+    (out_at : (v : List A) (a : A) → f.out (at v) a ≡ Some (g (v ++ (a ∷ [])))) where
   pub every_value : (w : List A) → outs f (at []) w ≡ listed (length w) (λ k. g (take (suc k) w))
   every_value w =
       outs_collected f at (made_at (λ n. true) g) next_at out_at w
@@ -107,7 +107,7 @@ pub decimator_whole : (c : List Float) → 1 ≤ length c → (w : List Float) �
 unfolding decimator decimated
 decimator_whole c p w =
     ap (λ (s : List Float). outs (decimator c) s (pairs w)) (sym start)
-    ∙ every_value (decimator c) (λ v. last_of L (flat v)) (λ v. dec_value c (last_of L (flat v))) next_at (λ v a. ap (λ (s : List Float). some (dec_value c s)) (next_at v a)) (pairs w)
+    ∙ every_value (decimator c) (λ v. last_of L (flat v)) (λ v. dec_value c (last_of L (flat v))) next_at (λ v a. ap (λ (s : List Float). Some (dec_value c s)) (next_at v a)) (pairs w)
     ∙ listed_same (length (pairs w)) (λ k. dec_value c (last_of L (flat (take (suc k) (pairs w))))) (dec_output c w) each
     ∙ ap (λ (n : ℕ). listed n (dec_output c w)) (length_pairs w)
   where
@@ -157,7 +157,7 @@ unfolding interpolator interpolated
 interpolator_whole c p w =
     ap (λ (s : List Float). flat (outs (interpolator c) s w)) (sym start)
     ∙ ap flat
-    (every_value (interpolator c) (last_of L) (λ v. int_value c (last_of L v)) next_at (λ v a. ap {B = Option (Float × Float)} (λ (s : List Float). some (int_value c s)) (next_at v a)) w
+    (every_value (interpolator c) (last_of L) (λ v. int_value c (last_of L v)) next_at (λ v a. ap {B = Option (Float × Float)} (λ (s : List Float). Some (int_value c s)) (next_at v a)) w
     ∙ listed_same (length w) (λ k. int_value c (last_of L (take (suc k) w))) (λ n. (even_output c w n, odd_output c w n)) each)
   where
     L : ℕ

@@ -1,8 +1,6 @@
 -- 01, section 4, `HbfDec`: what its calls answer, and what a stream of pairs from its opening makes.
-use Rattle.std.specs.Prelude.{◌≡◌, Bool, false, cond, List, [], ◌∷◌, ◌++◌, ℕ, ◌-◌, ◌*◌, ◌/◌, min, length, take, drop, replicate, Float}
-use Rattle.std.proofs.Math.Option.{some}
+use Rattle.std.specs.Prelude.{◌≡◌, Bool, false, cond, List, [], ◌∷◌, ◌++◌, ℕ, ◌-◌, ◌*◌, ◌/◌, min, length, take, drop, replicate, Float, Some}
 use Rattle.theory.specs.Sections.{Section, state, outs}
-use Rattle.refusal.specs.Table.{number_of}
 use Rattle.refusal.specs.Outcome.{Opened, Outcome}
 use Rattle.half_band.specs.Limits.{most_half_band_taps}
 use Rattle.refusal.specs.Rows.{outside, samples_refused}
@@ -10,9 +8,10 @@ use Rattle.half_band.specs.HalfBand.{decimated}
 use Rattle.float.specs.F32.{zero32}
 use Rattle.half_band.specs.Windows.{slid, dec_value, pairs}
 use Rattle.half_band.specs.declared.hbf_dec.HbfDec.{HbfDec}
-use Rattle.half_band.specs.declared.hbf_dec.HbfDecOut.{HbfDecOut}
-use Rattle.half_band.specs.declared.hbf_dec.HbfDecOut.TheVariants.{Value, Refused}
-use Rattle.half_band.specs.declared.hbf_dec.HbfDecStep.{HbfDecStep}
+
+-- a state of its parts
+abbrev pub dec_of : ℕ → List Float → List Float → HbfDec
+dec_of m coeffs delay = record { m = m; coeffs = coeffs; delay = delay }
 
 -- the M taps and the last 4M samples; what lies behind them is not looked at
 abbrev pub dec_taps : HbfDec → List Float
@@ -32,7 +31,7 @@ unfoldable pub dec_out : HbfDec → Float → Float → Float
 dec_out d a b = dec_value (dec_taps d) (slid (dec_window d) (a ∷ b ∷ []))
 
 unfoldable pub hbf_dec : Section HbfDec (Float × Float) Float
-hbf_dec = record { next = λ d p. dec_next d p.0 p.1; out = λ d p. some (dec_out d p.0 p.1) }
+hbf_dec = record { next = λ d p. dec_next d p.0 p.1; out = λ d p. Some (dec_out d p.0 p.1) }
 
 -- all zeros, and an opening with the taps c
 abbrev pub dec_none : HbfDec
@@ -56,14 +55,6 @@ dec_reset d = cond (dec_refused d) (record { number = 15; state = d }) (dec_open
 -- one pair
 abbrev pub dec_step : HbfDec → Float → Float → Outcome Float HbfDec
 dec_step d a b = cond (dec_refused d) (record { number = 15; value = zero32; state = d }) (record { number = 0; value = dec_out d a b; state = dec_next d a b })
-
--- each case of the code's answer: its number and its value
-abbrev pub told_dec_out : HbfDecOut → HbfDec → Outcome Float HbfDec
-told_dec_out (Value y) d = record { number = 0; value = y; state = d }
-told_dec_out (Refused q) d = record { number = number_of q; value = zero32; state = d }
-
-abbrev pub told_dec_step : HbfDecStep → Outcome Float HbfDec
-told_dec_step r = told_dec_out r.out r.state
 
 -- a block: the pairs of v, as many as the span has places. "`HbfDec::process` leaves it unread": an odd last sample is in no pair
 abbrev pub dec_block : HbfDec → List Float → ℕ → Outcome ℕ HbfDec

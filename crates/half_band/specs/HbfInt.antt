@@ -1,8 +1,6 @@
 -- 01, section 7, `HbfInt`: what its calls answer, and what a stream of samples from its opening makes.
-use Rattle.std.specs.Prelude.{◌≡◌, Bool, false, cond, List, [], ◌∷◌, ◌++◌, ℕ, ◌-◌, ◌*◌, ◌/◌, min, length, take, drop, replicate, Float}
-use Rattle.std.proofs.Math.Option.{some}
+use Rattle.std.specs.Prelude.{◌≡◌, Bool, false, cond, List, [], ◌∷◌, ◌++◌, ℕ, ◌-◌, ◌*◌, ◌/◌, min, length, take, drop, replicate, Float, Some}
 use Rattle.theory.specs.Sections.{Section, state, outs}
-use Rattle.refusal.specs.Table.{number_of}
 use Rattle.refusal.specs.Outcome.{Opened, Outcome}
 use Rattle.half_band.specs.Limits.{most_half_band_taps}
 use Rattle.refusal.specs.Rows.{outside, samples_refused}
@@ -10,9 +8,6 @@ use Rattle.half_band.specs.HalfBand.{flat, interpolated}
 use Rattle.float.specs.F32.{zero32}
 use Rattle.half_band.specs.Windows.{slid, int_value}
 use Rattle.half_band.specs.declared.hbf_int.HbfInt.{HbfInt}
-use Rattle.half_band.specs.declared.hbf_int.HbfIntOut.{HbfIntOut}
-use Rattle.half_band.specs.declared.hbf_int.HbfIntOut.TheVariants.{Values, Refused}
-use Rattle.half_band.specs.declared.hbf_int.HbfIntStep.{HbfIntStep}
 
 -- a state of its parts
 abbrev pub int_of : ℕ → List Float → List Float → HbfInt
@@ -36,7 +31,7 @@ unfoldable pub int_out : HbfInt → Float → Float × Float
 int_out d x = int_value (int_taps d) (slid (int_window d) (x ∷ []))
 
 unfoldable pub hbf_int : Section HbfInt Float (Float × Float)
-hbf_int = record { next = int_next; out = λ d x. some (int_out d x) }
+hbf_int = record { next = int_next; out = λ d x. Some (int_out d x) }
 
 -- all zeros, and an opening with the taps c
 abbrev pub int_none : HbfInt
@@ -60,14 +55,6 @@ int_reset d = cond (int_refused d) (record { number = 15; state = d }) (int_open
 -- one sample
 abbrev pub int_step : HbfInt → Float → Outcome (Float × Float) HbfInt
 int_step d x = cond (int_refused d) (record { number = 15; value = (zero32, zero32); state = d }) (record { number = 0; value = int_out d x; state = int_next d x })
-
--- each case of the code's answer: its number and its values
-abbrev pub told_int_out : HbfIntOut → HbfInt → Outcome (Float × Float) HbfInt
-told_int_out (Values even odd) d = record { number = 0; value = (even, odd); state = d }
-told_int_out (Refused q) d = record { number = number_of q; value = (zero32, zero32); state = d }
-
-abbrev pub told_int_step : HbfIntStep → Outcome (Float × Float) HbfInt
-told_int_step r = told_int_out r.out r.state
 
 -- the samples that a block takes: two places for each
 abbrev pub int_taken : List Float → ℕ → List Float

@@ -1,10 +1,8 @@
 -- 01, section 4, the cascade in the line: "The line holds an odd sample until its partner comes". The cascade's shape, over the taps of its stages, and
 -- `HbfStream`, which has the table of section 4.
-use Rattle.std.specs.Prelude.{◌≡◌, Bool, true, false, cond, ◌&&◌, List, [], ◌∷◌, ℕ, zero, suc, ◌*◌, min, eqb, leb, length, get_or, set, take, drop, replicate, Float}
-use Rattle.std.proofs.Math.Option.{Option, none, some}
+use Rattle.std.specs.Prelude.{◌≡◌, Bool, true, false, cond, ◌&&◌, List, [], ◌∷◌, ℕ, zero, suc, ◌*◌, min, eqb, leb, length, get_or, set, take, drop, replicate, Float, Option, None, Some}
 use Rattle.std.specs.Float.{nan}
 use Rattle.theory.specs.Sections.{Section, state, outs}
-use Rattle.refusal.specs.Table.{number_of}
 use Rattle.refusal.specs.Outcome.{Opened, Outcome}
 use Rattle.refusal.specs.Rows.{outside}
 use Rattle.half_band.specs.Limits.{most_stages}
@@ -14,11 +12,6 @@ use Rattle.half_band.specs.HbfTaps.{stage_taps, decimation}
 use Rattle.half_band.specs.Reach.{reach_of, Reaches}
 use Rattle.half_band.specs.Windows.{slid, dec_value, spliced}
 use Rattle.half_band.specs.declared.hbf_stream.HbfStream.{HbfStream}
-use Rattle.half_band.specs.declared.hbf_stream.HbfOut.{HbfOut}
-use Rattle.half_band.specs.declared.hbf_stream.HbfOut.TheVariants as made
-use Rattle.half_band.specs.declared.hbf_stream.HbfStreamOut.{HbfStreamOut}
-use Rattle.half_band.specs.declared.hbf_stream.HbfStreamOut.TheVariants.{Nothing, Value, Refused}
-use Rattle.half_band.specs.declared.hbf_stream.HbfStreamStep.{HbfStreamStep}
 
 -- a stage: its window, the sample that it holds, and how many it holds
 pub record Half : Type 0 where
@@ -33,7 +26,7 @@ half c =
       next = λ h x.
           cond (eqb h.count 0) (record { window = h.window; held = x; count = 1 })
           (record { window = slid h.window (h.held ∷ x ∷ []); held = zero32; count = 0 });
-      out = λ h x. cond (eqb h.count 0) none (some (dec_value c (slid h.window (h.held ∷ x ∷ []))));
+      out = λ h x. cond (eqb h.count 0) None (Some (dec_value c (slid h.window (h.held ∷ x ∷ []))));
     }
 
 -- what a sample makes of a cascade
@@ -60,13 +53,13 @@ module _ (taps : ℕ → List Float) where
   -- a value, if there is one, goes into n stages from stage k on
   unfoldable pub through : ℕ → ℕ → Option Float → HbfStream → Passed
   through zero k o s = record { out = o; state = s }
-  through (suc n) k none s = record { out = none; state = s }
-  through (suc n) k (some x) s = through n (suc k) ((half (taps k)).out (stage_in k s) x) (with_stage k ((half (taps k)).next (stage_in k s) x) s)
+  through (suc n) k None s = record { out = None; state = s }
+  through (suc n) k (Some x) s = through n (suc k) ((half (taps k)).out (stage_in k s) x) (with_stage k ((half (taps k)).next (stage_in k s) x) s)
 
   -- through the first `depth` stages; where there are none the value is handed on
   unfoldable pub stream : Section HbfStream Float Float
   stream =
-      record { next = λ s x. (through (min s.depth most_stages) 0 (some x) s).state; out = λ s x. (through (min s.depth most_stages) 0 (some x) s).out }
+      record { next = λ s x. (through (min s.depth most_stages) 0 (Some x) s).state; out = λ s x. (through (min s.depth most_stages) 0 (Some x) s).out }
 
 -- the table of section 4
 unfoldable pub hbf_stream : Section HbfStream Float Float
@@ -102,25 +95,8 @@ stream_reset s = cond (stream_refused s.depth s.counts) (record { number = 15; s
 -- one sample
 abbrev pub stream_step : HbfStream → Float → Outcome (Option Float) HbfStream
 stream_step s x =
-    cond (stream_refused s.depth s.counts) (record { number = 15; value = none; state = s })
+    cond (stream_refused s.depth s.counts) (record { number = 15; value = None; state = s })
     (record { number = 0; value = hbf_stream.out s x; state = hbf_stream.next s x })
-
--- each case of the leaf's answer, and of the method's: its number and its value
-abbrev pub value_of : HbfOut → Option Float
-value_of made.Nothing = none
-value_of (made.Value y) = some y
-
-abbrev pub answered : HbfOut → HbfStreamOut
-answered made.Nothing = Nothing
-answered (made.Value y) = Value y
-
-abbrev pub told_stream_out : HbfStreamOut → HbfStream → Outcome (Option Float) HbfStream
-told_stream_out Nothing s = record { number = 0; value = none; state = s }
-told_stream_out (Value y) s = record { number = 0; value = some y; state = s }
-told_stream_out (Refused q) s = record { number = number_of q; value = none; state = s }
-
-abbrev pub told_stream_step : HbfStreamStep → Outcome (Option Float) HbfStream
-told_stream_step r = told_stream_out r.out r.state
 
 -- what an opening of `depth` stages that was not refused gives
 pub record StreamMeets (depth : ℕ) (s : HbfStream) : Type 0 where

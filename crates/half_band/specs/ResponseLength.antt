@@ -1,10 +1,7 @@
 -- 01, section 7, "`hbf_dec_response_length`, depth 0 to 5: 0, 23, 28, 29, 29, 29; `hbf_int_response_length`: 0, 46, 112, 234, 476, 958".
 use Rattle.std.specs.Prelude.{cond, List, [], ◌∷◌, ℕ, ltb, get_or}
-use Rattle.refusal.specs.Table.{number_of}
 use Rattle.refusal.specs.Outcome.{Answer}
 use Rattle.half_band.specs.Limits.{most_stages}
-use Rattle.half_band.specs.declared.response_length.ResponseLength.{ResponseLength}
-use Rattle.half_band.specs.declared.response_length.ResponseLength.TheVariants.{Samples, Refused}
 
 abbrev pub dec_lengths : List ℕ
 dec_lengths = 0 ∷ 23 ∷ 28 ∷ 29 ∷ 29 ∷ 29 ∷ []
@@ -15,8 +12,3 @@ int_lengths = 0 ∷ 46 ∷ 112 ∷ 234 ∷ 476 ∷ 958 ∷ []
 -- 11: "depth over 5"
 abbrev pub length_at : List ℕ → ℕ → Answer ℕ
 length_at lengths depth = cond (ltb most_stages depth) (record { number = 11; value = 0 }) (record { number = 0; value = get_or lengths depth 0 })
-
--- each case of the code's answer: its number and its value
-abbrev pub told_length : ResponseLength → Answer ℕ
-told_length (Samples n) = record { number = 0; value = n }
-told_length (Refused q) = record { number = number_of q; value = 0 }

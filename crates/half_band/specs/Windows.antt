@@ -1,7 +1,6 @@
 -- The half-band filters with a state, a window of the last samples: 4M of them for the decimator, 2M for the interpolator. `proofs/WholeLists.antt` shows
 -- that from a window of zeros they make what 01 says of the whole list.
-use Rattle.std.specs.Prelude.{List, [], ◌∷◌, ◌++◌, ℕ, zero, suc, ◌-◌, ◌*◌, length, get_or, take, drop, Float}
-use Rattle.std.proofs.Math.Option.{some}
+use Rattle.std.specs.Prelude.{List, [], ◌∷◌, ◌++◌, ℕ, zero, suc, ◌-◌, ◌*◌, length, get_or, take, drop, Float, Some}
 use Rattle.std.specs.Float.{nan, binary32}
 use Rattle.std.specs.Float.Ieee.{add, mul}
 use Rattle.theory.specs.Sections.{Section}
@@ -33,11 +32,11 @@ pairs (a ∷ b ∷ w) = (a, b) ∷ pairs w
 
 -- a window that takes pairs and makes an output of each
 unfoldable pub decimator : List Float → Section (List Float) (Float × Float) Float
-decimator c = record { next = λ w p. slid w (p.0 ∷ p.1 ∷ []); out = λ w p. some (dec_value c (slid w (p.0 ∷ p.1 ∷ []))) }
+decimator c = record { next = λ w p. slid w (p.0 ∷ p.1 ∷ []); out = λ w p. Some (dec_value c (slid w (p.0 ∷ p.1 ∷ []))) }
 
 -- a window that takes samples and makes two outputs of each
 unfoldable pub interpolator : List Float → Section (List Float) Float (Float × Float)
-interpolator c = record { next = λ w x. slid w (x ∷ []); out = λ w x. some (int_value c (slid w (x ∷ []))) }
+interpolator c = record { next = λ w x. slid w (x ∷ []); out = λ w x. Some (int_value c (slid w (x ∷ []))) }
 
 -- the list d with w in place of the n places from `from` on
 abbrev pub spliced : ℕ → ℕ → List Float → List Float → List Float

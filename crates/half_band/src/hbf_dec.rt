@@ -1,13 +1,14 @@
 // 01, section 4: the half-band decimator, one output of each pair of samples.
-ghost use Rattle.std.specs.Prelude.{◌≡◌, length};
-ghost use Rattle.refusal.specs.Outcome.{opening_number};
-ghost use Rattle.half_band.specs.Answers.{told_opening, told_count};
-ghost use Rattle.half_band.specs.HbfDec.{dec_opening, dec_reset, dec_step, dec_block, dec_span, told_dec_step, DecMeets};
+ghost use Rattle.std.specs.Prelude.{◌≡◌, length, IfOk};
+ghost use Rattle.refusal.specs.Outcome.{told_on, told_opened};
+ghost use Rattle.float.specs.F32.{zero32};
+ghost use Rattle.half_band.specs.Answers.{told_reset};
+ghost use Rattle.half_band.specs.HbfDec.{dec_of, dec_none, dec_opening, dec_reset, dec_step, dec_block, dec_span, DecMeets};
 
 use crate::half_band::{decimate, padded, take_pair};
-use crate::limits::{DEC_DELAYS, MOST_HALF_BAND_TAPS, pairs_in, smaller};
+use crate::limits::{DEC_DELAYS, MOST_HALF_BAND_TAPS};
+use refusal::Refusal;
 use refusal::rows::{outside, samples_refused};
-use refusal::{Count, Opening, Refusal};
 
 // m taps in front of coeffs; the last 4m samples in front of delay, the newest at their end.
 #[derive(Drop)]
@@ -17,118 +18,100 @@ pub struct HbfDec {
     pub delay: [f32; DEC_DELAYS],
 }
 
-#[derive(Drop)]
-pub struct HbfDecOpening {
-    pub answer: Opening,
-    pub state: HbfDec,
-}
-
-#[derive(Clone, Copy)]
-pub enum HbfDecOut {
-    Value(f32),
-    Refused(Refusal),
-}
-
-#[derive(Drop)]
-pub struct HbfDecStep {
-    pub out: HbfDecOut,
-    pub state: HbfDec,
-}
-
-#[derive(Drop)]
-pub struct HbfDecBlock {
-    pub answer: Count,
-    pub state: HbfDec,
-}
-
+#[tactic(auto, unfolding(refusal::specs::Rows::outside))]
 impl HbfDec {
+    // The state that a caller in C is given of a refused opening.
+    pub fn zeros() -> HbfDec
+        ensures { result ≡ dec_none }
+    {
+        HbfDec {
+            m: 0,
+            coeffs: [0.0; MOST_HALF_BAND_TAPS],
+            delay: [0.0; DEC_DELAYS],
+        }
+    }
+
     // An opening with the lent taps. Refusal 10: not 1 to 23 of them.
-    pub fn new(taps: &[f32]) -> HbfDecOpening
-        ensures answer { told_opening result.answer result.state ≡ dec_opening taps.now }
-        ensures meets { opening_number result.answer ≡ 0 → DecMeets taps.now result.state }
+    pub fn new(taps: &[f32]) -> Result<HbfDec, Refusal>
+        ensures answer { told_opened dec_none result ≡ dec_opening taps.now }
+        ensures meets { IfOk result (DecMeets taps.now) }
     {
         let m = taps.len();
-        let delay = [0.0f32; DEC_DELAYS];
         if outside(m, 1, MOST_HALF_BAND_TAPS) {
-            let none = [0.0f32; MOST_HALF_BAND_TAPS];
-            return HbfDecOpening {
-                answer: Opening::Refused(Refusal::HalfBandTaps),
-                state: HbfDec {
-                    m: 0,
-                    coeffs: none,
-                    delay,
-                },
-            };
+            return Err(Refusal::HalfBandTaps);
         }
-        let coeffs = padded(taps);
-        HbfDecOpening {
-            answer: Opening::Opened,
-            state: HbfDec { m, coeffs, delay },
-        }
+        Ok(HbfDec {
+            m,
+            coeffs: padded(taps),
+            delay: [0.0; DEC_DELAYS],
+        })
     }
 
     // One pair. Refusal 15.
-    pub fn process_pair(mut self, a: f32, b: f32) -> HbfDecStep
-        ensures answer { told_dec_step result ≡ dec_step self a b }
+    pub fn process_pair(&mut self, a: f32, b: f32) -> Result<f32, Refusal>
+        ensures answer { told_on zero32 result self.new ≡ dec_step self.old a b }
     {
-        let m = self.m;
-        if outside(m, 1, MOST_HALF_BAND_TAPS) {
-            return HbfDecStep {
-                out: HbfDecOut::Refused(Refusal::State),
-                state: self,
-            };
-        }
-        let coeffs = self.coeffs;
-        let mut delay = self.delay;
-        let y = take_pair(&mut delay[..4 * m], &coeffs[..m], a, b);
-        self.delay = delay;
-        HbfDecStep {
-            out: HbfDecOut::Value(y),
-            state: self,
-        }
+        pair_lent(self.m, &self.coeffs, &mut self.delay, a, b)
     }
 
     // The pairs of src, as many as dst has places; an odd last sample is left unread. Refusals 15, 7.
-    pub fn process(mut self, src: &[f32], dst: &mut [f32]) -> HbfDecBlock
-        ensures answer { told_count result.answer result.state ≡ dec_block self src.now (length dst.old) }
-        ensures span { dst.new ≡ dec_span self src.now dst.old }
+    pub fn process(&mut self, src: &[f32], dst: &mut [f32]) -> Result<usize, Refusal>
+        ensures answer { told_on 0 result self.new ≡ dec_block self.old src.now (length dst.old) }
+        ensures span { dst.new ≡ dec_span self.old src.now dst.old }
     {
-        let m = self.m;
-        if outside(m, 1, MOST_HALF_BAND_TAPS) {
-            return HbfDecBlock {
-                answer: Count::Refused(Refusal::State),
-                state: self,
-            };
-        }
-        if samples_refused(src.len(), dst.len()) {
-            return HbfDecBlock {
-                answer: Count::Refused(Refusal::Samples),
-                state: self,
-            };
-        }
-        let n = smaller(dst.len(), pairs_in(src.len()));
-        let coeffs = self.coeffs;
-        let mut delay = self.delay;
-        decimate(&mut delay[..4 * m], &coeffs[..m], src, dst, n);
-        self.delay = delay;
-        HbfDecBlock {
-            answer: Count::Written(n),
-            state: self,
-        }
+        pairs_lent(self.m, &self.coeffs, &mut self.delay, src, dst)
     }
 
     // A fresh opening with the same taps. Refusal 15.
-    pub fn reset(self) -> HbfDecOpening
-        ensures answer { told_opening result.answer result.state ≡ dec_reset self }
+    pub fn reset(&mut self) -> Result<(), Refusal>
+        ensures answer { told_reset result self.new ≡ dec_reset self.old }
     {
-        let m = self.m;
-        if outside(m, 1, MOST_HALF_BAND_TAPS) {
-            return HbfDecOpening {
-                answer: Opening::Refused(Refusal::State),
-                state: self,
-            };
+        if outside(self.m, 1, MOST_HALF_BAND_TAPS) {
+            return Err(Refusal::State);
         }
-        let coeffs = self.coeffs;
-        HbfDec::new(&coeffs[..m])
+        *self = HbfDec::new(&self.coeffs[..self.m])?;
+        Ok(())
     }
+}
+
+// `HbfDec::process_pair` for the C function, which is lent the state's arrays: a pair does not pay for moving them.
+#[tactic(auto, unfolding(refusal::specs::Rows::outside, crate::specs::HbfDec::dec_next, crate::specs::HbfDec::dec_out))]
+pub fn pair_lent(
+    m: usize,
+    coeffs: &[f32; MOST_HALF_BAND_TAPS],
+    delay: &mut [f32; DEC_DELAYS],
+    a: f32,
+    b: f32,
+) -> Result<f32, Refusal>
+    ensures answer { told_on zero32 result (dec_of m coeffs.now delay.new) ≡ dec_step (dec_of m coeffs.now delay.old) a b }
+{
+    if outside(m, 1, MOST_HALF_BAND_TAPS) {
+        return Err(Refusal::State);
+    }
+    Ok(take_pair(&mut delay[..4 * m], &coeffs[..m], a, b))
+}
+
+// `HbfDec::process` for the C function, likewise.
+#[tactic(auto, unfolding(refusal::specs::Rows::outside))]
+pub fn pairs_lent(
+    m: usize,
+    coeffs: &[f32; MOST_HALF_BAND_TAPS],
+    delay: &mut [f32; DEC_DELAYS],
+    src: &[f32],
+    dst: &mut [f32],
+) -> Result<usize, Refusal>
+    ensures answer { let before = dec_of m coeffs.now delay.old in
+        let after = dec_of m coeffs.now delay.new in
+        told_on 0 result after ≡ dec_block before src.now (length dst.old) }
+    ensures span { dst.new ≡ dec_span (dec_of m coeffs.now delay.old) src.now dst.old }
+{
+    if outside(m, 1, MOST_HALF_BAND_TAPS) {
+        return Err(Refusal::State);
+    }
+    if samples_refused(src.len(), dst.len()) {
+        return Err(Refusal::Samples);
+    }
+    let n = dst.len().min(src.len() / 2);
+    decimate(&mut delay[..4 * m], &coeffs[..m], src, dst, n);
+    Ok(n)
 }

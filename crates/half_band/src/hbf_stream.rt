@@ -1,16 +1,16 @@
 // 01, section 4, in the line: the half-band cascade fed sample by sample. A stage holds an odd sample until its partner comes.
-ghost use Rattle.std.specs.Prelude.{◌≡◌, ◌*◌, ◌<◌, [], ◌∷◌, length, take, drop};
-ghost use Rattle.refusal.specs.Outcome.{opening_number};
-ghost use Rattle.half_band.specs.Answers.{told_opening};
-ghost use Rattle.half_band.specs.HbfTaps.{stage_taps, decimation};
+ghost use Rattle.std.specs.Prelude.{◌≡◌, ◌*◌, ◌<◌, [], ◌∷◌, length, take, drop, IfOk, None};
+ghost use Rattle.refusal.specs.Outcome.{told_on, told_opened};
+ghost use Rattle.half_band.specs.Answers.{told_reset};
+ghost use Rattle.half_band.specs.HbfTaps.{stage_taps};
 ghost use Rattle.half_band.specs.Windows.{slid, dec_value, spliced};
-ghost use Rattle.half_band.specs.HbfStream.{stream_of, stream_fresh, hbf_stream, value_of, answered, stream_opening, stream_reset, stream_step, stream_refused, stream_refused_in_line, told_stream_step, StreamMeets};
+ghost use Rattle.half_band.specs.HbfStream.{stream_of, stream_fresh, hbf_stream, stream_opening, stream_reset, stream_step, stream_refused, stream_refused_in_line, StreamMeets};
 
 use crate::half_band::take_pair;
-use crate::hbf_taps::{HBF_TAPS, decimation_stage};
-use crate::limits::{DEC_CASCADE_DELAYS, DEC_DELAYS, MOST_STAGES, smaller};
+use crate::hbf_taps::{Db140, StageTable};
+use crate::limits::{DEC_CASCADE_DELAYS, DEC_DELAYS, MOST_STAGES};
+use refusal::Refusal;
 use refusal::rows::outside;
-use refusal::{Opening, Refusal};
 
 // Stage k has its last 4M samples in front of the 96 delays from 96k on, and holds counts[k] samples, none or one, in held[k].
 #[derive(Clone, Copy)]
@@ -21,186 +21,113 @@ pub struct HbfStream {
     pub counts: [usize; MOST_STAGES],
 }
 
-#[derive(Drop)]
-pub struct HbfStreamOpening {
-    pub answer: Opening,
-    pub state: HbfStream,
-}
-
-// What a sample makes.
-#[derive(Drop)]
-pub enum HbfOut {
-    Nothing,
-    Value(f32),
-}
-
-#[derive(Clone, Copy)]
-pub enum HbfStreamOut {
-    Nothing,
-    Value(f32),
-    Refused(Refusal),
-}
-
-#[derive(Drop)]
-pub struct HbfStreamStep {
-    pub out: HbfStreamOut,
-    pub state: HbfStream,
-}
-
 // A pair into stage k.
-fn stage_pair(k: usize, delays: &mut [f32], a: f32, b: f32) -> f32
+fn stage_pair<T: StageTable>(k: usize, delays: &mut [f32], a: f32, b: f32) -> f32
     requires { (k < 5) × (length delays.old ≡ 480) }
-    ensures { (delays.new ≡ spliced (96 * k) (4 * length (stage_taps decimation k)) (slid (take (4 * length (stage_taps decimation k)) (drop (96 * k) delays.old)) (a ∷ b ∷ [])) delays.old) × (result ≡ dec_value (stage_taps decimation k) (slid (take (4 * length (stage_taps decimation k)) (drop (96 * k) delays.old)) (a ∷ b ∷ []))) }
+    ensures { let taps = stage_taps T.table k in
+        let window = slid (take (4 * length taps) (drop (96 * k) delays.old)) (a ∷ b ∷ []) in
+        (delays.new ≡ spliced (96 * k) (4 * length taps) window delays.old) × (result ≡ dec_value taps window) }
 {
-    let taps = decimation_stage(k);
-    let first = taps.first;
-    let end = first + taps.count;
+    let taps = T::stage(k);
     let from = DEC_DELAYS * k;
-    let past = from + 4 * taps.count;
-    take_pair(&mut delays[from..past], &HBF_TAPS[first..end], a, b)
+    let past = from + 4 * taps.len();
+    take_pair(&mut delays[from..past], taps, a, b)
 }
 
-// An array by value is as long as its type says; a lent one is known to be so after this call, which compiles to nothing.
-pub(crate) fn all_delays(a: [f32; DEC_CASCADE_DELAYS])
-    ensures { length a ≡ 480 }
-{}
-
-// A sample into the first `depth` stages, or all five: held at a stage, or made into an output by all. A leaf for the line, which has looked at the numbers: it
-// refuses nothing.
+// A sample into the first `depth` stages, or all five: held at a stage, or made into an output by all. A leaf for the line, which has looked at the numbers and
+// lends the arrays, so that nothing is copied: it refuses nothing.
 pub fn hbf_stream_at(
     depth: usize,
     delays: &mut [f32; DEC_CASCADE_DELAYS],
     held: &mut [f32; MOST_STAGES],
     counts: &mut [usize; MOST_STAGES],
     x: f32,
-) -> HbfOut
-    ensures out { value_of result ≡ hbf_stream.out (stream_of depth delays.old held.old counts.old) x }
+) -> Option<f32>
+    ensures out { result ≡ hbf_stream.out (stream_of depth delays.old held.old counts.old) x }
     ensures next { stream_of depth delays.new held.new counts.new ≡ hbf_stream.next (stream_of depth delays.old held.old counts.old) x }
 {
-    all_delays(*delays);
-    let n = smaller(depth, MOST_STAGES);
     let mut v = x;
-    let mut k = 0;
-    while k < n {
+    for k in 0..depth.min(MOST_STAGES) {
         if counts[k] == 0 {
             held[k] = v;
             counts[k] = 1;
-            return HbfOut::Nothing;
+            return None;
         }
         let partner = held[k];
         held[k] = 0.0;
         counts[k] = 0;
-        v = stage_pair(k, delays, partner, v);
-        k += 1;
+        v = stage_pair::<Db140>(k, delays, partner, v);
     }
-    HbfOut::Value(v)
+    Some(v)
 }
 
 // Refusal 15 of a state: no stages or too many, or more than one held sample at a stage that is run.
-fn hbf_stream_refused(depth: usize, counts: [usize; MOST_STAGES]) -> bool
-    ensures { result ≡ stream_refused depth counts }
+#[tactic(auto, unfolding(refusal::specs::Rows::outside))]
+fn hbf_stream_refused(depth: usize, counts: &[usize; MOST_STAGES]) -> bool
+    ensures { result ≡ stream_refused depth counts.now }
 {
     if outside(depth, 1, MOST_STAGES) {
         return true;
     }
-    let mut k = 0;
-    while k < depth {
+    for k in 0..depth {
         if 1 < counts[k] {
             return true;
         }
-        k += 1;
     }
     false
 }
 
 // Refusal 15 of a state in the line, where no stages means off.
-pub fn hbf_stream_refused_in_line(depth: usize, counts: [usize; MOST_STAGES]) -> bool
-    ensures { result ≡ stream_refused_in_line depth counts }
+#[tactic(auto, unfolding(crate::specs::HbfStream::stream_refused_in_line))]
+pub fn hbf_stream_refused_in_line(depth: usize, counts: &[usize; MOST_STAGES]) -> bool
+    ensures { result ≡ stream_refused_in_line depth counts.now }
 {
-    if depth == 0 {
-        return false;
-    }
-    hbf_stream_refused(depth, counts)
-}
-
-fn fresh(depth: usize) -> HbfStream
-    ensures { result ≡ stream_fresh depth }
-{
-    let delays = [0.0f32; DEC_CASCADE_DELAYS];
-    let held = [0.0f32; MOST_STAGES];
-    let counts = [0usize; MOST_STAGES];
-    HbfStream {
-        depth,
-        delays,
-        held,
-        counts,
-    }
-}
-
-// The method's answer where it is not refused.
-fn answer(o: HbfOut) -> HbfStreamOut
-    ensures { result ≡ answered o }
-{
-    match o {
-        HbfOut::Nothing => HbfStreamOut::Nothing,
-        HbfOut::Value(y) => HbfStreamOut::Value(y),
-    }
+    depth != 0 && hbf_stream_refused(depth, counts)
 }
 
 impl HbfStream {
+    // A cascade that has taken nothing in yet, of no stages where it stands in a line without one.
+    pub fn fresh(depth: usize) -> HbfStream
+        ensures { result ≡ stream_fresh depth }
+    {
+        HbfStream {
+            depth,
+            delays: [0.0; DEC_CASCADE_DELAYS],
+            held: [0.0; MOST_STAGES],
+            counts: [0; MOST_STAGES],
+        }
+    }
+
     // A cascade of so many stages. Refusal 11: none, or over five.
-    pub fn new(depth: usize) -> HbfStreamOpening
-        ensures answer { told_opening result.answer result.state ≡ stream_opening depth }
-        ensures meets { opening_number result.answer ≡ 0 → StreamMeets depth result.state }
+    pub fn new(depth: usize) -> Result<HbfStream, Refusal>
+        ensures answer { told_opened (stream_fresh 0) result ≡ stream_opening depth }
+        ensures meets { IfOk result (StreamMeets depth) }
     {
         if outside(depth, 1, MOST_STAGES) {
-            let state = fresh(0);
-            return HbfStreamOpening {
-                answer: Opening::Refused(Refusal::Depth),
-                state,
-            };
+            return Err(Refusal::Depth);
         }
-        let state = fresh(depth);
-        HbfStreamOpening {
-            answer: Opening::Opened,
-            state,
-        }
+        Ok(HbfStream::fresh(depth))
     }
 
     // One sample. Refusal 15.
-    pub fn process_sample(mut self, x: f32) -> HbfStreamStep
-        ensures answer { told_stream_step result ≡ stream_step self x }
+    pub fn process_sample(&mut self, x: f32) -> Result<Option<f32>, Refusal>
+        ensures answer { told_on None result self.new ≡ stream_step self.old x }
     {
         let depth = self.depth;
-        let mut counts = self.counts;
-        if hbf_stream_refused(depth, counts) {
-            return HbfStreamStep {
-                out: HbfStreamOut::Refused(Refusal::State),
-                state: self,
-            };
+        if hbf_stream_refused(depth, &self.counts) {
+            return Err(Refusal::State);
         }
-        let mut delays = self.delays;
-        let mut held = self.held;
-        let o = hbf_stream_at(depth, &mut delays, &mut held, &mut counts, x);
-        self.delays = delays;
-        self.held = held;
-        self.counts = counts;
-        let out = answer(o);
-        HbfStreamStep { out, state: self }
+        Ok(hbf_stream_at(depth, &mut self.delays, &mut self.held, &mut self.counts, x))
     }
 
     // A fresh opening of the same depth. Refusal 15.
-    pub fn reset(self) -> HbfStreamOpening
-        ensures answer { told_opening result.answer result.state ≡ stream_reset self }
+    pub fn reset(&mut self) -> Result<(), Refusal>
+        ensures answer { told_reset result self.new ≡ stream_reset self.old }
     {
-        let depth = self.depth;
-        let counts = self.counts;
-        if hbf_stream_refused(depth, counts) {
-            return HbfStreamOpening {
-                answer: Opening::Refused(Refusal::State),
-                state: self,
-            };
+        if hbf_stream_refused(self.depth, &self.counts) {
+            return Err(Refusal::State);
         }
-        HbfStream::new(depth)
+        *self = HbfStream::fresh(self.depth);
+        Ok(())
     }
 }

@@ -1,16 +1,15 @@
 // A block of values through the half-band cascade of the line, stage by stage. A stage sees neither the windows nor the held samples of the others, so it may
 // take in all values before the next one does.
-ghost use Rattle.std.specs.Prelude.{◌≡◌, cond, ◌&&◌, ◌++◌, ◌%◌, ◌≤◌, ◌<◌, eqb, leb, length, take, drop};
+ghost use Rattle.std.specs.Prelude.{◌≡◌, cond, ◌++◌, ◌%◌, ◌≤◌, ◌<◌, eqb, length, take, drop};
 ghost use Rattle.theory.specs.Sections.{state, outs};
 ghost use Rattle.float.specs.F32.{zero32};
 ghost use Rattle.half_band.specs.HbfStream.{stream_of, hbf_stream};
-ghost use Rattle.half_band.specs.HbfStreamBlock.{most_stream_block, stream_block_state, stream_block_outs, stream_block_made, stage_after, stage_outs};
+ghost use Rattle.half_band.specs.HbfStreamBlock.{stream_block_state, stream_block_outs, stream_block_made, stage_after, stage_outs};
 
 use crate::half_band::TAPE;
 use crate::hbf_dec_cascade::decimate_stage;
-use crate::hbf_stream::all_delays;
-use crate::hbf_taps::HbfTable;
-use crate::limits::{DEC_CASCADE_DELAYS, MOST_STAGES, smaller};
+use crate::hbf_taps::Db140;
+use crate::limits::{DEC_CASCADE_DELAYS, MOST_STAGES};
 
 // The most values of a block.
 pub const MOST_STREAM_BLOCK: usize = TAPE;
@@ -35,7 +34,7 @@ fn stage_block(
     span: &mut [f32],
     n: usize,
 ) -> usize
-    requires { (k < 5) × (length delays.old ≡ 480) × (length held.old ≡ 5) × (n ≤ length span.old) × (n ≤ 192) }
+    requires { (k < 5) × (length delays.old ≡ 480) × (n ≤ length span.old) × (n ≤ 192) }
     ensures next { let before = stream_of 0 delays.old held.old counts.old in
         let after = stream_of 0 delays.new held.new counts.new in
         after ≡ stage_after k before (take n span.old) }
@@ -47,19 +46,14 @@ fn stage_block(
         return 0;
     }
     let first = [held[k]];
-    let before = smaller(counts[k], 1);
+    let before = counts[k].min(1);
     let total = before + n;
     let half = total / 2;
     held[k] = odd_one(total, span[n - 1]);
     counts[k] = total % 2;
-    decimate_stage(k, delays, &first[..before], span, half, HbfTable::Db140);
+    decimate_stage::<Db140>(k, delays, &first[..before], span, half);
     half
 }
-
-// Arrays by value are as long as their types say; lent ones are known to be so after this call, which compiles to nothing.
-fn all_held(held: [f32; MOST_STAGES], counts: [usize; MOST_STAGES])
-    ensures { (length held ≡ 5) × (length counts ≡ 5) }
-{}
 
 // The first n values of the span go through the first `depth` stages, or all five.
 fn stages_block(
@@ -79,26 +73,11 @@ fn stages_block(
         (result ≡ length made) × (take result span.new ≡ made) }
     ensures span { (length span.new ≡ length span.old) × (drop n span.new ≡ drop n span.old) }
 {
-    all_delays(*delays);
-    all_held(*held, *counts);
-    let most = smaller(depth, MOST_STAGES);
     let mut m = n;
-    let mut k = 0;
-    while k < most {
+    for k in 0..depth.min(MOST_STAGES) {
         m = stage_block(k, delays, held, counts, span, m);
-        k += 1;
     }
     m
-}
-
-// Whether n values are a block of so many places.
-fn block_fits(n: usize, places: usize) -> bool
-    ensures { result ≡ (leb n most_stream_block && leb n places) }
-{
-    if MOST_STREAM_BLOCK < n {
-        return false;
-    }
-    n <= places
 }
 
 // The first n values of the span go through the first `depth` stages, or all five, each stage over all of them in place; what comes of them stands in front of
@@ -121,7 +100,7 @@ pub fn hbf_stream_block_at(
         take result span.new ≡ stream_block_outs before span.old n }
     ensures span { (length span.new ≡ length span.old) × (drop n span.new ≡ drop n span.old) }
 {
-    if block_fits(n, span.len()) {
+    if n <= MOST_STREAM_BLOCK && n <= span.len() {
         return stages_block(depth, delays, held, counts, span, n);
     }
     0

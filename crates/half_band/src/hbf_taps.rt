@@ -1,7 +1,7 @@
 // The 140 dB half-band taps of the Rust, one table: 23 taps from 0 on, 10 from 23, 5 from 33, 4 from 38 and 3 from 42.
-ghost use Rattle.std.specs.Prelude.{◌≡◌, ◌<◌};
-ghost use Rattle.half_band.specs.HbfTaps.{hbf_taps, decimation, interpolation, PlaceOf};
-ghost use Rattle.half_band.specs.HbfTaps98.{hbf_taps98, decimation98, of_table, table_of};
+ghost use Rattle.std.specs.Prelude.{◌≡◌, ◌<◌, ℕ};
+ghost use Rattle.half_band.specs.HbfTaps.{Table, FiveStages, hbf_taps, stage_taps, decimation, decimation_five, interpolation, interpolation_five};
+ghost use Rattle.half_band.specs.HbfTaps98.{hbf_taps98, decimation98, decimation98_five};
 
 use crate::limits::MOST_STAGES;
 
@@ -86,87 +86,82 @@ pub const HBF_TAPS_98: [f32; 29] = [
     0.5629161,
 ];
 
-// The table that a cascade runs.
+// The stages that a cascade runs: five, each with the taps of a half-band filter.
+pub trait StageTable {
+    ghost table: { Table };
+
+    // The taps of stage k, of which there are five.
+    fn stage(k: usize) -> &'static [f32]
+        ensures { result.now ≡ stage_taps table k };
+
+    ghost five: { FiveStages (stage_taps table) };
+}
+
+// A decimation with the 140 dB taps, from the highest rate on: M = 3, 4, 5, 10, 23.
 #[derive(Clone, Copy)]
-pub(crate) enum HbfTable {
-    Db140,
-    Db98,
-}
+pub struct Db140;
 
-// Where a stage's taps begin in the table, and how many they are.
-#[derive(Drop)]
-pub(crate) struct StageTaps {
-    pub first: usize,
-    pub count: usize,
-}
+// A decimation with the 98 dB taps, from the highest rate on: M = 2, 3, 3, 6, 15.
+#[derive(Clone, Copy)]
+pub struct Db98;
 
-// The stages of a decimation, from the highest rate on.
-const DECIMATION_STARTS: [usize; MOST_STAGES] = [42, 38, 33, 23, 0];
+// An interpolation with the 140 dB taps, from the lowest rate on: M = 23, 10, 5, 4, 3.
+#[derive(Clone, Copy)]
+pub struct Interpolation;
 
-const DECIMATION_LENGTHS: [usize; MOST_STAGES] = [3, 4, 5, 10, 23];
+impl StageTable for Db140 {
+    ghost table = { decimation };
 
-pub(crate) fn decimation_stage(k: usize) -> StageTaps
-    requires { k < 5 }
-    ensures { PlaceOf decimation k result.first result.count }
-{
-    StageTaps {
-        first: DECIMATION_STARTS[k],
-        count: DECIMATION_LENGTHS[k],
+    ghost five = { decimation_five };
+
+    fn stage(k: usize) -> &'static [f32] {
+        match k {
+            0 => &HBF_TAPS[42..],
+            1 => &HBF_TAPS[38..42],
+            2 => &HBF_TAPS[33..38],
+            3 => &HBF_TAPS[23..33],
+            4 => &HBF_TAPS[..23],
+            _ => &[],
+        }
     }
 }
 
-// The stages of a decimation with the 98 dB taps, from the highest rate on.
-const DECIMATION_98_STARTS: [usize; MOST_STAGES] = [27, 24, 21, 15, 0];
+impl StageTable for Db98 {
+    ghost table = { decimation98 };
 
-const DECIMATION_98_LENGTHS: [usize; MOST_STAGES] = [2, 3, 3, 6, 15];
+    ghost five = { decimation98_five };
 
-pub(crate) fn decimation_98_stage(k: usize) -> StageTaps
-    requires { k < 5 }
-    ensures { PlaceOf decimation98 k result.first result.count }
-{
-    StageTaps {
-        first: DECIMATION_98_STARTS[k],
-        count: DECIMATION_98_LENGTHS[k],
+    fn stage(k: usize) -> &'static [f32] {
+        match k {
+            0 => &HBF_TAPS_98[27..],
+            1 => &HBF_TAPS_98[24..27],
+            2 => &HBF_TAPS_98[21..24],
+            3 => &HBF_TAPS_98[15..21],
+            4 => &HBF_TAPS_98[..15],
+            _ => &[],
+        }
     }
 }
 
-// The stages of a table.
-pub(crate) fn stage_of(table: HbfTable, k: usize) -> StageTaps
-    requires { k < 5 }
-    ensures { PlaceOf (table_of table) k result.first result.count }
-{
-    match table {
-        HbfTable::Db140 => decimation_stage(k),
-        HbfTable::Db98 => decimation_98_stage(k),
-    }
-}
+impl StageTable for Interpolation {
+    ghost table = { interpolation };
 
-// Of the two tables' taps those of one.
-pub(crate) fn cells_of<'a>(table: HbfTable, db140: &'a [f32], db98: &'a [f32]) -> &'a [f32]
-    ensures { result.now ≡ of_table table db140.now db98.now }
-{
-    match table {
-        HbfTable::Db140 => db140,
-        HbfTable::Db98 => db98,
-    }
-}
+    ghost five = { interpolation_five };
 
-// The stages of an interpolation, from the lowest rate on.
-const INTERPOLATION_STARTS: [usize; MOST_STAGES] = [0, 23, 33, 38, 42];
-
-const INTERPOLATION_LENGTHS: [usize; MOST_STAGES] = [23, 10, 5, 4, 3];
-
-pub(crate) fn interpolation_stage(k: usize) -> StageTaps
-    requires { k < 5 }
-    ensures { PlaceOf interpolation k result.first result.count }
-{
-    StageTaps {
-        first: INTERPOLATION_STARTS[k],
-        count: INTERPOLATION_LENGTHS[k],
+    fn stage(k: usize) -> &'static [f32] {
+        match k {
+            0 => &HBF_TAPS[..23],
+            1 => &HBF_TAPS[23..33],
+            2 => &HBF_TAPS[33..38],
+            3 => &HBF_TAPS[38..42],
+            4 => &HBF_TAPS[42..],
+            _ => &[],
+        }
     }
 }
 
 // The table, each entry the f32 nearest to its printed decimal.
+#[tactic(auto, using(crate::proofs::Decimals::taps_printed))]
 pub fn hbf_tap_table() -> [f32; 45]
     ensures { result ≡ hbf_taps }
 {
@@ -174,6 +169,7 @@ pub fn hbf_tap_table() -> [f32; 45]
 }
 
 // The 98 dB table, each entry the f32 nearest to its printed decimal.
+#[tactic(auto, using(crate::proofs::Decimals98::taps98_printed))]
 pub fn hbf_tap_table_98() -> [f32; 29]
     ensures { result ≡ hbf_taps98 }
 {

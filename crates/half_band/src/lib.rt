@@ -4,7 +4,6 @@
 mod half_band;
 pub mod hbf_dec;
 pub mod hbf_dec_cascade;
-pub mod hbf_dec_cascade_98;
 pub mod hbf_int;
 pub mod hbf_int_cascade;
 pub mod hbf_stream;
@@ -14,24 +13,18 @@ mod limits;
 pub mod reach;
 pub mod response_length;
 
-pub use crate::hbf_dec::{HbfDec, HbfDecBlock, HbfDecOpening, HbfDecOut, HbfDecStep};
-pub use crate::hbf_dec_cascade::{HbfDecCascade, HbfDecCascadeBlock, HbfDecCascadeOpening};
-pub use crate::hbf_dec_cascade_98::{
-    HbfDecCascade98, HbfDecCascade98Block, HbfDecCascade98Opening,
-};
-pub use crate::hbf_int::{HbfInt, HbfIntBlock, HbfIntOpening, HbfIntOut, HbfIntStep};
-pub use crate::hbf_int_cascade::{HbfIntCascade, HbfIntCascadeBlock, HbfIntCascadeOpening};
-pub use crate::hbf_stream::{
-    HbfOut, HbfStream, HbfStreamOpening, HbfStreamOut, HbfStreamStep, hbf_stream_at,
-    hbf_stream_refused_in_line,
-};
+pub use crate::hbf_dec::HbfDec;
+pub use crate::hbf_dec_cascade::{DecCascade, HbfDecCascade, HbfDecCascade98};
+pub use crate::hbf_int::HbfInt;
+pub use crate::hbf_int_cascade::HbfIntCascade;
+pub use crate::hbf_stream::{HbfStream, hbf_stream_at, hbf_stream_refused_in_line};
 pub use crate::hbf_stream_block::{MOST_STREAM_BLOCK, hbf_stream_block_at};
-pub use crate::hbf_taps::{HBF_TAPS, HBF_TAPS_98, hbf_tap_table, hbf_tap_table_98};
+pub use crate::hbf_taps::{
+    Db98, Db140, HBF_TAPS, HBF_TAPS_98, StageTable, hbf_tap_table, hbf_tap_table_98,
+};
 pub use crate::limits::{
     DEC_CASCADE_DELAYS, DEC_DELAYS, INT_CASCADE_DELAYS, INT_DELAYS, MOST_HALF_BAND_TAPS,
     MOST_STAGES,
 };
-pub use crate::reach::{hbf_dec_reach, hbf_dec_reach_98};
-pub use crate::response_length::{
-    ResponseLength, hbf_dec_response_length, hbf_int_response_length,
-};
+pub use crate::reach::hbf_dec_reach;
+pub use crate::response_length::{hbf_dec_response_length, hbf_int_response_length};

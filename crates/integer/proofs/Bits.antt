@@ -1,5 +1,7 @@
 -- The gain bits are the least b with 2^b no less than the gain, for every gain up to 2^64: the search passes only what is too small.
-use Rattle.std.proofs.Common.{◌≡◌, ℕ, zero, suc, ◌+◌, ◌*◌, ◌^◌, ◌<◌, ◌≤◌, pow-suc, arith, pow_mono, below_more, le-leb}
+use Rattle.std.proofs.Common.{◌≡◌, ℕ, zero, suc, ◌+◌, ◌-◌, ◌*◌, ◌^◌, ◌<◌, ◌≤◌, pow-suc, arith, pow_mono, below_more, le-leb}
+use Rattle.std.specs.Int.Count.{count_leading_zeros, leading_of_zero}
+use Rattle.std.proofs.lemmas.Nat.{leading_length}
 use native.Mathlib.Decide.{dec_le}
 use borrow.Author.Tests.{lt-leb}
 use Rattle.integer.specs.Gain.{gain_of, gain_bits, bits_from, bits_of, Least}
@@ -43,3 +45,11 @@ bits_only g b h reached near = go (dec_le b (bits_of g)) (dec_le (bits_of g) b)
 
 pub gain_least : (n r : ℕ) → Least (gain_of n r) (gain_bits n r)
 gain_least n r = record { reaches = bits_reach (gain_of n r) (omega arith); least = bits_least (gain_of n r) }
+
+-- they are the length of g - 1 in bits, so 0 of no gain
+pub bits_length : (g : ℕ) → g < 2 ^ 64 → 64 - count_leading_zeros 64 (g - 1) ≡ bits_of g
+unfolding bits_of
+bits_length zero h = rw (leading_of_zero 64)
+bits_length (suc k) h =
+    let l = leading_length 64 (suc k - 1) (omega arith) in
+    omega (arith, l.1, bits_only (suc k) l.0 (omega arith) (omega (arith, l.2)) (omega (arith, l.3)))

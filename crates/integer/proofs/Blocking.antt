@@ -1,13 +1,14 @@
 -- A turn of the block's loop is many steps of a feed: the samples that complete no sum are taken at once, and the one that completes it writes a sum.
-use Rattle.std.proofs.Common.{◌≡◌, ℕ, suc, ◌+◌, ◌<◌, ◌≤◌, Bool, true, false, ltb, List, [], ◌∷◌, length, get_or, take, drop, set, ℤ, pos, sym, refl, ap, ◌∙◌, subst, add-zero, arith, length-drop, drop_of_length-le, length-take-le, drop-cons, le-ltb, lt-ltb}
+use Rattle.std.proofs.Common.{◌≡◌, ℕ, suc, ◌+◌, ◌-◌, ◌<◌, ◌≤◌, Bool, true, false, ltb, List, [], ◌∷◌, length, get_or, take, drop, set, ℤ, pos, sym, refl, ap, ◌∙◌, subst, add-zero, arith, length-drop, drop_of_length-le, length-take-le, drop-cons, le-ltb, lt-ltb}
 use mathlib.Core.Path.{subst⁻¹}
-use mathlib.Core.Option.{none, some}
+use Rattle.std.specs.Prelude.{None, Some}
 use Rattle.theory.specs.Feeds.{both, stopped, head_of, step}
 use Rattle.theory.proofs.Machines.{Lawful, lawful_alone}
 use Rattle.theory.proofs.FeedLoop.{Midway, Quiet, after_quiet, after_both, after_stopped}
 use Rattle.integer.specs.Stages.{integrated, combed, ran}
-use Rattle.refusal.specs.Outcome.{Outcome, Moved}
-use Rattle.integer.specs.CicDecimator.{decimator_of, valid, decimator, machine, fed_block, block, block_span}
+use Rattle.refusal.specs.Outcome.{Outcome}
+use Rattle.refusal.specs.declared.Moved.{Moved}
+use Rattle.integer.specs.CicDecimator.{decimator_of, valid, decimator, machine, fed_block, block, block_span, Underway}
 use Rattle.integer.specs.declared.cic_decimator.CicDecimator.{CicDecimator}
 use Rattle.integer.proofs.Streaming.{valid_kept}
 
@@ -23,13 +24,17 @@ pub whichever : {d₀ : CicDecimator} {xs out₀ out : List ℤ} {d : CicDecimat
 whichever other m =
     record { some_taken = m.some_taken; some_written = m.some_written; same = m.same; good = m.good; rest = m.rest; ahead = m.ahead }
 
+pub underway : {d₀ : CicDecimator} {xs out₀ out : List ℤ} {d : CicDecimator} {t w : ℕ} → Underway d₀ xs out₀ out d t w → Midway machine 0 Good law d₀ xs out₀ out d t w
+unfolding Underway
+underway made = made law
+
 module _ (N r : ℕ) (combs : List ℤ) where
   -- the decimator after the samples w, which complete no sum
   abbrev counted : List ℤ → ℤ → ℕ → List ℤ → CicDecimator
   counted s v j w = decimator_of N r (ran N s v w).state combs (j + length w)
 
   pub waiting : (s : List ℤ) (j : ℕ) (x : ℤ) → j + 1 < r
-      → (decimator.out (decimator_of N r s combs j) x ≡ none) × (decimator.next (decimator_of N r s combs j) x ≡ decimator_of N r (integrated N s x).state combs (j + 1))
+      → (decimator.out (decimator_of N r s combs j) x ≡ None) × (decimator.next (decimator_of N r s combs j) x ≡ decimator_of N r (integrated N s x).state combs (j + 1))
   unfolding decimator
   waiting s j x h = rw (lt-ltb (j + 1) r h) (refl, refl)
 
@@ -49,7 +54,7 @@ module _ (N r : ℕ) (combs : List ℤ) where
 
   completing : (s : List ℤ) (j : ℕ) (x : ℤ) → j + 1 ≡ r →
       let p = integrated N s x in
-      (decimator.out (decimator_of N r s combs j) x ≡ some (combed N combs p.val).val)
+      (decimator.out (decimator_of N r s combs j) x ≡ Some (combed N combs p.val).val)
       × (decimator.next (decimator_of N r s combs j) x ≡ decimator_of N r p.state (combed N combs p.val).state 0)
   unfolding decimator
   completing s j x h = rw (le-ltb (j + 1) r (omega arith)) (refl, refl)
@@ -93,7 +98,7 @@ module _ (d₀ : CicDecimator) (valid₀ : valid d₀ ≡ true) (xs out₀ out :
         simp (valid₀, e.is_fed) e.span,
       )
 
-  no_sample : (place : Bool) → record { event = stopped; line = d } ≡ step machine place d none
+  no_sample : (place : Bool) → record { event = stopped; line = d } ≡ step machine place d None
   no_sample true = refl
   no_sample false = refl
 
@@ -104,3 +109,22 @@ module _ (d₀ : CicDecimator) (valid₀ : valid d₀ ≡ true) (xs out₀ out :
   -- no place is left
   pub finished_places : length out ≤ w → Finished
   finished_places h = stop (ap (λ (b : Bool). step machine b d (head_of (drop t xs))) (sym (le-ltb w (length out) h)))
+
+-- and so they are where the sums are made of a block
+module _
+    (N r : ℕ) (d₀ : CicDecimator) (valid₀ : valid d₀ ≡ true) (xs out₀ out s combs : List ℤ) (j t w : ℕ)
+    (made : Underway d₀ xs out₀ out (decimator_of N r s combs j) t w) where
+  -- the span is full
+  pub full : w ≡ length out → Finished d₀ valid₀ xs out₀ out (decimator_of N r s combs j) t w (underway made)
+  full h = let mid = underway made in finished_places d₀ valid₀ xs out₀ out _ t w mid (omega arith)
+
+  -- the samples that are left complete no sum
+  pub all_taken : (after : List ℤ) → w < length out → t ≤ length xs → j + (length xs - t) < r → after ≡ (ran N s (pos 0) (take (length xs - t) (drop t xs))).state →
+      let d = decimator_of N r after combs (j + (length xs - t)) in
+      (record { number = 0; value = record { taken = length xs; written = w }; state = d } ≡ block d₀ xs (length out₀)) × (out ≡ block_span d₀ xs out₀)
+  all_taken after h some few e =
+      let mid = underway made in
+      let room : w < length out₀ = (let same = mid.same in omega arith) in
+      let all : t + (length xs - t) ≡ length xs = omega arith in
+      let later = after_counting N r combs d₀ xs out₀ out s j t w mid room (length xs - t) few (omega arith) in
+      rw e (finished_samples d₀ valid₀ xs out₀ out _ _ w (rw all at later) (omega arith))

@@ -2,7 +2,7 @@
 -- in closed form, and Hogenauer's theorem says what its combs then hand on.
 use Rattle.std.proofs.Common.{◌≡◌, ℕ, zero, suc, ◌+◌, ◌-◌, ◌*◌, ◌/◌, ◌<◌, ◌≤◌, ◌⊎◌, List, [], ◌∷◌, ◌++◌, length, get_or, replicate, ℤ, pos, sym, refl, ap, ◌∙◌, inl, inr, suc-mul, eq-or-lt_of_le, zero-add, zero-mul, add-one, arith, w32, le-ltb, lt-ltb}
 use mathlib.Core.Path.{fun_ext}
-use mathlib.Core.Option.{none, some}
+use Rattle.std.specs.Prelude.{None, Some}
 use native.Mathlib.Nat.{div-eq_of_lt, add-div_left}
 use lib.ListN.{replicate-append-replicate}
 use Rattle.theory.specs.Wrap.{wrap}
@@ -41,7 +41,7 @@ module _ (m r : ℕ) (few : suc m ≤ 8) (f : Signal) (quiet : f zero ≡ pos 0)
   abbrev passing : ℕ → ℕ → Passed ℤ
   passing k j = integrated (suc m) (tower prefix (suc m) (prefix f) (k * r + j) ++ rest) (f (suc (k * r + j)))
 
-  counts_out : (k j : ℕ) → j + 1 < r → decimator.out (state_at k j) (f (suc (k * r + j))) ≡ none
+  counts_out : (k j : ℕ) → j + 1 < r → decimator.out (state_at k j) (f (suc (k * r + j))) ≡ None
   unfolding decimator
   counts_out k j h = rw (lt-ltb (j + 1) r h)
 
@@ -62,9 +62,9 @@ module _ (m r : ℕ) (few : suc m ≤ 8) (f : Signal) (quiet : f zero ≡ pos 0)
       ∙ combs (suc m) low k rest
       ∙ ap {B = Passed ℤ} (λ (g : Signal). record { state = tower diff (suc m) low (suc k) ++ rest; val = wrap w32 (g (suc k)) }) (hogenauer (suc m) r f quiet)
 
-  sums_out : (k j : ℕ) → j + 1 ≡ r → decimator.out (state_at k j) (f (suc (k * r + j))) ≡ some (gives k)
+  sums_out : (k j : ℕ) → j + 1 ≡ r → decimator.out (state_at k j) (f (suc (k * r + j))) ≡ Some (gives k)
   unfolding decimator
-  sums_out k j h = rw (le-ltb (j + 1) r (omega arith)) (ap (λ (p : Passed ℤ). some p.val) (summed k j h))
+  sums_out k j h = rw (le-ltb (j + 1) r (omega arith)) (ap (λ (p : Passed ℤ). Some p.val) (summed k j h))
 
   sums_next : (k j : ℕ) → j + 1 ≡ r → decimator.next (state_at k j) (f (suc (k * r + j))) ≡ state_at (suc k) 0
   unfolding decimator

@@ -1,7 +1,7 @@
 -- No sum wraps where the samples leave room for the gain: an N-fold sum of r summands grows by r^N at most, which the gain bits cover, so it fits an i32 and is
 -- its own residue.
-use Rattle.std.proofs.Common.{◌≡◌, ℕ, zero, suc, ◌+◌, ◌-◌, ◌*◌, ◌/◌, ◌^◌, ◌<◌, ◌≤◌, min, Bool, true, false, cond, leb, List, length, ℤ, pos, negsuc, ◌+ℤ◌, neg_ℤ, sym, refl, ap, ◌∙◌, subst, mul-le-mul_right, mul_assoc, suc-mul, mul_comm, one-mul, pow-suc, mul-suc, arith, pow_pos, pow_mono, pow-add, w32, SFits, le-leb}
-use mathlib.Core.Path.{fun_ext}
+use Rattle.std.proofs.Common.{◌≡◌, ℕ, zero, suc, ◌+◌, ◌-◌, ◌*◌, ◌/◌, ◌^◌, ◌<◌, ◌≤◌, min, Bool, true, false, cond, leb, List, length, Result, Ok, Err, IfOk, ℤ, pos, negsuc, ◌+ℤ◌, neg_ℤ, sym, refl, ap, ◌∙◌, subst, mul-le-mul_right, mul_assoc, suc-mul, mul_comm, one-mul, pow-suc, mul-suc, arith, pow_pos, pow_mono, pow-add, w32, SFits, le-leb, rules}
+use mathlib.Core.Path.{fun_ext, subst⁻¹}
 use native.Mathlib.Nat.{pow-zero, div-eq_of_lt-le}
 use native.Mathlib.Decide.{dec_le, dec_lt}
 use borrow.Author.Tests.{lt-leb}
@@ -10,11 +10,13 @@ use Rattle.theory.specs.Floor.{floor_div}
 use Rattle.theory.specs.Lists.{listed}
 use Rattle.theory.proofs.Integers.{up, dn, add_is, neg_is, le_rule, fits_of}
 use Rattle.theory.proofs.Wrap.{wrap_id}
-use Rattle.refusal.specs.Outcome.{Answer}
+use Rattle.refusal.specs.declared.Refusal.{Refusal}
+use Rattle.refusal.specs.Outcome.{Answer, told}
 use Rattle.integer.specs.Gain.{gain_bits}
 use Rattle.integer.specs.MovingSums.{Signal, signal_of, delay, moving_sum, fold, sum_at, scaled_sums}
 use Rattle.integer.specs.MovingSums as M
-use Rattle.integer.specs.ExactSums.{exact_sum, exact_sums, exact_scaled_sums, least_exact, greatest_exact, AllWithin, ExactWithin, ExactSums, Ends, refused_range, exact_range}
+use Rattle.integer.specs.ExactSums.{exact_sum, exact_sums, exact_scaled_sums, least_exact, greatest_exact, AllWithin, ExactWithin, ExactSums, refused_range, no_ends, exact_range}
+use Rattle.integer.specs.declared.exact_range.Ends.{Ends}
 use Rattle.integer.proofs.Bits.{gain_least}
 
 -- −A ≤ z ≤ B
@@ -145,3 +147,11 @@ range_exact true N r made scaled all e = go (dec_le (gain_bits N r) 31) e
     go (no many) e =
         let h : 31 < gain_bits N r = omega arith in
         let z : ◌≡◌ {A = ℕ} 3 0 = rw (lt-leb (gain_bits N r) 31 h) at e in absurd (omega arith)
+
+-- the same of the range of a state that is valid, where there is one
+pub range_told : (N r : ℕ) (made scaled : List ℤ → List ℤ) (answer : Result Ends Refusal) → ExactSums N r made scaled → told no_ends answer ≡ exact_range true N r
+    → IfOk answer (λ ends. ExactWithin ends.least ends.greatest N r made scaled)
+range_told N r made scaled (Err q) all e = search rules
+range_told N r made scaled (Ok ends) all e =
+    subst⁻¹ (λ (a : Answer Ends). ExactWithin a.value.least a.value.greatest N r made scaled) e
+    (range_exact true N r made scaled (λ v. all) (sym (ap (λ (a : Answer Ends). a.number) e)))

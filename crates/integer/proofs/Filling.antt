@@ -1,5 +1,5 @@
--- The loop that fills a span from the integrators: the places before i are written, and what is left is the run from there. What stands behind the stages stays.
-use Rattle.std.proofs.Common.{◌≡◌, ℕ, zero, suc, ◌+◌, ◌-◌, ◌<◌, ◌≤◌, List, [], ◌++◌, length, take, drop, set, ℤ, pos, sym, refl, ap, ◌∙◌, append-nil, add-one, arith, length-set, take-append-drop, drop-drop, take-suc-set, drop-set-lt}
+-- The loop that fills places from the integrators: those before i are written, and what is left is the run from there. What stands behind the stages stays.
+use Rattle.std.proofs.Common.{◌≡◌, ℕ, zero, suc, ◌+◌, ◌-◌, ◌<◌, ◌≤◌, List, ◌++◌, length, take, drop, set, ℤ, pos, sym, refl, ap, ◌∙◌, append-nil, add-one, arith, length-set, take_all, take-append-drop, take-suc-set}
 use native.Mathlib.Nat.{sub-zero}
 use lib.Seq.{append_snoc}
 use Rattle.integer.specs.Stages.{integrated, sum32}
@@ -9,30 +9,23 @@ use Rattle.integer.proofs.Row.{behind}
 abbrev pub glue : List ℤ → Filled → Filled
 glue p q = record { state = q.state; outs = p ++ q.outs }
 
-module _ (n : ℕ) (s : List ℤ) (v : ℤ) (r : ℕ) (span : List ℤ) where
+module _ (n : ℕ) (s : List ℤ) (v : ℤ) (r : ℕ) where
   pub record Left (a : List ℤ) (u : ℤ) (out : List ℤ) (i : ℕ) : Type 0 where
-    pub within : i ≤ r
-    pub long : length out ≡ length span
-    pub kept : drop i out ≡ drop i span
+    pub long : length out ≡ r
     pub rest : filled n s v r ≡ glue (take i out) (filled n a u (r - i))
 
-  pub starts : Left s v span 0
-  starts = record { within = omega arith; long = refl; kept = refl; rest = ap (λ m. filled n s v m) (sym (sub-zero r)) }
+  pub starts : (out : List ℤ) → length out ≡ r → Left s v out 0
+  starts out e = record { long = e; rest = ap (λ m. filled n s v m) (sym (sub-zero r)) }
 
-  pub goes_on : (a : List ℤ) (u : ℤ) (out : List ℤ) (i : ℕ) → r ≤ length span → i < r → Left a u out i → Left (integrated n a u).state (pos 0) (set out i (integrated n a u).val) (i + 1)
+  pub goes_on : (a : List ℤ) (u : ℤ) (out : List ℤ) (i : ℕ) → i < r → Left a u out i → Left (integrated n a u).state (pos 0) (set out i (integrated n a u).val) (i + 1)
   unfolding filled
-  goes_on a u out i fits h l =
+  goes_on a u out i h l =
       let b : i < length out = omega (arith, l.long) in
       let y = (integrated n a u).val in
       let t = (integrated n a u).state in
       let less : r - i ≡ suc (r - (i + 1)) = omega arith in
       record {
-        within = omega arith;
         long = length-set out i y ∙ l.long;
-        kept =
-            ap (λ k. drop k (set out i y)) (add-one i) ∙ drop-set-lt (suc i) out i y (omega arith)
-            ∙ ap (λ k. drop k out) (sym (add-one i))
-            ∙ sym (drop-drop 1 i out) ∙ ap (drop 1) l.kept ∙ drop-drop 1 i span;
         rest =
             l.rest ∙ ap (λ m. glue (take i out) (filled n a u m)) less
             ∙ ap (λ p. record { state = (filled n t (pos 0) (r - (i + 1))).state; outs = p }) (sym (append_snoc (take i out) y (filled n t (pos 0) (r - (i + 1))).outs))
@@ -40,16 +33,15 @@ module _ (n : ℕ) (s : List ℤ) (v : ℤ) (r : ℕ) (span : List ℤ) where
             ∙ ap (λ k. glue (take k (set out i y)) (filled n t (pos 0) (r - (i + 1)))) (sym (add-one i));
       }
 
-  pub done : (a : List ℤ) (u : ℤ) (out : List ℤ) (i : ℕ) → r ≤ i → Left a u out i → (a ≡ (filled n s v r).state) × (out ≡ (filled n s v r).outs ++ drop r span)
+  pub done : (a : List ℤ) (u : ℤ) (out : List ℤ) (i : ℕ) → r ≤ i → Left a u out i → (a ≡ (filled n s v r).state) × (out ≡ (filled n s v r).outs)
   unfolding filled
   done a u out i h l =
-      let none : r - i ≡ 0 = omega (arith, l.within) in
-      let e : i ≡ r = omega (arith, l.within) in
-      let q : filled n s v r ≡ glue (take i out) (record { state = a; outs = [] }) = l.rest ∙ ap (λ m. glue (take i out) (filled n a u m)) none in (
-        sym (ap (λ f. f.state) q),
-        sym (take-append-drop i out) ∙ ap (λ d. take i out ++ d) (l.kept ∙ ap (λ k. drop k span) e)
-            ∙ ap (λ p. p ++ drop r span) (sym (append-nil (take i out)) ∙ sym (ap (λ f. f.outs) q)),
-      )
+      let none : r - i ≡ 0 = omega arith in
+      let all : take i out ≡ out = take_all i out (omega (arith, l.long)) in
+      let q : filled n s v r ≡ record { state = a; outs = out } =
+      l.rest ∙ ap (λ m. glue (take i out) (filled n a u m)) none ∙ ap (λ p. record { state = a; outs = p }) (append-nil (take i out) ∙ all)
+      in
+      (sym (ap (λ (f : Filled). f.state) q), sym (ap (λ (f : Filled). f.outs) q))
 
 pub filled_behind : (n : ℕ) (s : List ℤ) (v : ℤ) (k : ℕ) → drop n (filled n s v k).state ≡ drop n s
 unfolding filled integrated

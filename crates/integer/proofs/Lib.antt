@@ -1,8 +1,9 @@
+pub mod Wrapping
 pub mod Row
 pub mod Run
-pub mod Turning
 pub mod Held
 pub mod Bits
+pub mod Shifts
 pub mod Within
 pub mod Writing
 pub mod Hogenauer

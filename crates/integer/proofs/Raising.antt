@@ -1,12 +1,13 @@
 -- A block of samples into an interpolator: after i of them their outputs stand in front of the span, and the stages are as they leave them. A sample may go into the
 -- first integrator by itself, and zeros through all of them then, since a wrapped sum takes a zero and stays. Lists joined are raised one after the other, so
 -- every cutting into blocks is the whole list.
-use Rattle.std.proofs.Common.{◌≡◌, ℕ, zero, suc, ◌+◌, ◌-◌, ◌*◌, ◌<◌, ◌≤◌, Bool, true, false, cond, ltb, leb, List, [], ◌∷◌, ◌++◌, length, get_or, take, drop, ℤ, pos, ◌+ℤ◌, sym, refl, ap, ◌∙◌, append_assoc, append-nil, mul-le-mul_right, suc-mul, add-mul, one-mul, zero-mul, add-one, arith, length-append, length-drop, drop_of_length-le, length-take-le, take_all, take-suc, drop-drop, take_at, drop_at, w32, le-ltb, lt-ltb}
+use Rattle.std.proofs.Common.{◌≡◌, ℕ, zero, suc, ◌+◌, ◌*◌, ◌<◌, ◌≤◌, Bool, true, false, cond, ltb, leb, List, [], ◌∷◌, ◌++◌, length, get_or, take, drop, ℤ, pos, ◌+ℤ◌, sym, refl, ap, ◌∙◌, append_assoc, append-nil, mul-le-mul_right, suc-mul, add-mul, one-mul, zero-mul, add-one, arith, length-append, length-drop, length-take-le, take_all, take-suc, drop-drop, take_at, drop_at, w32, le-ltb, lt-ltb}
 use lib.IntN.{+ℤ_idr}
 use Rattle.theory.specs.Feeds.{History, opened, fed}
 use Rattle.theory.specs.Wrap.{wrap}
 use Rattle.theory.proofs.Wrap.{wrap_wrap}
-use Rattle.refusal.specs.Outcome.{Outcome, Moved}
+use Rattle.refusal.specs.Outcome.{Outcome}
+use Rattle.refusal.specs.declared.Moved.{Moved}
 use Rattle.integer.specs.Stages.{row, integrated, combed, sum32}
 use Rattle.integer.specs.CicInterpolator.{interpolator_of, valid, Filled, filled, ahead, raised, next, outs, state, block_taken, block, block_outs, block_span, state_of, taken_of, written_of}
 use Rattle.integer.specs.declared.cic_interpolator.CicInterpolator.{CicInterpolator}
@@ -68,35 +69,34 @@ room r count places taken written e h fits =
     let n : taken + 1 ≤ count = omega arith in
     omega (arith, mul-le-mul_right r n, add-mul taken 1 r, one-mul r)
 
-module _ (N r : ℕ) (combs₀ integrators : List ℤ) (w span : List ℤ) (count : ℕ) where
+module _ (N r : ℕ) (combs₀ integrators : List ℤ) (w span : List ℤ) where
   abbrev d : CicInterpolator
   d = interpolator_of N r combs₀ integrators
 
   -- after `taken` samples
   pub record Raised (combs held out : List ℤ) (taken written : ℕ) : Type 0 where
-    pub within : taken ≤ count
+    pub within : taken ≤ length w
     pub at : written ≡ taken * r
     pub left : interpolator_of N r combs held ≡ state d (take taken w)
     pub made : out ≡ outs d (take taken w) ++ drop (taken * r) span
 
-  pub starts : Raised combs₀ integrators span 0 0
+  starts : Raised combs₀ integrators span 0 0
   starts = record { within = omega arith; at = sym (zero-mul r); left = refl; made = ap (λ k. drop k span) (sym (zero-mul r)) }
 
   -- so many outputs are made
   many : (i : ℕ) → i ≤ length w → length (outs d (take i w)) ≡ i * r
   many i h = outs_long d (take i w) ∙ ap (λ n. n * r) (length-take-le i w h)
 
-  pub same_span : (combs held out : List ℤ) (taken written : ℕ) → Raised combs held out taken written → count ≤ length w → count * r ≤ length span → length out ≡ length span
-  same_span combs held out taken written l enough fits =
+  same_span : (combs held out : List ℤ) (taken written : ℕ) → Raised combs held out taken written → length w * r ≤ length span → length out ≡ length span
+  same_span combs held out taken written l fits =
       let e : length out ≡ length (outs d (take taken w)) + length (drop (taken * r) span) = ap length l.made ∙ length-append (outs d (take taken w)) (drop (taken * r) span) in
-      let h : taken ≤ length w = omega (arith, l.within) in
-      omega (arith, e, many taken h, length-drop (taken * r) span, mul-le-mul_right r l.within)
+      omega (arith, e, many taken l.within, length-drop (taken * r) span, mul-le-mul_right r l.within)
 
-  goes_on : (combs held out : List ℤ) (i j : ℕ) → 1 ≤ N → 1 ≤ r → 0 < length integrators → i < count → count ≤ length w → Raised combs held out i j →
+  goes_on : (combs held out : List ℤ) (i j : ℕ) → 1 ≤ N → 1 ≤ r → 0 < length integrators → i < length w → Raised combs held out i j →
       let x = get_or w i (pos 0) in
       let f = filled N (integrated 1 held (combed N combs x).val).state (pos 0) r in
       Raised (combed N combs x).state f.state (take j out ++ (f.outs ++ drop r (drop j out))) (i + 1) (j + r)
-  goes_on combs held out i j h_n hr some h enough l =
+  goes_on combs held out i j h_n hr some h l =
       let x = get_or w i (pos 0) in
       let v = (combed N combs x).val in
       let f = filled N (integrated 1 held v).state (pos 0) r in
@@ -130,38 +130,39 @@ module _ (N r : ℕ) (combs₀ integrators : List ℤ) (w span : List ℤ) (coun
     pub combs₁ : List ℤ
     pub held₁ : List ℤ
     pub before : Raised combs₁ held₁ out i j
-    pub kept : combs ≡ cond (ltb i count) (combed N combs₁ (get_or w i (pos 0))).state combs₁
-    pub summed : held ≡ cond (ltb i count) (integrated 1 held₁ (combed N combs₁ (get_or w i (pos 0))).val).state held₁
+    pub kept : combs ≡ cond (ltb i (length w)) (combed N combs₁ (get_or w i (pos 0))).state combs₁
+    pub summed : held ≡ cond (ltb i (length w)) (integrated 1 held₁ (combed N combs₁ (get_or w i (pos 0))).val).state held₁
 
-  -- its outputs are written in the part of the span from j on
-  pub written_out : (combs held out : List ℤ) (i j : ℕ) (held₂ part : List ℤ) → 1 ≤ N → 1 ≤ r → 0 < length integrators → i < count → count ≤ length w
-      → Entered combs held out i j
-      → held₂ ≡ (filled N held (pos 0) r).state
-      → part ≡ (filled N held (pos 0) r).outs ++ drop r (take (length out - j) (drop j out))
-      → Raised combs held₂ (take j out ++ (part ++ drop (length out - j) (drop j out))) (i + 1) (j + r)
-  written_out combs held out i j held₂ part h_n hr some h enough l e₂ ep =
-      let b = drop j out in
-      let long : length b ≤ length out - j = omega (arith, length-drop j out) in
-      let f = (filled N held (pos 0) r).outs in
-      let whole : part ++ drop (length out - j) b ≡ f ++ drop r b =
-      ap (λ q. part ++ q) (drop_of_length-le b long) ∙ append-nil part ∙ ep ∙ ap (λ q. f ++ drop r q) (take_all (length out - j) b long) in
-      let yes : ltb i count ≡ true = lt-ltb i count h in
+  pub entered_first : (combs held : List ℤ) → combs ≡ cond (ltb 0 (length w)) (combed N combs₀ (get_or w 0 (pos 0))).state combs₀
+      → held ≡ cond (ltb 0 (length w)) (integrated 1 integrators (combed N combs₀ (get_or w 0 (pos 0))).val).state integrators → Entered combs held span 0 0
+  entered_first combs held k s = record { combs₁ = combs₀; held₁ = integrators; before = starts; kept = k; summed = s }
+
+  pub span_kept : {combs held out : List ℤ} {taken written : ℕ} → Entered combs held out taken written → length w * r ≤ length span → length out ≡ length span
+  span_kept l fits = same_span _ _ _ _ _ l.before fits
+
+  -- its outputs are written in the places from j on
+  pub written_out : {combs held out : List ℤ} {i j : ℕ} → 1 ≤ N → 1 ≤ r → 0 < length integrators → i < length w → Entered combs held out i j →
+      let f = filled N held (pos 0) r in
+      Raised combs f.state (take j out ++ (f.outs ++ drop r (drop j out))) (i + 1) (j + r)
+  written_out {combs} {held} {out} {i} {j} h_n hr some h l =
+      let yes : ltb i (length w) ≡ true = lt-ltb i (length w) h in
       let k = rw yes at l.kept in
       let s = rw yes at l.summed in
-      rw (whole, e₂, s, k) (goes_on l.combs₁ l.held₁ out i j h_n hr some h enough l.before)
+      rw (s, k) (goes_on l.combs₁ l.held₁ out i j h_n hr some h l.before)
 
   -- all of them, the stages in use written back in front of those behind them
-  pub done : (combs held out : List ℤ) (taken written : ℕ) → count ≤ taken → Entered combs held out taken written →
-      (interpolator_of N r combs (take N held ++ drop N integrators) ≡ state d (take count w)) × (out ≡ outs d (take count w) ++ drop (count * r) span)
-  done combs held out taken written h a =
+  pub done : {combs held out : List ℤ} {taken written : ℕ} → length w ≤ taken → Entered combs held out taken written →
+      (interpolator_of N r combs (take N held ++ drop N integrators) ≡ state d w) × (out ≡ outs d w ++ drop (length w * r) span)
+  done {combs} {held} {out} {taken} h a =
       let l = a.before in
-      let no : ltb taken count ≡ false = le-ltb taken count h in
+      let no : ltb taken (length w) ≡ false = le-ltb taken (length w) h in
       let k = rw no at a.kept in
       let s = rw no at a.summed in
-      let e : taken ≡ count = omega (arith, l.within) in
+      let e : taken ≡ length w = omega (arith, l.within) in
+      let all : take taken w ≡ w = take_all taken w h in
       let behind : drop N a.held₁ ≡ drop N integrators = ap (λ (q : CicInterpolator). drop N q.integrator_state) l.left ∙ state_behind d (take taken w) in (
-        rw (s, k) (ap (interpolator_of N r a.combs₁) (front_kept N a.held₁ integrators behind) ∙ l.left ∙ ap (λ k. state d (take k w)) e),
-        l.made ∙ ap (λ k. outs d (take k w) ++ drop (k * r) span) e,
+        rw (s, k) (ap (interpolator_of N r a.combs₁) (front_kept N a.held₁ integrators behind) ∙ l.left ∙ ap (state d) all),
+        l.made ∙ ap (λ p. outs d p ++ drop (taken * r) span) all ∙ ap (λ k. outs d w ++ drop (k * r) span) e,
       )
 
 -- a block that is not refused: as many samples as there are, and as the span has r places for

@@ -1,79 +1,53 @@
--- A loop over stages in a row, once for integrators and combs: those before i are done, and what is left is the row of the others.
-use Rattle.std.proofs.Common.{◌≡◌, ℕ, zero, suc, ◌+◌, ◌-◌, ◌<◌, ◌≤◌, List, [], ◌∷◌, ◌++◌, length, get_or, take, drop, set, sym, refl, ap, ◌∙◌, add-one, arith, length-set, take-append-drop, drop_of_length-le, drop-cons, take-suc-set, drop-set-lt}
-use native.Mathlib.Nat.{sub-zero}
-use lib.Seq.{append_snoc}
+-- A loop over stages in a row, once for all kinds of them: a turn is one stage more, and the stages in use are a row in front of the others.
+use Rattle.std.proofs.Common.{◌≡◌, ℕ, zero, suc, ◌+◌, ◌<◌, min, List, [], ◌∷◌, ◌++◌, length, get_or, take, drop, set, sym, refl, ap, ◌∙◌, add-one, arith, length-take-le}
 use Rattle.integer.specs.Stages.{Passed, row}
 
-abbrev pub glue : {A : Type 0} → List A → Passed A → Passed A
-glue p q = record { state = p ++ q.state; val = q.val }
+module _ {A : Type 0} (keep out : A → A → A) where
+  -- a row keeps the number of its elements
+  pub long_kept : (n : ℕ) (s : List A) (v : A) → length (row keep out n s v).state ≡ length s
+  long_kept zero s v = refl
+  long_kept (suc n) [] v = refl
+  long_kept (suc n) (a ∷ s) v = ap suc (long_kept n s (out a v))
 
--- a row keeps the number of its elements
-pub long_kept : {A : Type 0} (keep out : A → A → A) (n : ℕ) (s : List A) (v : A) → length (row keep out n s v).state ≡ length s
-long_kept keep out zero s v = refl
-long_kept keep out (suc n) [] v = refl
-long_kept keep out (suc n) (a ∷ s) v = ap suc (long_kept keep out n s (out a v))
+  -- and leaves what stands behind its stages
+  pub behind : (n : ℕ) (s : List A) (v : A) → drop n (row keep out n s v).state ≡ drop n s
+  behind zero s v = refl
+  behind (suc n) [] v = refl
+  behind (suc n) (a ∷ s) v = behind n s (out a v)
 
--- and leaves what stands behind its stages
-pub behind : {A : Type 0} (keep out : A → A → A) (n : ℕ) (s : List A) (v : A) → drop n (row keep out n s v).state ≡ drop n s
-behind keep out zero s v = refl
-behind keep out (suc n) [] v = refl
-behind keep out (suc n) (a ∷ s) v = behind keep out n s (out a v)
+  -- a stage in front of others
+  abbrev led : A → A → Passed A → Passed A
+  led a v p = record { state = keep a v ∷ p.state; val = p.val }
 
-module _ {A : Type 0} (keep out : A → A → A) (z : A) (n : ℕ) (s : List A) (v : A) where
-  nothing_left : (m : ℕ) (val : A) → row keep out m [] val ≡ record { state = []; val = val }
-  nothing_left zero val = refl
-  nothing_left (suc m) val = refl
+  -- the states and the value after one stage more
+  abbrev next : A → ℕ → Passed A → Passed A
+  next z i p = record { state = set p.state i (keep (get_or p.state i z) p.val); val = out (get_or p.state i z) p.val }
 
-  -- at stage i, with the states a and the value val
-  pub record Left (a : List A) (val : A) (i : ℕ) : Type 0 where
-    pub long : length a ≡ length s
-    pub rest : row keep out n s v ≡ glue (take i a) (row keep out (n - i) (drop i a) val)
+  after : (z : A) (i : ℕ) (s : List A) (v : A) → i < length s → row keep out (suc i) s v ≡ next z i (row keep out i s v)
+  after z i [] v h = absurd (omega arith)
+  after z zero (a ∷ s) v h = refl
+  after z (suc i) (a ∷ s) v h = ap (led a v) (after z i s (out a v) (omega arith))
 
-  pub starts : Left s v 0
-  starts = record { long = refl; rest = ap (λ m. row keep out m s v) (sym (sub-zero n)) }
+  pub one_more : (z : A) (i : ℕ) (s : List A) (v : A) (p : Passed A) → i < length s → row keep out i s v ≡ p → row keep out (i + 1) s v ≡ next z i p
+  one_more z i s v p h e = ap (λ k. row keep out k s v) (add-one i) ∙ after z i s v h ∙ ap (next z i) e
 
-  pub goes_on : (a : List A) (val : A) (i : ℕ) → i < n → i < length s → Left a val i → Left (set a i (keep (get_or a i z) val)) (out (get_or a i z) val) (i + 1)
-  goes_on a val i h g l =
-      let b : i < length a = omega (arith, l.long) in
-      let old = get_or a i z in
-      let less : n - i ≡ suc (n - (i + 1)) = omega arith in
-      record {
-        long = length-set a i (keep old val) ∙ l.long;
-        rest =
-            l.rest
-            ∙ ap (λ m. glue (take i a) (row keep out m (drop i a) val)) less
-            ∙ ap (λ d. glue (take i a) (row keep out (suc (n - (i + 1))) d val)) (drop-cons a i z b)
-            ∙ ap (λ p. record { state = p; val = (row keep out (n - (i + 1)) (drop (suc i) a) (out old val)).val }) (sym (append_snoc (take i a) (keep old val) _))
-            ∙ ap (λ p. glue p (row keep out (n - (i + 1)) (drop (suc i) a) (out old val))) (sym (take-suc-set a i (keep old val) b))
-            ∙ ap (λ d. glue (take (suc i) (set a i (keep old val))) (row keep out (n - (i + 1)) d (out old val))) (sym (drop-set-lt (suc i) a i (keep old val) (omega arith)))
-            ∙ ap (λ k. glue (take k (set a i (keep old val))) (row keep out (n - (i + 1)) (drop k (set a i (keep old val))) (out old val))) (sym (add-one i));
-      }
+  -- a row in front of stages that are not in use
+  abbrev before : Passed A → List A → Passed A
+  before p s = record { state = p.state ++ s; val = p.val }
 
-  pub done : (a : List A) (val : A) (i : ℕ) → n ≤ i → Left a val i → record { state = a; val = val } ≡ row keep out n s v
-  done a val i h l =
-      let none : n - i ≡ 0 = omega arith in
-      sym (l.rest ∙ ap (λ m. glue (take i a) (row keep out m (drop i a) val)) none
-      ∙ ap (λ p. record { state = p; val = val }) (take-append-drop i a))
+  front : (n : ℕ) (s : List A) (v : A) → row keep out n s v ≡ before (row keep out (min n (length s)) (take (min n (length s)) s) v) (drop (min n (length s)) s)
+  front zero s v = let e : min 0 (length s) ≡ 0 = omega arith in rw e
+  front (suc n) [] v = let e : min (suc n) 0 ≡ 0 = omega arith in rw e
+  front (suc n) (a ∷ s) v =
+      let e : min (suc n) (suc (length s)) ≡ suc (min n (length s)) = omega arith in
+      rw e (ap (led a v) (front n s (out a v)))
 
-  pub done_all : (a : List A) (val : A) (i : ℕ) → length s ≤ i → Left a val i → record { state = a; val = val } ≡ row keep out n s v
-  done_all a val i h l =
-      let past : length a ≤ i = omega (arith, l.long) in
-      let none : drop i a ≡ [] = drop_of_length-le a past in
-      sym (l.rest
-      ∙ ap (λ d. glue (take i a) (row keep out (n - i) d val)) none
-      ∙ ap (glue (take i a)) (nothing_left (n - i) val)
-      ∙ ap (λ (d : List A). record { state = take i a ++ d; val = val }) (sym none)
-      ∙ ap (λ p. record { state = p; val = val }) (take-append-drop i a))
-
-  -- the same as a loop's result has it: the states and the value
-  abbrev pub Is : List A → A → Type 0
-  Is a val = (a ≡ (row keep out n s v).state) × (val ≡ (row keep out n s v).val)
-
-  is : (a : List A) (val : A) → record { state = a; val = val } ≡ row keep out n s v → Is a val
-  is a val e = (ap (λ (p : Passed A). p.state) e, ap (λ (p : Passed A). p.val) e)
-
-  pub ends : (a : List A) (val : A) (i : ℕ) → n ≤ i → Left a val i → Is a val
-  ends a val i h l = is a val (done a val i h l)
-
-  pub ends_all : (a : List A) (val : A) (i : ℕ) → length s ≤ i → Left a val i → Is a val
-  ends_all a val i h l = is a val (done_all a val i h l)
+  -- where a row of the m stages in use is done, the whole is
+  pub all_used : (m n i : ℕ) (s : List A) (v : A) (p : Passed A) → m ≡ min n (length s) → i ≡ length (take m s) → row keep out i (take m s) v ≡ p →
+      (p.state ++ drop m s ≡ (row keep out n s v).state) × (p.val ≡ (row keep out n s v).val)
+  all_used m n i s v p used done e =
+      let all : i ≡ m = done ∙ length-take-le m s (omega (arith, used)) in
+      let whole : row keep out n s v ≡ before p (drop m s) =
+      rw (← used) at (front n s v) ∙ ap (λ q. before q (drop m s)) (ap (λ k. row keep out k (take m s) v) (sym all) ∙ e)
+      in
+      (sym (ap (λ (q : Passed A). q.state) whole), sym (ap (λ (q : Passed A). q.val) whole))

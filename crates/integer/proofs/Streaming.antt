@@ -1,7 +1,7 @@
 -- What a fresh decimator keeps over every list of samples: validity and settings by each step, the sums by Hogenauer's theorem, the scaled sums value by value,
 -- and every cutting into blocks by the theorem on feeds.
 use Rattle.std.proofs.Common.{◌≡◌, ℕ, ◌+◌, ◌/◌, ◌^◌, ◌≤◌, Bool, true, false, cond, ltb, List, [], ◌∷◌, map, length, ℤ, pos, refl, ap, ◌∙◌, lt-ltb}
-use mathlib.Core.Option.{Option, none, some}
+use Rattle.std.specs.Prelude.{Option, None, Some}
 use Rattle.theory.specs.Floor.{floor_div}
 use Rattle.theory.specs.Sections.{onto, outs}
 use Rattle.theory.proofs.Sections.{state_keeps}
@@ -65,8 +65,8 @@ module _ (N r : ℕ) where
       ∙ go (decimator.out d x) (outs decimator (decimator.next d x) w)
     where
       go : (o : Option ℤ) (l : List ℤ) → onto (scaled_by (gain_bits N r) o) (map scale l) ≡ map scale (onto o l)
-      go none l = refl
-      go (some y) l = refl
+      go None l = refl
+      go (Some y) l = refl
 
 pub streams : (N r : ℕ) → stages_ok N ≡ true → factor_ok r ≡ true → Streams N r (fresh N r)
 streams N r ok_n ok_r =

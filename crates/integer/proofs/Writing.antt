@@ -1,5 +1,7 @@
 -- The loop that writes the front of one list over another: before turn i the first i places are the new ones.
-use Rattle.std.proofs.Common.{◌≡◌, ℕ, suc, ◌+◌, ◌<◌, ◌≤◌, List, ◌++◌, length, get_or, take, drop, set, sym, ap, ◌∙◌, add-one, arith, drop_of_length-le, length-take-le, take_all, drop-cons, take-suc}
+use Rattle.std.proofs.Common.{◌≡◌, ℕ, suc, ◌+◌, ◌<◌, ◌≤◌, min, List, ◌++◌, length, get_or, take, drop, set, sym, ap, ◌∙◌, add-one, arith, drop_of_length-le, length-take-le, take_all, drop-cons, take-suc}
+use native.Mathlib.Decide.{dec_le}
+use native.Mathlib.Nat.{min-eq_left}
 use lib.Seq.{set_at, append_snoc}
 
 module _ {A : Type 0} (h s : List A) where
@@ -20,3 +22,10 @@ module _ {A : Type 0} (h s : List A) where
       let g₂ : length s ≤ n = omega arith in
       ap (λ p. p ++ drop i s) (take_all i h l ∙ sym (take_all n h l₂))
       ∙ ap (λ d. take n h ++ d) (drop_of_length-le s g ∙ sym (drop_of_length-le s g₂))
+
+  pub ended : (long i n : ℕ) → length h ≡ long → length s ≡ long → i ≡ min n long → take i h ++ drop i s ≡ take n h ++ drop n s
+  ended long i n a b e = go (dec_le n long)
+    where
+      go : Dec (n ≤ long) → take i h ++ drop i s ≡ take n h ++ drop n s
+      go (yes l) = ap (λ k. take k h ++ drop k s) (e ∙ min-eq_left l)
+      go (no f) = all i n (omega (arith, e)) (omega (arith, e)) (omega (arith, e))

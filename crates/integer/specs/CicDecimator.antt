@@ -1,24 +1,18 @@
 -- 01, section 1, `CicDecimator`: its state, its openings and refusals, one sample, one scaled sample and a block; and what holds of every stream.
-use Rattle.std.specs.Prelude.{◌≡◌, ℕ, ◌+◌, ◌^◌, Bool, true, cond, ◌&&◌, List, ◌++◌, length, drop, replicate, ℤ, pos, nat_le, nat_lt}
-use Rattle.std.proofs.Math.Option.{Option, none, some}
+use Rattle.std.specs.Prelude.{◌≡◌, ℕ, ◌+◌, ◌^◌, Bool, true, cond, ◌&&◌, List, ◌++◌, length, drop, replicate, ℤ, pos, nat_le, nat_lt, Option, None, Some}
 use Rattle.theory.specs.Floor.{floor_div}
 use Rattle.theory.specs.Sections.{Section, state, outs}
 use Rattle.theory.specs.Machines.{Machine, alone}
 use Rattle.theory.specs.Feeds.{Fed, feed, History, Promised}
-use Rattle.refusal.specs.Table.{number_of}
-use Rattle.refusal.specs.Outcome.{Outcome, Opened, opening_number, Moved, counts_answer}
+use Rattle.theory.proofs.Machines.{Lawful}
+use Rattle.theory.proofs.FeedLoop.{Midway}
+use Rattle.refusal.specs.Outcome.{Outcome}
+use Rattle.refusal.specs.declared.Moved.{Moved}
 use Rattle.integer.specs.Limits.{most_stages, stages_ok, factor_ok}
 use Rattle.integer.specs.Stages.{integrated, combed}
 use Rattle.integer.specs.Gain.{gain_bits, most_bits}
 use Rattle.integer.specs.MovingSums.{sums, scaled_sums}
 use Rattle.integer.specs.declared.cic_decimator.CicDecimator.{CicDecimator}
-use Rattle.integer.specs.declared.cic_decimator.CicOpened.{CicOpened}
-use Rattle.integer.specs.declared.cic_decimator.CicOutput.{CicOutput}
-use Rattle.integer.specs.declared.cic_decimator.CicOutput.TheVariants as output
-use Rattle.integer.specs.declared.cic_decimator.CicStep.{CicStep}
-use Rattle.integer.specs.declared.cic_decimator.CicBlock.{CicBlock}
-use Rattle.integer.specs.declared.cic_decimator.CicSum.{CicSum}
-use Rattle.integer.specs.declared.cic_decimator.CicSum.TheVariants as sum
 
 -- a decimator from its parts
 abbrev pub decimator_of : ℕ → ℕ → List ℤ → List ℤ → ℕ → CicDecimator
@@ -50,13 +44,13 @@ decimator =
           (decimator_of d.stages d.r (integrated d.stages d.integrator_state x).state
           (combed d.stages d.comb_state (integrated d.stages d.integrator_state x).val).state 0);
       out = λ d x.
-          cond (waits d) none
-          (some (combed d.stages d.comb_state (integrated d.stages d.integrator_state x).val).val);
+          cond (waits d) None
+          (Some (combed d.stages d.comb_state (integrated d.stages d.integrator_state x).val).val);
     }
 
 -- a sample that is refused: no sum, and "state stays"
 abbrev pub refused_step : ℕ → CicDecimator → Outcome (Option ℤ) CicDecimator
-refused_step n d = record { number = n; value = none; state = d }
+refused_step n d = record { number = n; value = None; state = d }
 
 -- `process_sample`
 unfoldable pub step : CicDecimator → ℤ → Outcome (Option ℤ) CicDecimator
@@ -67,8 +61,8 @@ step d x =
 
 -- "floor(sum / 2^g)"
 abbrev pub scaled_by : ℕ → Option ℤ → Option ℤ
-scaled_by g none = none
-scaled_by g (some y) = some (floor_div y (2 ^ g))
+scaled_by g None = None
+scaled_by g (Some y) = Some (floor_div y (2 ^ g))
 
 unfoldable pub scaled_decimator : Section CicDecimator ℤ ℤ
 scaled_decimator =
@@ -107,31 +101,10 @@ block_span d w span =
     ((fed_block d w (length span)).written ++ drop (length (fed_block d w (length span)).written) span)
     span
 
--- each case of CicOutput: its number, and the sum
-abbrev pub output_number : CicOutput → ℕ
-output_number output.Nothing = 0
-output_number (output.Sample y) = 0
-output_number (output.Refused q) = number_of q
-
-abbrev pub output_sum : CicOutput → Option ℤ
-output_sum output.Nothing = none
-output_sum (output.Sample y) = some y
-output_sum (output.Refused q) = none
-
--- each case of CicSum: the sum
-abbrev pub sum_of : CicSum → Option ℤ
-sum_of sum.Nothing = none
-sum_of (sum.Value y) = some y
-
--- what the answers tell
-abbrev pub told_opening : CicOpened → Opened CicDecimator
-told_opening o = record { number = opening_number o.answer; state = o.state }
-
-abbrev pub told_step : CicStep → Outcome (Option ℤ) CicDecimator
-told_step s = record { number = output_number s.output; value = output_sum s.output; state = s.state }
-
-abbrev pub told_block : CicBlock → Outcome Moved CicDecimator
-told_block b = record { number = (counts_answer b.counts).number; value = (counts_answer b.counts).value; state = b.state }
+-- in a block: d is what `taken` samples of xs, which wrote `written` sums over the front of `before`, leave of d₀. For the contracts of private functions
+unfoldable pub Underway : CicDecimator → List ℤ → List ℤ → List ℤ → CicDecimator → ℕ → ℕ → Type 0
+Underway d₀ xs before after d taken written =
+    (law : Lawful machine 0 (λ s. valid s ≡ true)) → Midway machine 0 (λ s. valid s ≡ true) law d₀ xs before after d taken written
 
 -- What a decimator d of N stages and factor r keeps over every list of samples. Since each clause speaks of every list, output k is made at sample
 -- (k+1)r−1: a list one shorter has one output fewer

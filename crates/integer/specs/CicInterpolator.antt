@@ -2,14 +2,12 @@
 use Rattle.std.specs.Prelude.{◌≡◌, ℕ, zero, suc, ◌*◌, ◌/◌, min, Bool, true, cond, ◌&&◌, List, [], ◌∷◌, ◌++◌, length, take, drop, replicate, ℤ, pos, FitsSigned, nat_le, slice_index_or}
 use Rattle.std.specs.Int.{w32}
 use Rattle.theory.specs.Feeds.{History, opened, fed}
-use Rattle.refusal.specs.Outcome.{Outcome, Opened, Moved, opening_number, count_answer, counts_answer}
+use Rattle.refusal.specs.Outcome.{Outcome}
+use Rattle.refusal.specs.declared.Moved.{Moved}
 use Rattle.integer.specs.Limits.{most_stages, stages_ok, factor_ok}
 use Rattle.integer.specs.Stages.{integrated, combed}
 use Rattle.integer.specs.MovingSums.{stuffed_sums}
 use Rattle.integer.specs.declared.cic_interpolator.CicInterpolator.{CicInterpolator}
-use Rattle.integer.specs.declared.cic_interpolator.CicInterpolatorOpened.{CicInterpolatorOpened}
-use Rattle.integer.specs.declared.cic_interpolator.CicInterpolated.{CicInterpolated}
-use Rattle.integer.specs.declared.cic_interpolator.CicInterpolatorBlock.{CicInterpolatorBlock}
 
 -- an interpolator from its parts
 abbrev pub interpolator_of : ℕ → ℕ → List ℤ → List ℤ → CicInterpolator
@@ -87,16 +85,6 @@ block_outs d w places = cond (valid d) (cond (nat_le d.r places) (outs d (take (
 
 abbrev pub block_span : CicInterpolator → List ℤ → List ℤ → List ℤ
 block_span d w span = block_outs d w (length span) ++ drop (block d w (length span)).value.written span
-
--- what the answers tell
-abbrev pub told_opening : CicInterpolatorOpened → Opened CicInterpolator
-told_opening o = record { number = opening_number o.answer; state = o.state }
-
-abbrev pub told_sample : CicInterpolated → Outcome ℕ CicInterpolator
-told_sample s = record { number = (count_answer s.written).number; value = (count_answer s.written).value; state = s.state }
-
-abbrev pub told_block : CicInterpolatorBlock → Outcome Moved CicInterpolator
-told_block b = record { number = (counts_answer b.counts).number; value = (counts_answer b.counts).value; state = b.state }
 
 -- blocks one after the other: the state that the last one left, the samples taken and the outputs written, each joined in order
 module _ (d : CicInterpolator) where

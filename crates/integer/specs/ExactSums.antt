@@ -3,12 +3,10 @@
 use Rattle.std.specs.Prelude.{◌≡◌, ℕ, ◌+◌, ◌-◌, ◌*◌, ◌/◌, ◌^◌, ◌<◌, ◌≤◌, Bool, cond, List, length, ℤ, pos, neg_ℤ, ◌≤ℤ◌, nat_le}
 use Rattle.theory.specs.Floor.{floor_div}
 use Rattle.theory.specs.Lists.{listed}
-use Rattle.refusal.specs.Table.{number_of}
 use Rattle.refusal.specs.Outcome.{Answer}
 use Rattle.integer.specs.Gain.{gain_bits, most_bits}
 use Rattle.integer.specs.MovingSums.{signal_of, moving_sum, fold}
-use Rattle.integer.specs.declared.exact_range.ExactRange.{ExactRange}
-use Rattle.integer.specs.declared.exact_range.ExactRange.TheVariants as range
+use Rattle.integer.specs.declared.exact_range.Ends.{Ends}
 
 -- "the exact N-fold sum with no modulus" of output k, which is made at sample (k+1)r−1
 abbrev pub exact_sum : ℕ → ℕ → List ℤ → ℕ → ℤ
@@ -42,13 +40,12 @@ abbrev pub ExactSums : ℕ → ℕ → (List ℤ → List ℤ) → (List ℤ →
 ExactSums N r made scaled =
     gain_bits N r ≤ most_bits → ExactWithin (least_exact (gain_bits N r)) (greatest_exact (gain_bits N r)) N r made scaled
 
--- the two ends of a range
-pub record Ends : Type 0 where
-  pub least : ℤ
-  pub greatest : ℤ
+-- the ends of no range
+abbrev pub no_ends : Ends
+no_ends = record { least = pos 0; greatest = pos 0 }
 
 abbrev pub refused_range : ℕ → Answer Ends
-refused_range n = record { number = n; value = record { least = pos 0; greatest = pos 0 } }
+refused_range n = record { number = n; value = no_ends }
 
 -- `exact_range` of N stages and factor r on a state that is valid or not: 15, then 3, "gain bits over 31", as for a scaled sample
 unfoldable pub exact_range : Bool → ℕ → ℕ → Answer Ends
@@ -58,8 +55,3 @@ exact_range valid N r =
     (record { number = 0; value = record { least = least_exact (gain_bits N r); greatest = greatest_exact (gain_bits N r) } })
     (refused_range 3))
     (refused_range 15)
-
--- each case of ExactRange: its number and its ends
-abbrev pub told_range : ExactRange → Answer Ends
-told_range (range.Within least greatest) = record { number = 0; value = record { least = least; greatest = greatest } }
-told_range (range.Refused q) = refused_range (number_of q)

@@ -1,10 +1,5 @@
 -- 01, section 1: "Gain is r^N, held at 2^64−1. Gain bits are 0 for gain 1, else the least g with 2^g ≥ gain; a held gain gives 64."
 use Rattle.std.specs.Prelude.{ℕ, zero, suc, ◌+◌, ◌^◌, ◌<◌, ◌≤◌, min, cond, nat_le}
-use Rattle.integer.specs.declared.gain.Gain.{Gain}
-use Rattle.integer.specs.declared.gain.Gain.TheVariants as gain
-use Rattle.integer.specs.declared.gain.GainBits.{GainBits}
-use Rattle.integer.specs.declared.gain.GainBits.TheVariants as bits
-use Rattle.refusal.specs.Table.{number_of}
 use Rattle.refusal.specs.Outcome.{Answer}
 
 abbrev pub held : ℕ → ℕ
@@ -34,11 +29,7 @@ gain_bits n r = bits_of (gain_of n r)
 abbrev pub most_bits : ℕ
 most_bits = 31
 
--- each case of Gain and of GainBits: its number and its value
-abbrev pub told_gain : Gain → Answer ℕ
-told_gain (gain.Value g) = record { number = 0; value = g }
-told_gain (gain.Refused q) = record { number = number_of q; value = 0 }
-
-abbrev pub told_bits : GainBits → Answer ℕ
-told_bits (bits.Value b) = record { number = 0; value = b }
-told_bits (bits.Refused q) = record { number = number_of q; value = 0 }
+-- the bits by which a sum is scaled; row 3, "gain bits over 31"
+unfoldable pub scaling_bits : ℕ → ℕ → Answer ℕ
+scaling_bits n r =
+    cond (nat_le (gain_bits n r) most_bits) (record { number = 0; value = gain_bits n r }) (record { number = 3; value = 0 })

@@ -1,17 +1,17 @@
 // 01, section 7: the cascaded integrator-comb interpolator.
-ghost use Rattle.std.specs.Prelude.{◌≡◌, ◌-◌, ◌*◌, ◌≤◌, true, ◌++◌, length, get_or, take, drop, pos, if◌then◌else◌, nat_lt, slice_index_or};
-ghost use Rattle.refusal.specs.Outcome.{opening_number};
+ghost use Rattle.std.specs.Prelude.{◌≡◌, ◌-◌, ◌*◌, ◌≤◌, true, cond, IfOk, ◌++◌, length, take, drop, pos, if◌then◌else◌, nat_le, nat_lt, slice_index_or};
+ghost use Rattle.refusal.specs.Outcome.{number_in, none_moved, told, told_on, told_opened};
 ghost use Rattle.integer.specs.Opening.{opening, on_state};
-ghost use Rattle.integer.specs.Gain.{gain_of, gain_bits, told_gain, told_bits, Least};
+ghost use Rattle.integer.specs.Gain.{gain_of, gain_bits, Least};
 ghost use Rattle.integer.specs.Stages.{integrated, combed};
 ghost use Rattle.integer.specs.CicInterpolator as I;
 
-use crate::gain::{Gain, GainBits, bits_of, gain_of};
-use crate::limits::{MAX_STAGES, factor_ok, least, stages_ok};
-use crate::stages::{comb, eight, integrate, write_back};
-use refusal::{Count, Counts, Opening, Refusal};
+use crate::gain::{bits_of, gain_of};
+use crate::limits::{MAX_STAGES, factor_ok, settings_answer, stages_ok};
+use crate::stages::{comb, integrate, write_back};
+use refusal::{Moved, Refusal};
 
-#[derive(Drop)]
+#[derive(Clone, Copy)]
 pub struct CicInterpolator {
     pub stages: usize,
     pub r: usize,
@@ -19,111 +19,70 @@ pub struct CicInterpolator {
     pub integrator_state: [i32; MAX_STAGES],
 }
 
-// An opening, with the state beside it.
-#[derive(Drop)]
-pub struct CicInterpolatorOpened {
-    pub answer: Opening,
-    pub state: CicInterpolator,
-}
-
-// What a sample gave: how many outputs stand in front of the span, and the next state.
-#[derive(Drop)]
-pub struct CicInterpolated {
-    pub written: Count,
-    pub state: CicInterpolator,
-}
-
-// What a block gave: samples taken from the front of src, outputs written to the front of dst, and the next state.
-#[derive(Drop)]
-pub struct CicInterpolatorBlock {
-    pub counts: Counts,
-    pub state: CicInterpolator,
-}
-
-fn zeros(stages: usize, r: usize) -> CicInterpolator
-    ensures { result ≡ I.fresh stages r }
+// Row 15.
+#[tactic(auto, unfolding(crate::specs::CicInterpolator::valid_at))]
+fn state_answer(stages: usize, r: usize) -> Result<(), Refusal>
+    ensures { number_in result ≡ cond (I.valid_at stages r) 0 15 }
 {
-    CicInterpolator {
-        stages,
-        r,
-        comb_state: [0; MAX_STAGES],
-        integrator_state: [0; MAX_STAGES],
+    if !stages_ok(stages) || !factor_ok(r) {
+        return Err(Refusal::State);
     }
+    Ok(())
 }
 
-fn valid(stages: usize, r: usize) -> bool
-    ensures { result ≡ I.valid_at stages r }
+// Row 4.
+fn span_answer(places: usize, r: usize) -> Result<(), Refusal>
+    ensures { number_in result ≡ cond (nat_le r places) 0 4 }
 {
-    if !stages_ok(stages) {
-        return false;
+    if places < r {
+        return Err(Refusal::Span);
     }
-    factor_ok(r)
+    Ok(())
 }
 
-// r values out of the integrators: input goes in, and then zeros.
-fn fill_on(
-    stages: usize,
-    integrators: &mut [i32; MAX_STAGES],
-    input: i32,
-    r: usize,
-    out_buf: &mut [i32],
-)
-    requires { r ≤ length out_buf.old }
-    ensures { (integrators.new ≡ (I.filled stages integrators.old input r).state) × (out_buf.new ≡ (I.filled stages integrators.old input r).outs ++ drop r out_buf.old) }
+// The integrators' outputs, as many as there are places: input goes in, and then zeros.
+fn fill_on(stages: usize, integrators: &mut [i32; MAX_STAGES], input: i32, places: &mut [i32])
+    ensures { let filled = I.filled stages integrators.old input (length places.old) in
+        (integrators.new ≡ filled.state) × (places.new ≡ filled.outs) }
 {
     let mut val = input;
-    let mut i = 0;
-    while i < r {
-        let y = integrate(stages, integrators, val);
-        out_buf[i] = y;
+    for place in places.iter_mut() {
+        *place = integrate(stages, integrators, val);
         val = 0;
-        i += 1;
     }
 }
 
-// The same with the integrators held in a local. Only the stages in use are written back, one by one: the next sample reads them so, and a load that is wider than
-// the stores before it waits for them.
-fn fill_of(
-    stages: usize,
-    integrators: &mut [i32; MAX_STAGES],
-    input: i32,
-    r: usize,
-    out_buf: &mut [i32],
-)
-    requires { r ≤ length out_buf.old }
-    ensures { (integrators.new ≡ (I.filled stages integrators.old input r).state) × (out_buf.new ≡ (I.filled stages integrators.old input r).outs ++ drop r out_buf.old) }
+// The same of a number of stages that the compiler knows: it unrolls them, and holds the integrators in registers. Only the stages in use are written back, one by
+// one: the next sample reads them so, and a load that is wider than the stores before it waits for them.
+fn fill_of<const N: usize>(integrators: &mut [i32; MAX_STAGES], input: i32, places: &mut [i32])
+    ensures { let filled = I.filled N integrators.old input (length places.old) in
+        (integrators.new ≡ filled.state) × (places.new ≡ filled.outs) }
 {
     let mut held = *integrators;
-    fill_on(stages, &mut held, input, r, out_buf);
-    write_back(stages, held, integrators);
+    fill_on(N, &mut held, input, places);
+    write_back(N, held, integrators);
 }
 
-// The same, the number of stages a constant in each arm, so that the compiler unrolls the integrators.
-fn fill(
-    stages: usize,
-    integrators: &mut [i32; MAX_STAGES],
-    input: i32,
-    r: usize,
-    out_buf: &mut [i32],
-)
-    requires { r ≤ length out_buf.old }
-    ensures { (integrators.new ≡ (I.filled stages integrators.old input r).state) × (out_buf.new ≡ (I.filled stages integrators.old input r).outs ++ drop r out_buf.old) }
+fn fill(stages: usize, integrators: &mut [i32; MAX_STAGES], input: i32, places: &mut [i32])
+    ensures { let filled = I.filled stages integrators.old input (length places.old) in
+        (integrators.new ≡ filled.state) × (places.new ≡ filled.outs) }
 {
     match stages {
-        1 => fill_of(1, integrators, input, r, out_buf),
-        2 => fill_of(2, integrators, input, r, out_buf),
-        3 => fill_of(3, integrators, input, r, out_buf),
-        4 => fill_of(4, integrators, input, r, out_buf),
-        5 => fill_of(5, integrators, input, r, out_buf),
-        6 => fill_of(6, integrators, input, r, out_buf),
-        7 => fill_of(7, integrators, input, r, out_buf),
-        8 => fill_of(8, integrators, input, r, out_buf),
-        _ => fill_of(stages, integrators, input, r, out_buf),
+        1 => fill_of::<1>(integrators, input, places),
+        2 => fill_of::<2>(integrators, input, places),
+        3 => fill_of::<3>(integrators, input, places),
+        4 => fill_of::<4>(integrators, input, places),
+        5 => fill_of::<5>(integrators, input, places),
+        6 => fill_of::<6>(integrators, input, places),
+        7 => fill_of::<7>(integrators, input, places),
+        8 => fill_of::<8>(integrators, input, places),
+        _ => fill_on(stages, integrators, input, places),
     }
 }
 
-// One sample, the numbers by value and the arrays lent. The combs stand before the arms of `fill`: inside them the compiler works their differences into the
-// sums of every later output.
+// One sample, the fields lent. Refusals 15, 4. The combs stand before the arms of `fill`: inside them the compiler works their differences into the sums of every
+// later output.
+#[tactic(auto, unfolding(crate::specs::CicInterpolator::sample, crate::specs::CicInterpolator::sample_span))]
 pub fn sample_at(
     stages: usize,
     r: usize,
@@ -131,72 +90,59 @@ pub fn sample_at(
     integrators: &mut [i32; MAX_STAGES],
     input: i32,
     out_buf: &mut [i32],
-) -> Count
-    ensures answer { I.told_sample (record { written = result; state = I.interpolator_of stages r combs.new integrators.new }) ≡ I.sample (I.interpolator_of stages r combs.old integrators.old) input out_buf.old }
+) -> Result<usize, Refusal>
+    ensures answer { told_on 0 result (I.interpolator_of stages r combs.new integrators.new) ≡ I.sample (I.interpolator_of stages r combs.old integrators.old) input out_buf.old }
     ensures span { out_buf.new ≡ I.sample_span (I.interpolator_of stages r combs.old integrators.old) input out_buf.old }
 {
-    if !valid(stages, r) {
-        return Count::Refused(Refusal::State);
-    }
-    if out_buf.len() < r {
-        return Count::Refused(Refusal::Span);
-    }
+    state_answer(stages, r)?;
+    span_answer(out_buf.len(), r)?;
     let val = comb(stages, combs, input);
-    fill(stages, integrators, val, r, out_buf);
-    Count::Written(r)
+    fill(stages, integrators, val, &mut out_buf[..r]);
+    Ok(r)
 }
 
-// Sample number `taken`, where it is one of the first `count`: through the combs, and into the first integrator.
+// Sample number `taken`, where there is one: through the combs, and into the first integrator.
 fn enter(
     stages: usize,
     combs: &mut [i32; MAX_STAGES],
     integrators: &mut [i32; MAX_STAGES],
     src: &[i32],
     taken: usize,
-    count: usize,
 )
-    requires { count ≤ length src.now }
-    ensures combs { let x = get_or src.now taken (pos 0) in
-        combs.new ≡ (if nat_lt taken count then (combed stages combs.old x).state else combs.old) }
+    ensures combs { let x = slice_index_or src.now taken (pos 0) in
+        combs.new ≡ (if nat_lt taken (length src.now) then (combed stages combs.old x).state else combs.old) }
     ensures integrators { let handed = (combed stages combs.old (slice_index_or src.now taken (pos 0))).val in
-        integrators.new ≡ (if nat_lt taken count then (integrated 1 integrators.old handed).state else integrators.old) }
+        integrators.new ≡ (if nat_lt taken (length src.now) then (integrated 1 integrators.old handed).state else integrators.old) }
 {
-    if taken < count {
+    if taken < src.len() {
         let val = comb(stages, combs, src[taken]);
         integrate(1, integrators, val);
     }
 }
 
-// The outputs of the first `count` samples, in front of dst, the integrators held in a local. A sample goes into the first one by itself: its r outputs are then
-// those of zeros, which leave that one alone. It enters a turn ahead, or else the compiler works the combs' differences into the sums of the outputs. The combs stay
-// where they are, for they are used once a sample and the integrators want the registers.
-fn raise_of(
-    stages: usize,
+// The outputs of all samples, in front of dst, the integrators held in a local. A sample goes into the first one by itself: its r outputs are then those of zeros,
+// which leave that one alone. It enters a turn ahead, or else the compiler works the combs' differences into the sums of the outputs. The combs stay where they are,
+// for they are used once a sample and the integrators want the registers. The compiler knows the number of stages, and unrolls them.
+fn raise_of<const N: usize>(
     r: usize,
     combs: &mut [i32; MAX_STAGES],
     integrators: &mut [i32; MAX_STAGES],
     src: &[i32],
     dst: &mut [i32],
-    count: usize,
 )
-    requires { (I.valid_at stages r ≡ true) × (count ≤ length src.now) × (count * r ≤ length dst.old) }
-    ensures state { let before = I.interpolator_of stages r combs.old integrators.old in
-        I.interpolator_of stages r combs.new integrators.new ≡ I.state before (take count src.now) }
-    ensures span { let before = I.interpolator_of stages r combs.old integrators.old in
-        dst.new ≡ I.outs before (take count src.now) ++ drop (count * r) dst.old }
+    requires { (I.valid_at N r ≡ true) × (length src.now * r ≤ length dst.old) }
+    ensures state { I.interpolator_of N r combs.new integrators.new ≡ I.state (I.interpolator_of N r combs.old integrators.old) src.now }
+    ensures span { dst.new ≡ I.outs (I.interpolator_of N r combs.old integrators.old) src.now ++ drop (length src.now * r) dst.old }
 {
     let mut sums = *integrators;
-    eight(sums);
-    let mut taken = 0;
     let mut written = 0;
-    enter(stages, combs, &mut sums, src, taken, count);
-    while taken < count {
-        fill_on(stages, &mut sums, 0, r, &mut dst[written..]);
-        taken += 1;
+    enter(N, combs, &mut sums, src, 0);
+    for taken in 0..src.len() {
+        fill_on(N, &mut sums, 0, &mut dst[written..written + r]);
         written += r;
-        enter(stages, combs, &mut sums, src, taken, count);
+        enter(N, combs, &mut sums, src, taken + 1);
     }
-    write_back(stages, sums, integrators);
+    write_back(N, sums, integrators);
 }
 
 // The same of one stage. Its r outputs are one value: where they are few, a loop costs more than they do, so r is a constant in the first arms.
@@ -206,24 +152,20 @@ fn raise_one(
     integrators: &mut [i32; MAX_STAGES],
     src: &[i32],
     dst: &mut [i32],
-    count: usize,
 )
-    requires { (I.valid_at 1 r ≡ true) × (count ≤ length src.now) × (count * r ≤ length dst.old) }
-    ensures state { let before = I.interpolator_of 1 r combs.old integrators.old in
-        I.interpolator_of 1 r combs.new integrators.new ≡ I.state before (take count src.now) }
-    ensures span { let before = I.interpolator_of 1 r combs.old integrators.old in
-        dst.new ≡ I.outs before (take count src.now) ++ drop (count * r) dst.old }
+    requires { (I.valid_at 1 r ≡ true) × (length src.now * r ≤ length dst.old) }
+    ensures state { I.interpolator_of 1 r combs.new integrators.new ≡ I.state (I.interpolator_of 1 r combs.old integrators.old) src.now }
+    ensures span { dst.new ≡ I.outs (I.interpolator_of 1 r combs.old integrators.old) src.now ++ drop (length src.now * r) dst.old }
 {
     match r {
-        1 => raise_of(1, 1, combs, integrators, src, dst, count),
-        2 => raise_of(1, 2, combs, integrators, src, dst, count),
-        3 => raise_of(1, 3, combs, integrators, src, dst, count),
-        4 => raise_of(1, 4, combs, integrators, src, dst, count),
-        _ => raise_of(1, r, combs, integrators, src, dst, count),
+        1 => raise_of::<1>(1, combs, integrators, src, dst),
+        2 => raise_of::<1>(2, combs, integrators, src, dst),
+        3 => raise_of::<1>(3, combs, integrators, src, dst),
+        4 => raise_of::<1>(4, combs, integrators, src, dst),
+        _ => raise_of::<1>(r, combs, integrators, src, dst),
     }
 }
 
-// The same, the number of stages a constant in each arm, so that the compiler unrolls the stages.
 fn raise(
     stages: usize,
     r: usize,
@@ -231,28 +173,25 @@ fn raise(
     integrators: &mut [i32; MAX_STAGES],
     src: &[i32],
     dst: &mut [i32],
-    count: usize,
 )
-    requires { (I.valid_at stages r ≡ true) × (count ≤ length src.now) × (count * r ≤ length dst.old) }
-    ensures state { let before = I.interpolator_of stages r combs.old integrators.old in
-        I.interpolator_of stages r combs.new integrators.new ≡ I.state before (take count src.now) }
-    ensures span { let before = I.interpolator_of stages r combs.old integrators.old in
-        dst.new ≡ I.outs before (take count src.now) ++ drop (count * r) dst.old }
+    requires { (I.valid_at stages r ≡ true) × (length src.now * r ≤ length dst.old) }
+    ensures state { I.interpolator_of stages r combs.new integrators.new ≡ I.state (I.interpolator_of stages r combs.old integrators.old) src.now }
+    ensures span { dst.new ≡ I.outs (I.interpolator_of stages r combs.old integrators.old) src.now ++ drop (length src.now * r) dst.old }
 {
     match stages {
-        1 => raise_one(r, combs, integrators, src, dst, count),
-        2 => raise_of(2, r, combs, integrators, src, dst, count),
-        3 => raise_of(3, r, combs, integrators, src, dst, count),
-        4 => raise_of(4, r, combs, integrators, src, dst, count),
-        5 => raise_of(5, r, combs, integrators, src, dst, count),
-        6 => raise_of(6, r, combs, integrators, src, dst, count),
-        7 => raise_of(7, r, combs, integrators, src, dst, count),
-        8 => raise_of(8, r, combs, integrators, src, dst, count),
-        _ => raise_of(stages, r, combs, integrators, src, dst, count),
+        1 => raise_one(r, combs, integrators, src, dst),
+        2 => raise_of::<2>(r, combs, integrators, src, dst),
+        3 => raise_of::<3>(r, combs, integrators, src, dst),
+        4 => raise_of::<4>(r, combs, integrators, src, dst),
+        5 => raise_of::<5>(r, combs, integrators, src, dst),
+        6 => raise_of::<6>(r, combs, integrators, src, dst),
+        7 => raise_of::<7>(r, combs, integrators, src, dst),
+        _ => raise_of::<8>(r, combs, integrators, src, dst),
     }
 }
 
-// A block, the numbers by value and the arrays lent. Refusals 15, 4.
+// A block, the fields lent. Refusals 15, 4.
+#[tactic(auto, using(crate::proofs::Raising::block_is), unfolding(crate::specs::CicInterpolator::block, crate::specs::CicInterpolator::block_outs))]
 pub fn block_at(
     stages: usize,
     r: usize,
@@ -260,107 +199,88 @@ pub fn block_at(
     integrators: &mut [i32; MAX_STAGES],
     src: &[i32],
     dst: &mut [i32],
-) -> Counts
-    ensures answer { let before = I.interpolator_of stages r combs.old integrators.old in
-        let after = I.interpolator_of stages r combs.new integrators.new in
-        I.told_block (record { counts = result; state = after }) ≡ I.block before src.now (length dst.old) }
+) -> Result<Moved, Refusal>
+    ensures answer { told_on none_moved result (I.interpolator_of stages r combs.new integrators.new) ≡ I.block (I.interpolator_of stages r combs.old integrators.old) src.now (length dst.old) }
     ensures span { dst.new ≡ I.block_span (I.interpolator_of stages r combs.old integrators.old) src.now dst.old }
 {
-    if !valid(stages, r) {
-        return Counts::Refused(Refusal::State);
-    }
-    if dst.len() < r {
-        return Counts::Refused(Refusal::Span);
-    }
-    let taken = least(src.len(), dst.len() / r);
-    raise(stages, r, combs, integrators, src, dst, taken);
-    Counts::Moved {
+    state_answer(stages, r)?;
+    span_answer(dst.len(), r)?;
+    let taken = src.len().min(dst.len() / r);
+    raise(stages, r, combs, integrators, &src[..taken], dst);
+    Ok(Moved {
         taken,
         written: taken * r,
-    }
+    })
 }
 
 impl CicInterpolator {
-    // The clause `stream` is the dual of Hogenauer's theorem, for every list of samples.
-    pub fn new(stages: usize, r: usize) -> CicInterpolatorOpened
-        ensures answer { I.told_opening result ≡ opening I.fresh stages r }
-        ensures stream { opening_number result.answer ≡ 0 → I.Streams stages r result.state }
+    // One that has taken nothing in yet. A refused opening leaves that of 0 and 0, which is zeros.
+    pub fn fresh(stages: usize, r: usize) -> CicInterpolator
+        ensures { result ≡ I.fresh stages r }
     {
-        if !stages_ok(stages) {
-            return CicInterpolatorOpened {
-                answer: Opening::Refused(Refusal::Stages),
-                state: zeros(0, 0),
-            };
+        CicInterpolator {
+            stages,
+            r,
+            comb_state: [0; MAX_STAGES],
+            integrator_state: [0; MAX_STAGES],
         }
-        if !factor_ok(r) {
-            return CicInterpolatorOpened {
-                answer: Opening::Refused(Refusal::Factor),
-                state: zeros(0, 0),
-            };
-        }
-        CicInterpolatorOpened {
-            answer: Opening::Opened,
-            state: zeros(stages, r),
-        }
+    }
+
+    // The clause `stream` is the dual of Hogenauer's theorem, for every list of samples.
+    #[tactic(auto, unfolding(crate::specs::Opening::opening, crate::specs::Opening::settings_number))]
+    pub fn new(stages: usize, r: usize) -> Result<CicInterpolator, Refusal>
+        ensures answer { told_opened (I.fresh 0 0) result ≡ opening I.fresh stages r }
+        ensures stream { IfOk result (I.Streams stages r) }
+    {
+        settings_answer(stages, r)?;
+        Ok(CicInterpolator::fresh(stages, r))
     }
 
     // r^(N - 1), held at 2^64 - 1.
-    pub fn gain(self) -> Gain
-        ensures answer { told_gain result ≡ on_state (I.valid self) (gain_of (self.stages - 1) self.r) }
+    #[tactic(auto, using(crate::proofs::Within::interpolator_stages), unfolding(crate::specs::Opening::on_state))]
+    pub fn gain(&self) -> Result<u64, Refusal>
+        ensures answer { told 0 result ≡ on_state (I.valid self.now) (gain_of (self.now.stages - 1) self.now.r) }
     {
-        if !valid(self.stages, self.r) {
-            return Gain::Refused(Refusal::State);
-        }
-        Gain::Value(gain_of(self.stages - 1, self.r))
+        state_answer(self.stages, self.r)?;
+        Ok(gain_of(self.stages - 1, self.r))
     }
 
     // The least g with 2^g no less than the gain.
-    pub fn gain_bits(self) -> GainBits
-        ensures answer { told_bits result ≡ on_state (I.valid self) (gain_bits (self.stages - 1) self.r) }
-        ensures least { (told_bits result).number ≡ 0 → Least (gain_of (self.stages - 1) self.r) (told_bits result).value }
+    #[tactic(auto, using(crate::proofs::Bits::gain_least), unfolding(crate::specs::Opening::on_state))]
+    pub fn gain_bits(&self) -> Result<u32, Refusal>
+        ensures answer { told 0 result ≡ on_state (I.valid self.now) (gain_bits (self.now.stages - 1) self.now.r) }
+        ensures least { IfOk result (Least (gain_of (self.now.stages - 1) self.now.r)) }
     {
-        if !valid(self.stages, self.r) {
-            return GainBits::Refused(Refusal::State);
-        }
-        GainBits::Value(bits_of(gain_of(self.stages - 1, self.r)))
+        Ok(bits_of(self.gain()?))
     }
 
     // One sample gives r outputs, in front of out_buf.
-    pub fn process_sample(mut self, input: i32, out_buf: &mut [i32]) -> CicInterpolated
-        ensures answer { I.told_sample result ≡ I.sample self input out_buf.old }
-        ensures span { out_buf.new ≡ I.sample_span self input out_buf.old }
+    pub fn process_sample(&mut self, input: i32, out_buf: &mut [i32]) -> Result<usize, Refusal>
+        ensures answer { told_on 0 result self.new ≡ I.sample self.old input out_buf.old }
+        ensures span { out_buf.new ≡ I.sample_span self.old input out_buf.old }
     {
-        let mut combs = self.comb_state;
-        let mut integrators = self.integrator_state;
-        let written = sample_at(
+        sample_at(
             self.stages,
             self.r,
-            &mut combs,
-            &mut integrators,
+            &mut self.comb_state,
+            &mut self.integrator_state,
             input,
             out_buf,
-        );
-        self.comb_state = combs;
-        self.integrator_state = integrators;
-        CicInterpolated {
-            written,
-            state: self,
-        }
+        )
     }
 
     // The samples of src, as many as dst has r places for.
-    pub fn process_block(mut self, src: &[i32], dst: &mut [i32]) -> CicInterpolatorBlock
-        ensures answer { I.told_block result ≡ I.block self src.now (length dst.old) }
-        ensures span { dst.new ≡ I.block_span self src.now dst.old }
+    pub fn process_block(&mut self, src: &[i32], dst: &mut [i32]) -> Result<Moved, Refusal>
+        ensures answer { told_on none_moved result self.new ≡ I.block self.old src.now (length dst.old) }
+        ensures span { dst.new ≡ I.block_span self.old src.now dst.old }
     {
-        let mut kept = self.comb_state;
-        let mut sums = self.integrator_state;
-        let counts = block_at(self.stages, self.r, &mut kept, &mut sums, src, dst);
-        self.comb_state = kept;
-        self.integrator_state = sums;
-        CicInterpolatorBlock {
-            counts,
-            state: self,
-        }
+        block_at(
+            self.stages,
+            self.r,
+            &mut self.comb_state,
+            &mut self.integrator_state,
+            src,
+            dst,
+        )
     }
 }

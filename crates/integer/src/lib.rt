@@ -11,4 +11,3 @@ pub use crate::cic_interpolator::CicInterpolator;
 
 pub mod limits;
 pub mod stages;
-pub mod wrapping;

@@ -1,6 +1,10 @@
 // 01, section 1: "Stages N 1 to 8, factor r 1 to 4,096".
-ghost use Rattle.std.specs.Prelude.{◌≡◌, min};
-ghost use Rattle.integer.specs.Limits.{stages_ok, factor_ok, one_to};
+ghost use Rattle.std.specs.Prelude.{◌≡◌};
+ghost use Rattle.refusal.specs.Outcome.{number_in};
+ghost use Rattle.integer.specs.Limits.{stages_ok, factor_ok};
+ghost use Rattle.integer.specs.Opening.{settings_number};
+
+use refusal::Refusal;
 
 pub const MAX_STAGES: usize = 8;
 
@@ -9,29 +13,30 @@ pub const MAX_FACTOR: usize = 4096;
 // The gain bits of a sum that is scaled: "for g up to 31".
 pub const MAX_BITS: u32 = 31;
 
-fn one_to(most: usize, x: usize) -> bool
-    ensures { result ≡ one_to most x }
-{
-    if x < 1 {
-        return false;
-    }
-    x <= most
-}
-
+#[tactic(auto, unfolding(crate::specs::Limits::stages_ok))]
 pub fn stages_ok(stages: usize) -> bool
     ensures { result ≡ stages_ok stages }
 {
-    one_to(MAX_STAGES, stages)
+    1 <= stages && stages <= MAX_STAGES
 }
 
+#[tactic(auto, unfolding(crate::specs::Limits::factor_ok))]
 pub fn factor_ok(r: usize) -> bool
     ensures { result ≡ factor_ok r }
 {
-    one_to(MAX_FACTOR, r)
+    1 <= r && r <= MAX_FACTOR
 }
 
-pub fn least(a: usize, b: usize) -> usize
-    ensures { result ≡ min a b }
+// Rows 1 and 2, of an opening.
+#[tactic(auto, unfolding(crate::specs::Opening::settings_number))]
+pub fn settings_answer(stages: usize, r: usize) -> Result<(), Refusal>
+    ensures { number_in result ≡ settings_number stages r }
 {
-    if a < b { a } else { b }
+    if !stages_ok(stages) {
+        return Err(Refusal::Stages);
+    }
+    if !factor_ok(r) {
+        return Err(Refusal::Factor);
+    }
+    Ok(())
 }

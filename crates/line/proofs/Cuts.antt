@@ -3,7 +3,7 @@
 use mathlib.Core.Path.{◌≡◌, refl, sym, ap, ◌∙◌}
 use mathlib.Core.Bool.{Bool, true, false, cond}
 use mathlib.Core.List.{List, [], ◌∷◌, map}
-use mathlib.Core.Option.{Option, none, some}
+use Rattle.std.specs.Prelude.{Option, None, Some}
 use Prim.Native.Nat.{ℕ, ◌+◌, min}
 use native.Mathlib.Omega.{arith}
 use lib.Dec.{eqb}
@@ -56,12 +56,12 @@ tallies =
     go :
         (l : Line) (x : ℤ) (o : Option ℤ)
         → ◌≡◌ {A = Front} (either.next (thinner_of l) x, (tt, (next_for either (before (each (cut w16)) from3) (parts_of l).1 o).1.0)) (either.next (thinner_of l) x, next_by either (and_then (each (cut w16)) fir) (tt, l.fir) o)
-    go l x none = refl
-    go l x (some v) = refl
+    go l x None = refl
+    go l x (Some v) = refl
 
 count_onto : (o : Option ℤ) (l : List ℤ) → cut_count w16 (onto o l) ≡ sum_cut o + cut_count w16 l
-count_onto none l = let q : cut_count w16 l ≡ 0 + cut_count w16 l = omega arith in q
-count_onto (some z) l = refl
+count_onto None l = let q : cut_count w16 l ≡ 0 + cut_count w16 l = omega arith in q
+count_onto (Some z) l = refl
 
 -- over a whole list
 pub weights_are :
@@ -78,8 +78,8 @@ weights_are (x ∷ w) d s = go (either.out d x) (λ s'. weights_are w (either.ne
         → ((s' : FirDecimator) → weights front weight (either.next d x, (tt, s')) w ≡ cut_count w16 rest + cut_count w16 (outs summing s' (map (cut w16) rest)))
         → cuts_for s o + weights front weight (either.next d x, next_by either (and_then (each (cut w16)) fir) (tt, s) o) w
         ≡ cut_count w16 (onto o rest) + cut_count w16 (outs summing s (map (cut w16) (onto o rest)))
-    go none ih = let i = ih s in let q : 0 + weights front weight (either.next d x, (tt, s)) w ≡ cut_count w16 rest + cut_count w16 (outs summing s (map (cut w16) rest)) = omega (arith, i) in q
-    go (some v) ih =
+    go None ih = let i = ih s in let q : 0 + weights front weight (either.next d x, (tt, s)) w ≡ cut_count w16 rest + cut_count w16 (outs summing s (map (cut w16) rest)) = omega (arith, i) in q
+    go (Some v) ih =
         let i = ih (fir_next s (cut w16 v)) in
         let a : ℕ = cut_one w16 v in
         let b : ℕ = sum_cut (fir_sum_out s (cut w16 v)) in

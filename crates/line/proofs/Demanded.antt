@@ -14,7 +14,8 @@ use Rattle.theory.specs.Kept as K
 use Rattle.theory.proofs.Machines.{all}
 use Rattle.theory.proofs.Feeds.{promised, line_good}
 use Rattle.theory.proofs.Kept.{kept}
-use Rattle.refusal.specs.Outcome.{Outcome, Moved}
+use Rattle.refusal.specs.Outcome.{Outcome}
+use Rattle.refusal.specs.declared.Moved.{Moved}
 use Rattle.line.specs.Outputs.{Opening, Outputs}
 use Rattle.line.specs.Line.{line, valid, fed_line, feed_outcome, feed_span, opened, opened_by, fresh}
 use Rattle.line.specs.Together.{RanTo}

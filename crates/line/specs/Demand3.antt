@@ -2,7 +2,8 @@
 -- the one before returned; nobody changes it in between." The feeds are seen as their caller sees them, through what `feed` answers and the span it leaves.
 use Rattle.std.specs.Prelude.{◌≡◌, List, [], ◌++◌, ◌≤◌, ◌<◌, ℤ, Float, length, take, drop}
 use Rattle.theory.specs.Lists.{but_last}
-use Rattle.refusal.specs.Outcome.{Outcome, Moved}
+use Rattle.refusal.specs.Outcome.{Outcome}
+use Rattle.refusal.specs.declared.Moved.{Moved}
 use Rattle.line.specs.Outputs.{Opening, Outputs, held_cuts}
 use Rattle.line.specs.Line.{feed_outcome, feed_span, opened}
 use Rattle.line.specs.declared.gauge_line.Line.{Line}

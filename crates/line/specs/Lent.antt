@@ -1,17 +1,12 @@
 -- The line of 01, section 6, as a caller has it who keeps its arrays: the numbers by value, the arrays lent.
 use Rattle.std.specs.Prelude.{List, ℕ, ℤ, Float}
-use Rattle.theory.specs.Feeds as F
-use Rattle.refusal.specs.Outcome.{Outcome, Moved, counts_answer}
 use Rattle.integer.specs.CicDecimator.{decimator_of}
 use Rattle.q15.specs.FirDecimator.{fir_state}
 use Rattle.half_band.specs.HbfStream.{stream_of}
 use Rattle.float.specs.PolyphaseResamp as R
-use Rattle.line.specs.Line.{step_number, event_of}
 use Rattle.line.specs.Together.{bits_at}
 use Rattle.line.specs.declared.gauge_line.Line.{Line}
 use Rattle.line.specs.declared.lent.LineNumbers.{LineNumbers}
-use Rattle.line.specs.declared.lent.LentStepped.{LentStepped}
-use Rattle.line.specs.declared.lent.LentFed.{LentFed}
 use Rattle.chain.specs.declared.fixed.Fixed.{Fixed}
 use Rattle.line.specs.declared.sample.Numbers.{Numbers}
 
@@ -48,12 +43,11 @@ numbers_in l =
       thinning = l.thinning;
     }
 
--- what a call answered, with the line that it left
-abbrev pub told_step : LentStepped → Line → Outcome (F.Event Float) Line
-told_step r l = record { number = step_number r.step; value = event_of r.step; state = l }
-
-abbrev pub told_feed : LentFed → Line → Outcome Moved Line
-told_feed r l = record { number = (counts_answer r.moved).number; value = (counts_answer r.moved).value; state = l }
+-- a line with other numbers
+abbrev pub with_numbers : LineNumbers → Line → Line
+with_numbers n l =
+    line_of n l.cic.integrator_state l.cic.comb_state l.neighbours l.fir.taps l.fir.delay l.half_band.delays l.half_band.held l.half_band.counts l.resampler.delay
+    l.resampler.prototype
 
 -- for the private functions: the numbers that a feed never changes, with the gain bits that follow from them; those that it does change; and these put back
 abbrev pub fixed_in : LineNumbers → Fixed

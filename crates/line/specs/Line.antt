@@ -1,13 +1,13 @@
 -- 01, section 6: the sections one before the other, as one machine over the line's own record; what a state must be not to be refused; and what a step, a feed,
 -- an opening and a reset come to.
-use Rattle.std.specs.Prelude.{Bool, cond, ◌&&◌, not, List, ◌++◌, ℕ, zero, suc, ◌+◌, ◌*◌, ltb, eqb, length, take, drop, replicate, ℤ, pos, Float}
-use Rattle.std.proofs.Math.Option.{Option, none, some}
+use Rattle.std.specs.Prelude.{Bool, cond, ◌&&◌, not, List, ◌++◌, ℕ, zero, suc, ◌+◌, ◌*◌, ltb, eqb, length, take, drop, replicate, ℤ, pos, Float, Option, None, Some, Result, Ok, Err}
 use Rattle.std.specs.Int.{w16}
 use Rattle.theory.specs.Machines.{Machine, viewed}
 use Rattle.theory.specs.Tally.{tallied}
 use Rattle.theory.specs.Feeds as F
-use Rattle.refusal.specs.Table.{number_of}
-use Rattle.refusal.specs.Outcome.{Outcome, Opened, opening_number, Moved, counts_answer}
+use Rattle.refusal.specs.Outcome.{Outcome, Opened, number_in}
+use Rattle.refusal.specs.declared.Refusal.{Refusal}
+use Rattle.refusal.specs.declared.Moved.{Moved}
 use Rattle.refusal.specs.Rows.{first_of}
 use Rattle.integer.specs.CicDecimator as C
 use Rattle.nonrecursive.specs.NonrecursiveDecimator.{most_neighbours}
@@ -28,11 +28,8 @@ use Rattle.chain.specs.Chain.{Parts, chain}
 use Rattle.line.specs.Outputs.{Opening, most_cuts}
 use Rattle.line.specs.declared.settings.Settings.{Settings}
 use Rattle.line.specs.declared.gauge_line.Line.{Line}
-use Rattle.line.specs.declared.lent.LineStep.{LineStep}
-use Rattle.line.specs.declared.lent.LineStep.TheVariants as step
-use Rattle.line.specs.declared.gauge_line.LineStepped.{LineStepped}
-use Rattle.line.specs.declared.gauge_line.LineFed.{LineFed}
-use Rattle.line.specs.declared.gauge_line.LineOpened.{LineOpened}
+use Rattle.line.specs.declared.step.LineStep.{LineStep}
+use Rattle.line.specs.declared.step.LineStep.TheVariants as step
 
 -- section 1's: which kind thins, and what both kinds hold
 abbrev pub thinner_of : Line → Thinner
@@ -59,12 +56,12 @@ of_counted p =
 
 -- 02, §4: how many values are cut where a scaled sum reaches sections 2 and 3: the sum itself, and the FIR's, if it makes one
 abbrev pub sum_cut : Option ℤ → ℕ
-sum_cut none = 0
-sum_cut (some z) = cut_one w16 z
+sum_cut None = 0
+sum_cut (Some z) = cut_one w16 z
 
 abbrev pub cuts_for : FirDecimator → Option ℤ → ℕ
-cuts_for s none = 0
-cuts_for s (some v) = cut_one w16 v + sum_cut (fir_sum_out s (cut w16 v))
+cuts_for s None = 0
+cuts_for s (Some v) = cut_one w16 v + sum_cut (fir_sum_out s (cut w16 v))
 
 -- and where a sample is taken
 abbrev pub cuts_at : Parts → ℤ → ℕ
@@ -81,23 +78,20 @@ half_band_fine s = not (stream_refused_in_line s.depth s.counts)
 unfoldable pub valid : Line → Bool
 valid l = E.fine (thinner_of l) && (Q.valid_in_line l.fir && (half_band_fine l.half_band && valid_in_line l.resampler))
 
--- each case of LineStep in the words of section 6: "it took a sample, wrote one float sample, did both, or stopped", and its number
+-- each case of LineStep in the words of section 6: "it took a sample, wrote one float sample, did both, or stopped"
 abbrev pub event_of : LineStep → F.Event Float
 event_of step.Took = F.took
 event_of (step.Wrote y) = F.wrote y
 event_of (step.TookAndWrote y) = F.both y
 event_of step.Stopped = F.stopped
-event_of (step.Refused q) = F.stopped
 
-abbrev pub step_number : LineStep → ℕ
-step_number step.Took = 0
-step_number (step.Wrote y) = 0
-step_number (step.TookAndWrote y) = 0
-step_number step.Stopped = 0
-step_number (step.Refused q) = number_of q
+-- and of a step that may be refused, which then stopped
+abbrev pub event_in : Result LineStep Refusal → F.Event Float
+event_in (Ok s) = event_of s
+event_in (Err q) = F.stopped
 
-abbrev pub told_step : LineStepped → Outcome (F.Event Float) Line
-told_step r = record { number = step_number r.step; value = event_of r.step; state = r.line }
+abbrev pub told_step : Result LineStep Refusal → Line → Outcome (F.Event Float) Line
+told_step r l = record { number = number_in r; value = event_in r; state = l }
 
 -- one step, with a place of the span left or not, and the next sample if there is one
 unfoldable pub step_outcome : Line → Bool → Option ℤ → Outcome (F.Event Float) Line
@@ -107,9 +101,6 @@ step_outcome l place x =
     (record { number = 15; value = F.stopped; state = l })
 
 -- a feed: "steps until stopped and gives counts taken and written"; and the span that it leaves
-abbrev pub told_feed : LineFed → Outcome Moved Line
-told_feed r = record { number = (counts_answer r.counts).number; value = (counts_answer r.counts).value; state = r.line }
-
 unfoldable pub fed_line : Line → List ℤ → ℕ → F.Fed Line Float
 fed_line l xs places = F.feed line l xs places
 
@@ -179,9 +170,6 @@ opened_by (suc q) o = zeros
 
 unfoldable pub opened : Opening → Opened Line
 opened o = record { number = opening_number_of o; state = opened_by (opening_number_of o) o }
-
-abbrev pub told_opening : LineOpened → Opened Line
-told_opening r = record { number = opening_number r.answer; state = r.line }
 
 -- what a line was opened with
 unfoldable pub opening_of : Line → Opening

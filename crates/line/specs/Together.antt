@@ -1,6 +1,5 @@
 -- The line of which a loop holds the settings, the numbers and the arrays apart, and what a value does in a machine: for the contracts of the private functions.
-use Rattle.std.specs.Prelude.{◌≡◌, Bool, true, cond, ◌&&◌, not, List, ◌++◌, ℕ, ◌+◌, ◌-◌, ◌≤◌, min, eqb, leb, length, take, drop, ℤ, Float}
-use Rattle.std.proofs.Math.Option.{Option}
+use Rattle.std.specs.Prelude.{◌≡◌, Bool, true, cond, ◌&&◌, not, List, ◌++◌, ℕ, ◌+◌, ◌-◌, ◌≤◌, min, eqb, leb, length, take, drop, ℤ, Float, Option}
 use Rattle.std.specs.Float.Ieee.{lt}
 use Rattle.theory.specs.Machines.{Machine}
 use Rattle.theory.specs.Feeds as F
@@ -18,8 +17,6 @@ use Rattle.line.specs.Line.{fed_line, valid}
 use Rattle.line.specs.declared.gauge_line.Line.{Line}
 use Rattle.chain.specs.declared.fixed.Fixed.{Fixed}
 use Rattle.line.specs.declared.sample.Numbers.{Numbers}
-use Rattle.line.specs.declared.step.Did.{Did}
-use Rattle.line.specs.declared.step.Did.TheVariants as did
 use Rattle.line.specs.declared.step.Taken.{Taken}
 use Rattle.line.specs.declared.step.Taken.TheVariants as taken
 
@@ -44,13 +41,7 @@ together k f s integrators combs neighbours taps fir_delay delays held counts de
       cuts = s.cuts;
     }
 
--- what the code says a step did, as an event of the machine
-abbrev pub did_of : Did → F.Event Float
-did_of did.Took = F.took
-did_of (did.Wrote y) = F.wrote y
-did_of (did.TookAndWrote y) = F.both y
-did_of did.Stopped = F.stopped
-
+-- what the code says that a step did at which no output was due, as an event of the machine
 abbrev pub taken_of : Taken → F.Event Float
 taken_of taken.Took = F.took
 taken_of (taken.TookAndWrote y) = F.both y

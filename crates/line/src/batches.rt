@@ -9,7 +9,7 @@ use crate::sample::{Numbers, held_sum};
 use chain::fixed::{FEW_SUMS, Fixed};
 use chain::room::sums_for;
 use chain::sums::take_batch;
-use float::polyphase_resamp::{MOST_CELLS, MOST_TAPS as MOST_PHASE_TAPS, write_due};
+use float::settings::{MOST_CELLS, MOST_TAPS as MOST_PHASE_TAPS};
 use half_band::{DEC_CASCADE_DELAYS, MOST_STAGES};
 use integer::limits::MAX_STAGES;
 use nonrecursive::Thinning;
@@ -54,9 +54,7 @@ pub(crate) fn feed_batches(
     let mut taken: usize = 0;
     let mut written: usize = 0;
     while f.r <= (samples.len() - taken) / FEW_SUMS {
-        let due = write_due(
-            prototype, delay, f.straight, f.phases, f.taps, f.step, n.mu, out, written,
-        );
+        let due = f.setting().write_due(prototype, delay, n.mu, out, written);
         n.mu = due.mu;
         written = due.written;
         let count = sums_for(f, n.wait, *counts, out.len() - written);

@@ -12,9 +12,9 @@ use crate::neighbour_feed::feed_neighbours;
 use crate::sample::Numbers;
 use crate::step::{Taken, take_on};
 use chain::fixed::Fixed;
-use float::polyphase_resamp::{MOST_CELLS, MOST_TAPS as MOST_PHASE_TAPS, write_due};
+use float::settings::{MOST_CELLS, MOST_TAPS as MOST_PHASE_TAPS};
 use half_band::{DEC_CASCADE_DELAYS, MOST_STAGES};
-use integer::limits::{MAX_STAGES, least};
+use integer::limits::MAX_STAGES;
 use integer::stages::run;
 use nonrecursive::Thinning;
 use nonrecursive::nonrecursive_decimator::MAX_NEIGHBOURS;
@@ -36,11 +36,11 @@ fn at_once(
     if !place {
         return 0;
     }
-    let m = least(f.r - 1 - s.sample_counter, samples.len() - at);
+    let m = (f.r - 1 - s.sample_counter).min(samples.len() - at);
     if m == 0 {
         return 0;
     }
-    run(f.stages, integrators, samples, at, at + m);
+    run(f.stages, integrators, &samples[at..at + m]);
     m
 }
 
@@ -73,9 +73,7 @@ fn feed_on(
     let mut taken: usize = 0;
     let mut written: usize = 0;
     loop {
-        let due = write_due(
-            prototype, delay, f.straight, f.phases, f.taps, f.step, n.mu, out, written,
-        );
+        let due = f.setting().write_due(prototype, delay, n.mu, out, written);
         n.mu = due.mu;
         written = due.written;
         let m = at_once(f, n, integrators, samples, taken, written < out.len());

@@ -1,6 +1,7 @@
 // The line held apart: its numbers by value, its arrays lent. No call copies them, so that short feeds cost little.
 ghost use Rattle.std.specs.Prelude.{◌≡◌, length, drop};
 ghost use Rattle.theory.specs.Feeds.{head_of};
+ghost use Rattle.refusal.specs.Outcome.{told_on, none_moved};
 ghost use Rattle.line.specs.Line as L;
 ghost use Rattle.line.specs.Together as T;
 ghost use Rattle.line.specs.Lent as N;
@@ -8,16 +9,16 @@ ghost use Rattle.line.specs.Demand3.{Demand3};
 
 use crate::feed::feed_by;
 use crate::sample::Numbers;
-use crate::step::{Did, step_on};
+use crate::step::{LineStep, step_on};
 use crate::validity::{bits_at, valid_at};
 use chain::fixed::Fixed;
-use float::polyphase_resamp::{MOST_CELLS, MOST_TAPS as MOST_PHASE_TAPS};
+use float::settings::{MOST_CELLS, MOST_TAPS as MOST_PHASE_TAPS};
 use half_band::{DEC_CASCADE_DELAYS, MOST_STAGES};
 use integer::limits::MAX_STAGES;
 use nonrecursive::Thinning;
 use nonrecursive::nonrecursive_decimator::MAX_NEIGHBOURS;
 use q15::MOST_TAPS;
-use refusal::{Counts, Refusal};
+use refusal::{Moved, Refusal};
 
 // The settings of a line, and the numbers that feeds change.
 #[derive(Clone, Copy)]
@@ -38,95 +39,50 @@ pub struct LineNumbers {
     pub thinning: Thinning,
 }
 
-// What a step did: it took a sample, wrote one float sample, did both, stopped, or was refused.
-#[derive(Clone, Copy)]
-pub enum LineStep {
-    Took,
-    Wrote(f32),
-    TookAndWrote(f32),
-    Stopped,
-    Refused(Refusal),
-}
-
-// A step, and the numbers after it.
-#[derive(Drop)]
-pub struct LentStepped {
-    pub step: LineStep,
-    pub numbers: LineNumbers,
-}
-
-// How many samples a feed took and how many outputs it wrote, and the numbers after it.
-#[derive(Drop)]
-pub struct LentFed {
-    pub moved: Counts,
-    pub numbers: LineNumbers,
-}
-
-pub(crate) fn fixed(n: LineNumbers) -> Fixed
-    ensures { result ≡ N.fixed_in n }
-{
-    let thinning = n.thinning;
-    Fixed {
-        stages: n.stages,
-        r: n.r,
-        bits: bits_at(thinning, n.stages, n.r, n.sample_counter),
-        tap_count: n.tap_count,
-        factor: n.factor,
-        depth: n.depth,
-        phases: n.phases,
-        taps: n.taps,
-        straight: n.straight,
-        step: n.step,
+impl LineNumbers {
+    // The numbers that no feed changes, with the gain bits that follow from them.
+    pub(crate) fn fixed(self) -> Fixed
+        ensures { result ≡ N.fixed_in self }
+    {
+        Fixed {
+            stages: self.stages,
+            r: self.r,
+            bits: bits_at(self.thinning, self.stages, self.r, self.sample_counter),
+            tap_count: self.tap_count,
+            factor: self.factor,
+            depth: self.depth,
+            phases: self.phases,
+            taps: self.taps,
+            straight: self.straight,
+            step: self.step,
+        }
     }
-}
 
-pub(crate) fn changing(n: LineNumbers) -> Numbers
-    ensures { result ≡ N.changing_in n }
-{
-    Numbers {
-        sample_counter: n.sample_counter,
-        wait: n.wait,
-        mu: n.mu,
-        cuts: n.cuts,
+    // Those that a feed changes.
+    pub(crate) fn changing(self) -> Numbers
+        ensures { result ≡ N.changing_in self }
+    {
+        Numbers {
+            sample_counter: self.sample_counter,
+            wait: self.wait,
+            mu: self.mu,
+            cuts: self.cuts,
+        }
     }
-}
 
-fn gone_on(n: LineNumbers, s: Numbers) -> LineNumbers
-    ensures { result ≡ N.gone_on n s }
-{
-    let thinning = n.thinning;
-    LineNumbers {
-        stages: n.stages,
-        r: n.r,
-        sample_counter: s.sample_counter,
-        tap_count: n.tap_count,
-        factor: n.factor,
-        wait: s.wait,
-        depth: n.depth,
-        phases: n.phases,
-        taps: n.taps,
-        straight: n.straight,
-        mu: s.mu,
-        step: n.step,
-        cuts: s.cuts,
-        thinning,
-    }
-}
-
-fn public_step(step: Did) -> LineStep
-    ensures { (L.step_number result ≡ 0) × (L.event_of result ≡ T.did_of step) }
-{
-    match step {
-        Did::Took => LineStep::Took,
-        Did::Wrote(y) => LineStep::Wrote(y),
-        Did::TookAndWrote(y) => LineStep::TookAndWrote(y),
-        Did::Stopped => LineStep::Stopped,
+    fn go_on(&mut self, s: Numbers)
+        ensures { self.new ≡ N.gone_on self.old s }
+    {
+        self.sample_counter = s.sample_counter;
+        self.wait = s.wait;
+        self.mu = s.mu;
+        self.cuts = s.cuts;
     }
 }
 
 // One step, where the span has a place or not, with the sample at `at` of those lent as the next, if there is one. Refusal 15.
 pub fn step_lent(
-    n: LineNumbers,
+    n: &mut LineNumbers,
     integrators: &mut [i32; MAX_STAGES],
     combs: &mut [i32; MAX_STAGES],
     neighbours: &mut [i32; MAX_NEIGHBOURS],
@@ -140,20 +96,17 @@ pub fn step_lent(
     samples: &[i32],
     at: usize,
     place: bool,
-) -> LentStepped
-    ensures answer { let before = N.line_of n integrators.old combs.old neighbours.old taps.now fir_delay.old delays.old
+) -> Result<LineStep, Refusal>
+    ensures answer { let before = N.line_of n.old integrators.old combs.old neighbours.old taps.now fir_delay.old delays.old
         held.old counts.old delay.old prototype.now in
-        let after = N.line_of result.numbers integrators.new combs.new neighbours.new taps.now fir_delay.new
+        let after = N.line_of n.new integrators.new combs.new neighbours.new taps.now fir_delay.new
         delays.new held.new counts.new delay.new prototype.now in
-        N.told_step result after ≡ L.step_outcome before place (head_of (drop at samples.now)) }
+        L.told_step result after ≡ L.step_outcome before place (head_of (drop at samples.now)) }
 {
-    let f = fixed(n);
-    let s = changing(n);
-    if !valid_at(f, s, *counts) {
-        return LentStepped {
-            step: LineStep::Refused(Refusal::State),
-            numbers: n,
-        };
+    let f = n.fixed();
+    let s = n.changing();
+    if !valid_at(f, s, counts) {
+        return Err(Refusal::State);
     }
     let thinning = n.thinning;
     let on = step_on(
@@ -174,18 +127,14 @@ pub fn step_lent(
         at,
         place,
     );
-    let did = on.step;
-    let after = on.numbers;
-    LentStepped {
-        step: public_step(did),
-        numbers: gone_on(n, after),
-    }
+    n.go_on(on.numbers);
+    Ok(on.step)
 }
 
 // Steps until stopped. The clause `demand3` is the whole claim over every list of feeds from an opening; alone it leaves a line open that no feeds lead to,
 // with `answer` and `span` it is exact. Refusal 15, and no other.
 pub fn feed_lent(
-    n: LineNumbers,
+    n: &mut LineNumbers,
     integrators: &mut [i32; MAX_STAGES],
     combs: &mut [i32; MAX_STAGES],
     neighbours: &mut [i32; MAX_NEIGHBOURS],
@@ -198,28 +147,25 @@ pub fn feed_lent(
     prototype: &[f32; MOST_CELLS],
     samples: &[i32],
     out: &mut [f32],
-) -> LentFed
-    ensures answer { let before = N.line_of n integrators.old combs.old neighbours.old taps.now fir_delay.old delays.old
+) -> Result<Moved, Refusal>
+    ensures answer { let before = N.line_of n.old integrators.old combs.old neighbours.old taps.now fir_delay.old delays.old
         held.old counts.old delay.old prototype.now in
-        let after = N.line_of result.numbers integrators.new combs.new neighbours.new taps.now fir_delay.new
+        let after = N.line_of n.new integrators.new combs.new neighbours.new taps.now fir_delay.new
         delays.new held.new counts.new delay.new prototype.now in
-        N.told_feed result after ≡ L.feed_outcome before samples.now (length out.old) }
-    ensures span { let before = N.line_of n integrators.old combs.old neighbours.old taps.now fir_delay.old delays.old
+        told_on none_moved result after ≡ L.feed_outcome before samples.now (length out.old) }
+    ensures span { let before = N.line_of n.old integrators.old combs.old neighbours.old taps.now fir_delay.old delays.old
         held.old counts.old delay.old prototype.now in
         out.new ≡ L.feed_span before samples.now out.old }
-    ensures demand3 { let before = N.line_of n integrators.old combs.old neighbours.old taps.now fir_delay.old delays.old
+    ensures demand3 { let before = N.line_of n.old integrators.old combs.old neighbours.old taps.now fir_delay.old delays.old
         held.old counts.old delay.old prototype.now in
-        let after = N.line_of result.numbers integrators.new combs.new neighbours.new taps.now fir_delay.new
+        let after = N.line_of n.new integrators.new combs.new neighbours.new taps.now fir_delay.new
         delays.new held.new counts.new delay.new prototype.now in
-        Demand3 before samples.now out.old out.new (N.told_feed result after) }
+        Demand3 before samples.now out.old out.new (told_on none_moved result after) }
 {
-    let f = fixed(n);
-    let s = changing(n);
-    if !valid_at(f, s, *counts) {
-        return LentFed {
-            moved: Counts::Refused(Refusal::State),
-            numbers: n,
-        };
+    let f = n.fixed();
+    let s = n.changing();
+    if !valid_at(f, s, counts) {
+        return Err(Refusal::State);
     }
     let thinning = n.thinning;
     let ran = feed_by(
@@ -239,12 +185,9 @@ pub fn feed_lent(
         samples,
         out,
     );
-    let after = ran.numbers;
-    LentFed {
-        moved: Counts::Moved {
-            taken: ran.taken,
-            written: ran.written,
-        },
-        numbers: gone_on(n, after),
-    }
+    n.go_on(ran.numbers);
+    Ok(Moved {
+        taken: ran.taken,
+        written: ran.written,
+    })
 }

@@ -13,7 +13,8 @@ pub mod settings;
 mod step;
 mod validity;
 
-pub use crate::gauge_line::{Line, LineFed, LineOpened, LineStepped, line_valid, zeros};
-pub use crate::lent::{LentFed, LentStepped, LineNumbers, LineStep, feed_lent, step_lent};
+pub use crate::gauge_line::{Line, line_valid, zeros};
+pub use crate::lent::{LineNumbers, feed_lent, step_lent};
 pub use crate::pieces::next_piece;
 pub use crate::settings::Settings;
+pub use crate::step::LineStep;

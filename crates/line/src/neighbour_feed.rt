@@ -9,7 +9,7 @@ use crate::batches::Ran;
 use crate::sample::Numbers;
 use crate::step::{Taken, take_on};
 use chain::fixed::Fixed;
-use float::polyphase_resamp::{MOST_CELLS, MOST_TAPS as MOST_PHASE_TAPS, write_due};
+use float::settings::{MOST_CELLS, MOST_TAPS as MOST_PHASE_TAPS};
 use half_band::{DEC_CASCADE_DELAYS, MOST_STAGES};
 use integer::limits::MAX_STAGES;
 use nonrecursive::nonrecursive_decimator::MAX_NEIGHBOURS;
@@ -44,9 +44,7 @@ pub(crate) fn feed_neighbours(
     let mut taken: usize = 0;
     let mut written: usize = 0;
     loop {
-        let due = write_due(
-            prototype, delay, f.straight, f.phases, f.taps, f.step, n.mu, out, written,
-        );
+        let due = f.setting().write_due(prototype, delay, n.mu, out, written);
         n.mu = due.mu;
         written = due.written;
         let on = take_on(

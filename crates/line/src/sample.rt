@@ -4,7 +4,7 @@ ghost use Rattle.theory.specs.Tally.{held_sum};
 ghost use Rattle.integer.specs.Gain.{gain_bits};
 ghost use Rattle.nonrecursive.specs.EitherKind as E;
 ghost use Rattle.q15.specs.FirDecimator.{fir_sum_out, cut_in};
-ghost use Rattle.half_band.specs.HbfStream.{stream_of, hbf_stream, value_of};
+ghost use Rattle.half_band.specs.HbfStream.{stream_of, hbf_stream};
 ghost use Rattle.line.specs.Outputs.{most_cuts};
 ghost use Rattle.chain.specs.Chain as C;
 ghost use Rattle.line.specs.Line as L;
@@ -12,16 +12,15 @@ ghost use Rattle.chain.specs.Parts as P;
 ghost use Rattle.line.specs.Together as T;
 
 use chain::fixed::Fixed;
-use float::polyphase_resamp::{MOST_TAPS as MOST_PHASE_TAPS, shift_in};
+use float::due::shift_in;
 use float::q15_to_f32;
-use half_band::hbf_stream::{HbfOut, hbf_stream_at};
-use half_band::{DEC_CASCADE_DELAYS, MOST_STAGES};
-use integer::cic_decimator::CicSum;
+use float::settings::MOST_TAPS as MOST_PHASE_TAPS;
+use half_band::{DEC_CASCADE_DELAYS, MOST_STAGES, hbf_stream_at};
 use integer::gain::scaled;
 use integer::limits::MAX_STAGES;
 use nonrecursive::nonrecursive_decimator::MAX_NEIGHBOURS;
 use nonrecursive::thinning::thin_at;
-use q15::{FirMade, MOST_TAPS, Q15, cut_q15, fir_at};
+use q15::{MOST_TAPS, Q15, cut_q15, fir_at};
 
 // Where the count of cut values holds.
 pub const MOST_CUTS: u32 = 4294967295;
@@ -38,14 +37,14 @@ pub struct Numbers {
 // What came of a level: nothing, or a level that is written at once.
 #[derive(Drop)]
 struct Resampled {
-    out: HbfOut,
+    out: Option<f32>,
     mu: f32,
 }
 
 // The same of a value before the FIR, and whether the FIR's sum was cut.
 #[derive(Drop)]
 struct Filtered {
-    out: HbfOut,
+    out: Option<f32>,
     cut: bool,
     wait: usize,
     mu: f32,
@@ -54,24 +53,24 @@ struct Filtered {
 // And of a sample.
 #[derive(Drop)]
 pub struct Sampled {
-    pub out: HbfOut,
+    pub out: Option<f32>,
     pub numbers: Numbers,
 }
 
 // A level into the resampler, or past it where it is off.
 fn resampler_in(f: Fixed, mu: f32, delay: &mut [f32; MOST_PHASE_TAPS], level: f32) -> Resampled
     ensures { (h : List Float) →
-        T.Takes C.from5 (P.resampler_of f mu delay.old h) level (value_of result.out) (P.resampler_of f result.mu delay.new h) }
+        T.Takes C.from5 (P.resampler_of f mu delay.old h) level result.out (P.resampler_of f result.mu delay.new h) }
 {
     if f.phases == 0 {
         return Resampled {
-            out: HbfOut::Value(level),
+            out: Some(level),
             mu,
         };
     }
     shift_in(delay, f.taps, level);
     Resampled {
-        out: HbfOut::Nothing,
+        out: None,
         mu: mu - 1.0,
     }
 }
@@ -83,13 +82,13 @@ fn stages_in(
     held: &mut [f32; MOST_STAGES],
     counts: &mut [usize; MOST_STAGES],
     level: f32,
-) -> HbfOut
-    ensures out { value_of result ≡ hbf_stream.out (stream_of depth delays.old held.old counts.old) level }
+) -> Option<f32>
+    ensures out { result ≡ hbf_stream.out (stream_of depth delays.old held.old counts.old) level }
     ensures next { stream_of depth delays.new held.new counts.new
         ≡ hbf_stream.next (stream_of depth delays.old held.old counts.old) level }
 {
     if depth == 0 {
-        return HbfOut::Value(level);
+        return Some(level);
     }
     hbf_stream_at(depth, delays, held, counts, level)
 }
@@ -109,15 +108,12 @@ fn half_band_in(
         let resampler = P.resampler_of f mu delay.old h in
         let next_half_band = P.half_band_of f delays.new held.new counts.new in
         let next_resampler = P.resampler_of f result.mu delay.new h in
-        T.Takes C.from4 (half_band, resampler) level (value_of result.out) (next_half_band, next_resampler) }
+        T.Takes C.from4 (half_band, resampler) level result.out (next_half_band, next_resampler) }
 {
     let made = stages_in(f.depth, delays, held, counts, level);
     match made {
-        HbfOut::Nothing => Resampled {
-            out: HbfOut::Nothing,
-            mu,
-        },
-        HbfOut::Value(y) => resampler_in(f, mu, delay, y),
+        None => Resampled { out: None, mu },
+        Some(y) => resampler_in(f, mu, delay, y),
     }
 }
 
@@ -141,26 +137,24 @@ fn fir_in(
         let next_fir = P.fir_of f result.wait taps.now fir_delay.new in
         let next_half_band = P.half_band_of f delays.new held.new counts.new in
         let next_resampler = P.resampler_of f result.mu delay.new h in
-        T.Takes C.from3 (fir, (tt, (half_band, resampler))) value.0 (value_of result.out)
+        T.Takes C.from3 (fir, (tt, (half_band, resampler))) value.0 result.out
         (next_fir, (tt, (next_half_band, next_resampler))) }
     ensures cut { result.cut ≡ cut_in (fir_sum_out (P.fir_of f wait taps.now fir_delay.old) value.0) }
 {
     let at = fir_at(fir_delay, taps, f.tap_count, f.factor, wait, value);
-    let made = at.made;
-    match made {
-        FirMade::Nothing => Filtered {
-            out: HbfOut::Nothing,
-            cut: at.cut,
+    match at.made {
+        None => Filtered {
+            out: None,
+            cut: false,
             wait: at.wait,
             mu,
         },
-        FirMade::Value(y) => {
-            let level = q15_to_f32(y);
+        Some(y) => {
+            let level = q15_to_f32(y.value);
             let on = half_band_in(f, mu, delays, held, counts, delay, level);
-            let out = on.out;
             Filtered {
-                out,
-                cut: at.cut,
+                out: on.out,
+                cut: y.cut,
                 wait: at.wait,
                 mu: on.mu,
             }
@@ -168,27 +162,18 @@ fn fir_in(
     }
 }
 
-fn one(cut: bool) -> u32
-    ensures { result ≡ cond cut 1 0 }
-{
-    if cut { 1 } else { 0 }
-}
-
-// The count of cut values, with so many more; it holds at its end. The compiler makes one held addition of it.
+// The count of cut values, with so many more; it holds at its end.
 pub(crate) fn held_sum(cuts: u32, more: u32) -> u32
     ensures { result ≡ held_sum most_cuts cuts more }
 {
-    if MOST_CUTS - cuts < more {
-        return MOST_CUTS;
-    }
-    cuts + more
+    cuts.saturating_add(more)
 }
 
 // The same with one more for a scaled sum and for a sum of the FIR that was cut.
 fn counted(cuts: u32, scaled: bool, filtered: bool) -> u32
     ensures { result ≡ held_sum most_cuts cuts (cond scaled 1 0 + cond filtered 1 0) }
 {
-    held_sum(cuts, one(scaled) + one(filtered))
+    held_sum(cuts, u32::from(scaled) + u32::from(filtered))
 }
 
 // A sample into the decimator of this kind, and what it makes, scaled and cut, into the FIR.
@@ -213,41 +198,48 @@ pub(crate) fn sample_in(
         delays.old held.old counts.old delay.old h in
         let after = T.together (E.kind_of by_neighbours) f result.numbers integrators.new combs.new neighbours.new taps.now fir_delay.new
         delays.new held.new counts.new delay.new h in
-        T.Takes L.line before x (value_of result.out) after }
+        T.Takes L.line before x result.out after }
 {
-    let at = thin_at(
+    let mut sample_counter = s.sample_counter;
+    let made = thin_at(
         by_neighbours,
         f.stages,
         f.r,
-        s.sample_counter,
+        &mut sample_counter,
         integrators,
         combs,
         neighbours,
         x,
     );
-    let made = at.sum;
     match made {
-        CicSum::Nothing => Sampled {
-            out: HbfOut::Nothing,
+        None => Sampled {
+            out: None,
             numbers: Numbers {
-                sample_counter: at.sample_counter,
+                sample_counter,
                 wait: s.wait,
                 mu: s.mu,
                 cuts: s.cuts,
             },
         },
-        CicSum::Value(v) => {
+        Some(v) => {
             let first = cut_q15(scaled(v, f.bits) as i64);
-            let value = first.value;
             let on = fir_in(
-                f, s.wait, s.mu, taps, fir_delay, delays, held, counts, delay, value,
+                f,
+                s.wait,
+                s.mu,
+                taps,
+                fir_delay,
+                delays,
+                held,
+                counts,
+                delay,
+                first.value,
             );
-            let out = on.out;
             let cuts = counted(s.cuts, first.cut, on.cut);
             Sampled {
-                out,
+                out: on.out,
                 numbers: Numbers {
-                    sample_counter: at.sample_counter,
+                    sample_counter,
                     wait: on.wait,
                     mu: on.mu,
                     cuts,

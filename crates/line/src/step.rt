@@ -3,24 +3,22 @@ ghost use Rattle.std.specs.Prelude.{◌≡◌, true, false, List, drop, Float};
 ghost use Rattle.theory.specs.Feeds.{step, head_of, taking};
 ghost use Rattle.integer.specs.Gain.{gain_bits};
 ghost use Rattle.nonrecursive.specs.EitherKind as E;
-ghost use Rattle.half_band.specs.HbfStream.{value_of};
 ghost use Rattle.float.specs.PolyphaseResamp.{in_limits};
 ghost use Rattle.line.specs.Line as L;
 ghost use Rattle.line.specs.Together as T;
 
 use crate::sample::{Numbers, sample_in};
 use chain::fixed::Fixed;
-use float::polyphase_resamp::{MOST_CELLS, MOST_TAPS as MOST_PHASE_TAPS, interpolate};
-use half_band::hbf_stream::HbfOut;
+use float::settings::{MOST_CELLS, MOST_TAPS as MOST_PHASE_TAPS};
 use half_band::{DEC_CASCADE_DELAYS, MOST_STAGES};
 use integer::limits::MAX_STAGES;
 use nonrecursive::Thinning;
 use nonrecursive::nonrecursive_decimator::MAX_NEIGHBOURS;
 use q15::MOST_TAPS;
 
-// What a step of a valid line did.
-#[derive(Drop)]
-pub enum Did {
+// What a step did: it took a sample, wrote one float sample, did both, or stopped.
+#[derive(Clone, Copy)]
+pub enum LineStep {
     Took,
     Wrote(f32),
     TookAndWrote(f32),
@@ -38,7 +36,7 @@ pub enum Taken {
 // What a step did, and the numbers after it.
 #[derive(Drop)]
 pub struct NumberStep {
-    pub step: Did,
+    pub step: LineStep,
     pub numbers: Numbers,
 }
 
@@ -49,31 +47,29 @@ pub struct NumberTaken {
 }
 
 // "An output is due when the resampler is on and mu < 1."
+#[tactic(auto, unfolding(crate::specs::Together::due_at))]
 pub(crate) fn due(f: Fixed, mu: f32) -> bool
     ensures { result ≡ T.due_at f mu }
 {
-    if f.phases == 0 {
-        return false;
-    }
-    mu < 1.0
+    f.phases != 0 && mu < 1.0
 }
 
-fn taking(out: HbfOut) -> Taken
-    ensures { T.taken_of result ≡ taking (value_of out) }
+fn taking(out: Option<f32>) -> Taken
+    ensures { T.taken_of result ≡ taking out }
 {
     match out {
-        HbfOut::Nothing => Taken::Took,
-        HbfOut::Value(y) => Taken::TookAndWrote(y),
+        None => Taken::Took,
+        Some(y) => Taken::TookAndWrote(y),
     }
 }
 
-fn step_of(step: Taken) -> Did
-    ensures { T.did_of result ≡ T.taken_of step }
+fn step_of(step: Taken) -> LineStep
+    ensures { L.event_of result ≡ T.taken_of step }
 {
     match step {
-        Taken::Took => Did::Took,
-        Taken::TookAndWrote(y) => Did::TookAndWrote(y),
-        Taken::Stopped => Did::Stopped,
+        Taken::Took => LineStep::Took,
+        Taken::TookAndWrote(y) => LineStep::TookAndWrote(y),
+        Taken::Stopped => LineStep::Stopped,
     }
 }
 
@@ -225,20 +221,20 @@ pub(crate) fn step_on(
     requires { (f.bits ≡ gain_bits f.stages f.r) × (T.due_at f s.mu ≡ true → in_limits f.phases f.taps ≡ true) }
     ensures steps { let before = T.together thinning f s integrators.old combs.old neighbours.old taps.now fir_delay.old
         delays.old held.old counts.old delay.old prototype.now in
-        let stepped = T.stepped_at thinning f (T.did_of result.step) result.numbers integrators.new combs.new neighbours.new taps.now
+        let stepped = T.stepped_at thinning f (L.event_of result.step) result.numbers integrators.new combs.new neighbours.new taps.now
         fir_delay.new delays.new held.new counts.new delay.new prototype.now in
         stepped ≡ step L.line place before (head_of (drop at samples.now)) }
 {
     if !place {
         return NumberStep {
-            step: Did::Stopped,
+            step: LineStep::Stopped,
             numbers: s,
         };
     }
     if due(f, s.mu) {
-        let y = interpolate(prototype, delay, f.straight, f.phases, f.taps, s.mu);
+        let y = f.setting().interpolate(prototype, delay, s.mu);
         return NumberStep {
-            step: Did::Wrote(y),
+            step: LineStep::Wrote(y),
             numbers: Numbers {
                 sample_counter: s.sample_counter,
                 wait: s.wait,

@@ -5,9 +5,7 @@ ghost use Rattle.line.specs.Together as T;
 use crate::opening::MAX_BITS;
 use crate::sample::Numbers;
 use chain::fixed::Fixed;
-use float::polyphase_resamp::is_valid_in_line;
-use half_band::MOST_STAGES;
-use half_band::hbf_stream::hbf_stream_refused_in_line;
+use half_band::{MOST_STAGES, hbf_stream_refused_in_line};
 use integer::gain::{bits_of, gain_of};
 use nonrecursive::Thinning;
 use nonrecursive::thinning::thinning_valid;
@@ -23,17 +21,12 @@ pub(crate) fn bits_at(thinning: Thinning, stages: usize, r: usize, sample_counte
     bits_of(gain_of(stages, r))
 }
 
-pub(crate) fn valid_at(f: Fixed, s: Numbers, counts: [usize; MOST_STAGES]) -> bool
-    ensures { result ≡ T.valid_at f s counts }
+#[tactic(auto, unfolding(crate::specs::Together::valid_at))]
+pub(crate) fn valid_at(f: Fixed, s: Numbers, counts: &[usize; MOST_STAGES]) -> bool
+    ensures { result ≡ T.valid_at f s counts.now }
 {
-    if MAX_BITS < f.bits {
-        return false;
-    }
-    if !fir_valid_in_line(f.tap_count, f.factor, s.wait) {
-        return false;
-    }
-    if hbf_stream_refused_in_line(f.depth, counts) {
-        return false;
-    }
-    is_valid_in_line(f.phases, f.taps, f.step, s.mu)
+    f.bits <= MAX_BITS
+        && fir_valid_in_line(f.tap_count, f.factor, s.wait)
+        && !hbf_stream_refused_in_line(f.depth, counts)
+        && f.setting().is_valid_in_line(s.mu)
 }

@@ -43,24 +43,20 @@ module _ (d : List Float) (x : Float) where
       (ey ∙ ap₂ {C = Float} (pair antisymmetric) (place (length d - t) (omega arith) ∙ ap (λ (k : ℕ). get_or window k nan) e) (place t most))
       ∙ ap (window_acc antisymmetric c window) (sym (add-one t))
 
--- the output by the two parameters
-pub value_antisymmetric : (odd antisymmetric : Bool) (c w : List Float) → antisymmetric ≡ true → window_acc antisymmetric c w (length c) ≡ window_value odd antisymmetric c w
-unfolding window_value centred_value has_centre
-value_antisymmetric true true c w e = refl
-value_antisymmetric false true c w e = refl
-value_antisymmetric odd false c w e = absurd (true≢false (sym e))
+-- the output by the two parameters: only an odd length has a centre
+pub centre_odd : (odd antisymmetric : Bool) → has_centre odd antisymmetric ≡ true → odd ≡ true
+unfolding has_centre
+centre_odd true antisymmetric e = refl
+centre_odd false antisymmetric e = absurd (true≢false (sym e))
 
-pub value_even : (odd antisymmetric : Bool) (c w : List Float) → odd ≡ false → window_acc antisymmetric c w (length c) ≡ window_value odd antisymmetric c w
-unfolding window_value centred_value has_centre
-value_even true antisymmetric c w e = absurd (true≢false e)
-value_even false antisymmetric c w e = refl
-
-pub value_centre : (odd antisymmetric : Bool) (c w : List Float) → odd ≡ true → antisymmetric ≡ false
+pub value_centre : (odd antisymmetric : Bool) (c w : List Float) → has_centre odd antisymmetric ≡ true
     → add binary32 (window_acc antisymmetric c w (length c)) (get_or w (length c) nan) ≡ window_value odd antisymmetric c w
-unfolding window_value centred_value has_centre
-value_centre true true c w e f = absurd (true≢false f)
-value_centre true false c w e f = refl
-value_centre false antisymmetric c w e f = absurd (true≢false (sym e))
+unfolding window_value centred_value
+value_centre odd antisymmetric c w e = rw e
+
+pub value_plain : (odd antisymmetric : Bool) (c w : List Float) → has_centre odd antisymmetric ≡ false → window_acc antisymmetric c w (length c) ≡ window_value odd antisymmetric c w
+unfolding window_value centred_value
+value_plain odd antisymmetric c w e = rw e
 
 -- ---- the window in front of a line
 front_window : (line : List Float) (long : ℕ) → long < length line → take long line ++ (get_or line long nan ∷ []) ≡ take (long + 1) line

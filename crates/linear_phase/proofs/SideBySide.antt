@@ -7,12 +7,13 @@ use native.Mathlib.Decide.{dec_lt}
 use native.Mathlib.Nat.{add_comm}
 use native.Mathlib.Numerals.{add-one}
 use native.Mathlib.Omega.{arith}
-use lib.ListN.{length, get_or, get_or-append, take, drop, length-drop, drop_of_length-le}
+use lib.ListN.{length, get_or, get_or-append, take, drop, replicate, length-drop, length-replicate, drop_of_length-le}
 use lib.Seq.{get_or-take, get_or-drop, get_or-append-add, get_or_at, length-take-le, take_all, drop-drop}
 use lib.Ieee.{Float, nan, binary32, add, mul}
 use Rattle.theory.specs.Lists.{listed}
 use Rattle.theory.proofs.Listed.{length_listed}
 use Rattle.q15.proofs.Filling.{Filled, listed_ext}
+use Rattle.float.specs.F32.{zero32}
 use Rattle.linear_phase.specs.LinearPhase.{pair}
 use Rattle.linear_phase.specs.Windows.{window_acc, centred_value, window_sums, pairs_onto, pairs_added, no_sums, centres_added, window_values}
 
@@ -137,3 +138,15 @@ output_at centre antisymmetric c long line n i k h =
 pub values_long : (centre antisymmetric : Bool) (c : List Float) (long : ℕ) (line : List Float) (n : ℕ) → length (window_values centre antisymmetric c long line n) ≡ n
 unfolding window_values
 values_long centre antisymmetric c long line n = length_listed n (λ i. centred_value centre antisymmetric c (take (suc long) (drop i line)))
+
+-- an array of zeros, of any length, holds sums with no pair
+pub zero_sums : (n : ℕ) → replicate n zero32 ≡ no_sums (length (replicate n zero32))
+zero_sums n = go n ∙ ap no_sums (sym (length-replicate n zero32))
+  where
+    one_more : (n : ℕ) → replicate n zero32 ++ (zero32 ∷ []) ≡ zero32 ∷ replicate n zero32
+    one_more zero = refl
+    one_more (suc n) = ap (λ (l : List Float). zero32 ∷ l) (one_more n)
+
+    go : (n : ℕ) → replicate n zero32 ≡ no_sums n
+    go zero = refl
+    go (suc n) = sym (one_more n) ∙ ap (λ (l : List Float). l ++ (zero32 ∷ [])) (go n)

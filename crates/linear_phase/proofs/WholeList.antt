@@ -3,7 +3,7 @@
 use mathlib.Core.Path.{◌≡◌, refl, sym, ap, ap₂, ◌∙◌}
 use mathlib.Core.Bool.{Bool, true, false, cond, ◌&&◌, not}
 use mathlib.Core.List.{List, [], ◌∷◌, ◌++◌, append-nil, append_assoc}
-use mathlib.Core.Option.{Option, some}
+use Rattle.std.specs.Prelude.{Option, Some}
 use Prim.Native.Nat.{ℕ, zero, suc, ◌+◌, ◌-◌, ◌*◌, ◌≤◌, ◌<◌}
 use native.Mathlib.Nat.{le_refl}
 use native.Mathlib.Numerals.{add-one}
@@ -96,8 +96,8 @@ module _ (odd antisymmetric : Bool) (c : List Float) (some_taps : 1 ≤ length c
       next_at : (v : List Float) (x : Float) → slid (last_of L v) (x ∷ []) ≡ last_of L (v ++ (x ∷ []))
       next_at v x = let m : length c ≤ L = enough in slid_last L v (x ∷ []) (omega arith)
 
-      out_at : (v : List Float) (x : Float) → some (window_value odd antisymmetric c (last_of L v ++ (x ∷ []))) ≡ some (window_value odd antisymmetric c (last_of (suc L) (v ++ (x ∷ []))))
-      out_at v x = ap {B = Option Float} (λ (d : List Float). some (window_value odd antisymmetric c d)) (with_newest L v x)
+      out_at : (v : List Float) (x : Float) → Some (window_value odd antisymmetric c (last_of L v ++ (x ∷ []))) ≡ Some (window_value odd antisymmetric c (last_of (suc L) (v ++ (x ∷ []))))
+      out_at v x = ap {B = Option Float} (λ (d : List Float). Some (window_value odd antisymmetric c d)) (with_newest L v x)
 
       each : (k : ℕ) → k < length w → window_value odd antisymmetric c (last_of (suc L) (take (suc k) w)) ≡ phase_output odd antisymmetric c w k
       each k h = ap (λ (n : ℕ). window_value odd antisymmetric c (last_of (suc L) (take n w))) (sym (add-one k)) ∙ value w k (omega arith)

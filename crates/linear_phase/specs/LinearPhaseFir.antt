@@ -1,8 +1,6 @@
 -- 02, §2, `LinearPhaseFir`: the M taps and the last LEN samples; what lies behind them is not looked at. Openings, calls, and what refuses them.
-use Rattle.std.specs.Prelude.{◌≡◌, Bool, false, cond, not, List, [], ◌∷◌, ◌++◌, ℕ, ◌-◌, eqb, length, take, drop, replicate, Float}
-use Rattle.std.proofs.Math.Option.{some}
+use Rattle.std.specs.Prelude.{◌≡◌, Bool, false, cond, not, List, [], ◌∷◌, ◌++◌, ℕ, ◌-◌, eqb, length, take, drop, replicate, Float, Some}
 use Rattle.theory.specs.Sections.{Section, outs, state}
-use Rattle.refusal.specs.Table.{number_of}
 use Rattle.refusal.specs.Outcome.{Answer, Opened, Outcome}
 use Rattle.refusal.specs.Rows.{outside}
 use Rattle.float.specs.F32.{zero32}
@@ -11,9 +9,6 @@ use Rattle.half_band.specs.HbfIntCascade.{joined}
 use Rattle.linear_phase.specs.LinearPhase.{reach, phase_filtered}
 use Rattle.linear_phase.specs.Windows.{window_value}
 use Rattle.linear_phase.specs.declared.linear_phase_fir.LinearPhaseFir.{LinearPhaseFir}
-use Rattle.linear_phase.specs.declared.linear_phase_fir.LinearPhaseOut.{LinearPhaseOut}
-use Rattle.linear_phase.specs.declared.linear_phase_fir.LinearPhaseOut.TheVariants.{Value, Refused}
-use Rattle.linear_phase.specs.declared.linear_phase_fir.LinearPhaseStep.{LinearPhaseStep}
 
 -- "M from 1 to 23"
 abbrev pub most_taps : ℕ
@@ -44,7 +39,7 @@ unfoldable pub phase_out : LinearPhaseFir → Float → Float
 phase_out d x = window_value d.odd d.antisymmetric (phase_taps d) (phase_delay d ++ (x ∷ []))
 
 unfoldable pub phase_fir : Section LinearPhaseFir Float Float
-phase_fir = record { next = phase_next; out = λ d x. some (phase_out d x) }
+phase_fir = record { next = phase_next; out = λ d x. Some (phase_out d x) }
 
 -- all zeros, and an opening with the taps c
 abbrev pub phase_none : LinearPhaseFir
@@ -74,14 +69,6 @@ phase_response_length d = cond (phase_refused d) (record { number = 15; value = 
 -- one sample
 abbrev pub phase_step : LinearPhaseFir → Float → Outcome Float LinearPhaseFir
 phase_step d x = cond (phase_refused d) (record { number = 15; value = zero32; state = d }) (record { number = 0; value = phase_out d x; state = phase_next d x })
-
--- each case of the code's answer: its number and its value
-abbrev pub told_phase_out : LinearPhaseOut → LinearPhaseFir → Outcome Float LinearPhaseFir
-told_phase_out (Value y) d = record { number = 0; value = y; state = d }
-told_phase_out (Refused q) d = record { number = number_of q; value = zero32; state = d }
-
-abbrev pub told_phase_step : LinearPhaseStep → Outcome Float LinearPhaseFir
-told_phase_step r = told_phase_out r.out r.state
 
 -- "20 when the block's source and span differ in length"
 unfoldable pub lengths_differ : ℕ → ℕ → Bool

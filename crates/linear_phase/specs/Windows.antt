@@ -1,6 +1,5 @@
 -- 02, §2, with a state: "the last 2M−1 samples, 2M for odd", the oldest first.
-use Rattle.std.specs.Prelude.{◌≡◌, Bool, cond, ◌&&◌, not, List, [], ◌∷◌, ◌++◌, ℕ, zero, suc, ◌+◌, ◌-◌, min, length, get_or, take, drop, Float}
-use Rattle.std.proofs.Math.Option.{some}
+use Rattle.std.specs.Prelude.{◌≡◌, Bool, cond, ◌&&◌, not, List, [], ◌∷◌, ◌++◌, ℕ, zero, suc, ◌+◌, ◌-◌, min, length, get_or, take, drop, Float, Some}
 use Rattle.std.specs.Float.{nan, binary32}
 use Rattle.std.specs.Float.Ieee.{add, mul}
 use Rattle.theory.specs.Lists.{listed}
@@ -76,4 +75,4 @@ pub record OnTape (long : ℕ) (tape samples : List Float) (n : ℕ) : Type 0 wh
 -- ---- sample by sample, with the delay as the state
 unfoldable pub linear_phase : Bool → Bool → List Float → Section (List Float) Float Float
 linear_phase odd antisymmetric c =
-    record { next = λ d x. slid d (x ∷ []); out = λ d x. some (window_value odd antisymmetric c (d ++ (x ∷ []))) }
+    record { next = λ d x. slid d (x ∷ []); out = λ d x. Some (window_value odd antisymmetric c (d ++ (x ∷ []))) }

@@ -5,9 +5,8 @@ ghost use Rattle.half_band.specs.Windows.{slid};
 ghost use Rattle.linear_phase.specs.LinearPhase as P;
 ghost use Rattle.linear_phase.specs.Windows as W;
 
+use crate::kinds::Kind;
 use crate::one::value_with;
-use crate::pairs::reach;
-use float::span::put_at_end;
 
 // The longest delay of four taps.
 const SHORT_DELAY: usize = 8;
@@ -23,19 +22,12 @@ const FEW_BY_FOUR: usize = 15;
 pub(crate) fn is_brief(m: usize, n: usize) -> bool
     ensures { result ≡ true → m ≤ 4 }
 {
-    if 4 < m {
-        return false;
+    match m {
+        1 => true,
+        2 => n <= FEW_BY_TWO,
+        3 => n <= FEW_BY_THREE,
+        _ => m <= 4 && n <= FEW_BY_FOUR,
     }
-    if m == 1 {
-        return true;
-    }
-    if m == 2 {
-        return n <= FEW_BY_TWO;
-    }
-    if m == 3 {
-        return n <= FEW_BY_THREE;
-    }
-    n <= FEW_BY_FOUR
 }
 
 // The delay moves down by one place, and x stands at its end. It goes from the end on: the other way would be a copy in memory to the compiler.
@@ -54,78 +46,72 @@ fn push(delay: &mut [f32], x: f32)
 }
 
 // Sample by sample, an output of each into the span.
-fn each(delay: &mut [f32], taps: &[f32], odd: bool, minus: bool, src: &[f32], span: &mut [f32])
-    requires { (1 ≤ length taps.now) × (length delay.old ≡ P.reach odd (length taps.now)) × (length span.old ≡ length src.now) }
-    ensures delay { delay.new ≡ state (W.linear_phase odd minus taps.now) delay.old src.now }
-    ensures span { span.new ≡ outs (W.linear_phase odd minus taps.now) delay.old src.now }
+fn each(delay: &mut [f32], taps: &[f32], kind: Kind, src: &[f32], span: &mut [f32])
+    requires { (1 ≤ length taps.now) × (length delay.old ≡ P.reach kind.odd (length taps.now)) × (length span.old ≡ length src.now) }
+    ensures delay { delay.new ≡ state (W.linear_phase kind.odd kind.antisymmetric taps.now) delay.old src.now }
+    ensures span { span.new ≡ outs (W.linear_phase kind.odd kind.antisymmetric taps.now) delay.old src.now }
 {
-    let mut i = 0;
-    while i < span.len() {
+    for i in 0..span.len() {
         let x = src[i];
-        let y = value_with(delay, taps, odd, minus, x);
+        let y = value_with(delay, taps, kind, x);
         push(delay, x);
         span[i] = y;
-        i += 1;
     }
 }
 
-// The same through m taps and the delay, both in front of the lent ones. The delay moves in an array of this function: no store to the span can be one to it.
-fn held(
-    m: usize,
-    odd: bool,
-    minus: bool,
+// The same through M taps and the delay, both in front of the lent ones, a copy of the loop for each M and each parity. The delay moves in an array of this function: no
+// store to the span can be one to it.
+fn held<const M: usize, const ODD: bool>(
+    antisymmetric: bool,
     taps: &[f32],
     delay: &mut [f32],
     src: &[f32],
     span: &mut [f32],
 )
-    requires { (1 ≤ m) × (m ≤ 4) × (length taps.now ≡ 23) × (length delay.old ≡ 46) × (length span.old ≡ length src.now) }
-    ensures delay { let next = state (W.linear_phase odd minus (take m taps.now)) (take (P.reach odd m) delay.old) src.now in
-        delay.new ≡ next ++ drop (P.reach odd m) delay.old }
-    ensures span { span.new ≡ outs (W.linear_phase odd minus (take m taps.now)) (take (P.reach odd m) delay.old) src.now }
+    requires { (1 ≤ M) × (M ≤ 4) × (length taps.now ≡ 23) × (length delay.old ≡ 46) × (length span.old ≡ length src.now) }
+    ensures delay { let next = state (W.linear_phase ODD antisymmetric (take M taps.now)) (take (P.reach ODD M) delay.old) src.now in
+        delay.new ≡ next ++ drop (P.reach ODD M) delay.old }
+    ensures span { span.new ≡ outs (W.linear_phase ODD antisymmetric (take M taps.now)) (take (P.reach ODD M) delay.old) src.now }
 {
-    let long = reach(odd, m);
+    let kind = Kind {
+        odd: ODD,
+        antisymmetric,
+    };
+    let long = kind.reach(M);
     let mut window = [0.0f32; SHORT_DELAY];
-    put_at_end(&mut window[..long], &delay[..long]);
-    each(&mut window[..long], &taps[..m], odd, minus, src, span);
-    put_at_end(&mut delay[..long], &window[..long]);
+    window[..long].copy_from_slice(&delay[..long]);
+    each(&mut window[..long], &taps[..M], kind, src, span);
+    delay[..long].copy_from_slice(&window[..long]);
 }
 
 // A copy for each of the eight lengths.
 pub(crate) fn filter_brief(
     m: usize,
-    odd: bool,
-    minus: bool,
+    kind: Kind,
     taps: &[f32],
     delay: &mut [f32],
     src: &[f32],
     span: &mut [f32],
 )
     requires { (1 ≤ m) × (m ≤ 4) × (length taps.now ≡ 23) × (length delay.old ≡ 46) × (length span.old ≡ length src.now) }
-    ensures delay { let next = state (W.linear_phase odd minus (take m taps.now)) (take (P.reach odd m) delay.old) src.now in
-        delay.new ≡ next ++ drop (P.reach odd m) delay.old }
-    ensures span { span.new ≡ outs (W.linear_phase odd minus (take m taps.now)) (take (P.reach odd m) delay.old) src.now }
+    ensures delay { let next = state (W.linear_phase kind.odd kind.antisymmetric (take m taps.now)) (take (P.reach kind.odd m) delay.old) src.now in
+        delay.new ≡ next ++ drop (P.reach kind.odd m) delay.old }
+    ensures span { span.new ≡ outs (W.linear_phase kind.odd kind.antisymmetric (take m taps.now)) (take (P.reach kind.odd m) delay.old) src.now }
 {
-    if odd {
-        if m == 1 {
-            return held(1, true, minus, taps, delay, src, span);
+    let minus = kind.antisymmetric;
+    if kind.odd {
+        match m {
+            1 => held::<1, true>(minus, taps, delay, src, span),
+            2 => held::<2, true>(minus, taps, delay, src, span),
+            3 => held::<3, true>(minus, taps, delay, src, span),
+            _ => held::<4, true>(minus, taps, delay, src, span),
         }
-        if m == 2 {
-            return held(2, true, minus, taps, delay, src, span);
+    } else {
+        match m {
+            1 => held::<1, false>(minus, taps, delay, src, span),
+            2 => held::<2, false>(minus, taps, delay, src, span),
+            3 => held::<3, false>(minus, taps, delay, src, span),
+            _ => held::<4, false>(minus, taps, delay, src, span),
         }
-        if m == 3 {
-            return held(3, true, minus, taps, delay, src, span);
-        }
-        return held(4, true, minus, taps, delay, src, span);
     }
-    if m == 1 {
-        return held(1, false, minus, taps, delay, src, span);
-    }
-    if m == 2 {
-        return held(2, false, minus, taps, delay, src, span);
-    }
-    if m == 3 {
-        return held(3, false, minus, taps, delay, src, span);
-    }
-    held(4, false, minus, taps, delay, src, span);
 }

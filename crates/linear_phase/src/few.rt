@@ -45,26 +45,22 @@ fn one_four(tape: &[f32], taps: &[f32], long: usize, minus: bool, centre: bool, 
     put_some(span, &y, 2);
 }
 
-fn two_fours(tape: &[f32], taps: &[f32], long: usize, minus: bool, centre: bool, span: &mut [f32])
-    requires { (length taps.now ≤ long) × (long + 16 ≤ length tape.now) × (4 ≤ length span.old) × (length span.old ≤ 8) }
+// Two groups of N, the second of which ends with the span.
+fn two_of<const N: usize>(
+    tape: &[f32],
+    taps: &[f32],
+    long: usize,
+    minus: bool,
+    centre: bool,
+    span: &mut [f32],
+)
+    requires { (N ≤ 8) × (length taps.now ≤ long) × (long + 16 ≤ length tape.now) × (N ≤ length span.old) × (length span.old ≤ N + N) }
     ensures { span.new ≡ W.window_values centre minus taps.now long tape.now (length span.old) }
 {
-    let last = span.len() - FOUR;
-    let mut y = [0.0f32; FOUR];
+    let last = span.len() - N;
+    let mut y = [0.0f32; N];
     outputs_at(&mut y, tape, taps, long, minus, centre);
-    let mut z = [0.0f32; FOUR];
-    outputs_at(&mut z, &tape[last..], taps, long, minus, centre);
-    put_both(span, &y, &z);
-}
-
-fn two_eights(tape: &[f32], taps: &[f32], long: usize, minus: bool, centre: bool, span: &mut [f32])
-    requires { (length taps.now ≤ long) × (long + 16 ≤ length tape.now) × (8 ≤ length span.old) × (length span.old ≤ 16) }
-    ensures { span.new ≡ W.window_values centre minus taps.now long tape.now (length span.old) }
-{
-    let last = span.len() - EIGHT;
-    let mut y = [0.0f32; EIGHT];
-    outputs_at(&mut y, tape, taps, long, minus, centre);
-    let mut z = [0.0f32; EIGHT];
+    let mut z = [0.0f32; N];
     outputs_at(&mut z, &tape[last..], taps, long, minus, centre);
     put_both(span, &y, &z);
 }
@@ -75,10 +71,7 @@ fn value_at(line: &[f32], taps: &[f32], long: usize, minus: bool, centre: bool) 
     ensures { result ≡ W.centred_value centre minus taps.now (take (long + 1) line.now) }
 {
     let acc = sum_with(&line[..long], taps, minus, line[long]);
-    if !centre {
-        return acc;
-    }
-    acc + line[taps.len()]
+    if centre { acc + line[taps.len()] } else { acc }
 }
 
 // Outputs at the windows from the front of the tape on, one by one.
@@ -86,10 +79,8 @@ fn singles(tape: &[f32], taps: &[f32], long: usize, minus: bool, centre: bool, s
     requires { (1 ≤ length taps.now) × (length taps.now ≤ long) × (long + length span.old ≤ length tape.now) }
     ensures { span.new ≡ W.window_values centre minus taps.now long tape.now (length span.old) }
 {
-    let mut i = 0;
-    while i < span.len() {
+    for i in 0..span.len() {
         span[i] = value_at(&tape[i..], taps, long, minus, centre);
-        i += 1;
     }
 }
 
@@ -111,7 +102,7 @@ pub(crate) fn few_outputs(
         return one_four(tape, taps, long, minus, centre, span);
     }
     if span.len() <= EIGHT {
-        return two_fours(tape, taps, long, minus, centre, span);
+        return two_of::<FOUR>(tape, taps, long, minus, centre, span);
     }
-    two_eights(tape, taps, long, minus, centre, span);
+    two_of::<EIGHT>(tape, taps, long, minus, centre, span);
 }

@@ -5,9 +5,9 @@ ghost use Rattle.float.specs.F32.{zero32};
 ghost use Rattle.linear_phase.specs.LinearPhase as P;
 ghost use Rattle.linear_phase.specs.Windows as W;
 
+use crate::kinds::Kind;
 use crate::lanes::{LANES, outputs_back, picked, put_all, taken};
 use crate::limits::{LINEAR_PHASE_DELAYS, MOST_LINEAR_PHASE_TAPS};
-use crate::pairs::has_centre;
 use float::span::{lay, put_at_end};
 
 // Places for the longest delay, and for the samples that the last group of windows beginning in it reaches.
@@ -29,50 +29,46 @@ fn last_in(delay: &mut [f32], tape: &[f32], samples: &[f32])
     put_at_end(delay, &samples[newest..]);
 }
 
-fn least(a: usize, b: usize) -> usize
-    ensures { result ≡ min a b }
-{
-    if a < b {
-        return a;
-    }
-    b
-}
-
 // The samples of src, or (own) of the span itself, go through the filter, and their outputs into the span.
 pub(crate) fn filter(
     delay: &mut [f32],
     taps: &[f32],
-    odd: bool,
-    minus: bool,
+    kind: Kind,
     src: &[f32],
     own: bool,
     span: &mut [f32],
 )
-    requires in_bounds { (1 ≤ length taps.now) × (length taps.now ≤ 23) × (length delay.old ≡ P.reach odd (length taps.now)) }
+    requires in_bounds { (1 ≤ length taps.now) × (length taps.now ≤ 23) × (length delay.old ≡ P.reach kind.odd (length taps.now)) }
     requires src_len { length (W.picked own span.old src.now) ≡ length span.old }
     ensures delay { let samples = W.picked own span.old src.now in
-        delay.new ≡ state (W.linear_phase odd minus taps.now) delay.old samples }
+        delay.new ≡ state (W.linear_phase kind.odd kind.antisymmetric taps.now) delay.old samples }
     ensures span { let samples = W.picked own span.old src.now in
-        span.new ≡ outs (W.linear_phase odd minus taps.now) delay.old samples }
+        span.new ≡ outs (W.linear_phase kind.odd kind.antisymmetric taps.now) delay.old samples }
 {
     let long = delay.len();
-    let head = least(span.len(), long + LANES);
-    let centre = has_centre(odd, minus);
+    let head = span.len().min(long + LANES);
+    let centre = kind.has_centre();
     let samples = picked(own, span, src);
     let mut tape = [0.0f32; TAPE];
     lay(&mut tape, delay, &samples[..head]);
     last_in(delay, &tape, samples);
-    outputs_back(&tape, src, own, taps, long, minus, centre, span);
+    outputs_back(
+        &tape,
+        src,
+        own,
+        taps,
+        long,
+        kind.antisymmetric,
+        centre,
+        span,
+    );
 }
 
 // Whether the delay is no longer than a group, and the samples are a group at least.
 pub(crate) fn is_short(long: usize, n: usize) -> bool
     ensures { result ≡ true → (long ≤ 16) × (16 ≤ n) }
 {
-    if LANES < long {
-        return false;
-    }
-    LANES <= n
+    long <= LANES && LANES <= n
 }
 
 // The places for such a delay and two groups of samples.
@@ -88,7 +84,7 @@ fn lay_groups(tape: &mut [f32], delay: &[f32], long: usize, samples: &[f32])
     put_all(tape, early);
     let front = taken(samples);
     put_all(&mut tape[long..], front);
-    let second = least(samples.len() - LANES, LANES);
+    let second = (samples.len() - LANES).min(LANES);
     let next = taken(&samples[second..]);
     let at = long + second;
     put_all(&mut tape[at..], next);
@@ -99,26 +95,34 @@ pub(crate) fn filter_short(
     delay: &mut [f32],
     long: usize,
     taps: &[f32],
-    odd: bool,
-    minus: bool,
+    kind: Kind,
     src: &[f32],
     own: bool,
     span: &mut [f32],
 )
-    requires in_bounds { (1 ≤ length taps.now) × (length taps.now ≤ 23) × (long ≡ P.reach odd (length taps.now)) × (length delay.old ≡ 46) }
+    requires in_bounds { (1 ≤ length taps.now) × (length taps.now ≤ 23) × (long ≡ P.reach kind.odd (length taps.now)) × (length delay.old ≡ 46) }
     requires long_bound { (long ≤ 16) × (16 ≤ length span.old) × (length (W.picked own span.old src.now) ≡ length span.old) }
     ensures delay { let samples = W.picked own span.old src.now in
-        let next = state (W.linear_phase odd minus taps.now) (take long delay.old) samples in
+        let next = state (W.linear_phase kind.odd kind.antisymmetric taps.now) (take long delay.old) samples in
         delay.new ≡ next ++ drop long delay.old }
     ensures span { let samples = W.picked own span.old src.now in
-        span.new ≡ outs (W.linear_phase odd minus taps.now) (take long delay.old) samples }
+        span.new ≡ outs (W.linear_phase kind.odd kind.antisymmetric taps.now) (take long delay.old) samples }
 {
-    let centre = has_centre(odd, minus);
+    let centre = kind.has_centre();
     let line = picked(own, span, src);
     let mut tape = [0.0f32; SHORT_TAPE];
     lay_groups(&mut tape, delay, long, line);
     last_in(&mut delay[..long], &tape, line);
-    outputs_back(&tape, src, own, taps, long, minus, centre, span);
+    outputs_back(
+        &tape,
+        src,
+        own,
+        taps,
+        long,
+        kind.antisymmetric,
+        centre,
+        span,
+    );
 }
 
 // The places for the longest delay, and for fewer samples than a group: a multiple of sixteen, which the compiler clears without a call.
@@ -128,28 +132,36 @@ const FEW_TAPE: usize = 64;
 pub(crate) fn filter_few(
     delay: &mut [f32],
     taps: &[f32],
-    odd: bool,
-    minus: bool,
+    kind: Kind,
     src: &[f32],
     own: bool,
     span: &mut [f32],
 )
-    requires in_bounds { (1 ≤ length taps.now) × (length taps.now ≤ 23) × (length delay.old ≡ P.reach odd (length taps.now)) }
+    requires in_bounds { (1 ≤ length taps.now) × (length taps.now ≤ 23) × (length delay.old ≡ P.reach kind.odd (length taps.now)) }
     requires src_len { (length (W.picked own span.old src.now) ≡ length span.old) × (length span.old < 16) }
     ensures delay { let samples = W.picked own span.old src.now in
-        delay.new ≡ state (W.linear_phase odd minus taps.now) delay.old samples }
+        delay.new ≡ state (W.linear_phase kind.odd kind.antisymmetric taps.now) delay.old samples }
     ensures span { let samples = W.picked own span.old src.now in
-        span.new ≡ outs (W.linear_phase odd minus taps.now) delay.old samples }
+        span.new ≡ outs (W.linear_phase kind.odd kind.antisymmetric taps.now) delay.old samples }
 {
     let long = delay.len();
     let n = span.len();
     let past = n + long;
-    let centre = has_centre(odd, minus);
+    let centre = kind.has_centre();
     let lent = picked(own, span, src);
     let mut tape = [0.0f32; FEW_TAPE];
     lay(&mut tape, delay, lent);
     put_at_end(delay, &tape[n..past]);
-    outputs_back(&tape, src, own, taps, long, minus, centre, span);
+    outputs_back(
+        &tape,
+        src,
+        own,
+        taps,
+        long,
+        kind.antisymmetric,
+        centre,
+        span,
+    );
 }
 
 // The taps in front, and zeros behind them.
@@ -159,6 +171,6 @@ pub(crate) fn padded(taps: &[f32]) -> [f32; MOST_LINEAR_PHASE_TAPS]
 {
     let m = taps.len();
     let mut own = [0.0f32; MOST_LINEAR_PHASE_TAPS];
-    put_at_end(&mut own[..m], taps);
+    own[..m].copy_from_slice(taps);
     own
 }

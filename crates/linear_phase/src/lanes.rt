@@ -3,7 +3,7 @@ ghost use Rattle.std.specs.Prelude.{◌≡◌, false, ◌++◌, ◌+◌, ◌≤�
 ghost use Rattle.linear_phase.specs.Windows as W;
 
 use crate::few::few_outputs;
-use crate::pairs::pair;
+use crate::kinds::pair;
 
 // The sums of a whole group, which go side by side.
 pub(crate) const LANES: usize = 16;
@@ -13,10 +13,8 @@ fn add_pairs(acc: &mut [f32], old: &[f32], new: &[f32], tap: f32, minus: bool)
     requires { (length acc.old ≤ length old.now) × (length acc.old ≤ length new.now) }
     ensures { acc.new ≡ W.pairs_added minus tap old.now new.now acc.old }
 {
-    let mut j = 0;
-    while j < acc.len() {
-        acc[j] = acc[j] + pair(minus, new[j], old[j]) * tap;
-        j += 1;
+    for j in 0..acc.len() {
+        acc[j] += pair(minus, new[j], old[j]) * tap;
     }
 }
 
@@ -25,10 +23,8 @@ fn add_centres(acc: &mut [f32], centres: &[f32])
     requires { length acc.old ≤ length centres.now }
     ensures { acc.new ≡ W.centres_added centres.now acc.old }
 {
-    let mut j = 0;
-    while j < acc.len() {
-        acc[j] = acc[j] + centres[j];
-        j += 1;
+    for j in 0..acc.len() {
+        acc[j] += centres[j];
     }
 }
 
@@ -37,11 +33,8 @@ fn sums_at(acc: &mut [f32], line: &[f32], taps: &[f32], long: usize, minus: bool
     requires { (length taps.now ≤ long) × (long + length acc.old ≤ length line.now) × (acc.old ≡ W.no_sums (length acc.old)) }
     ensures { acc.new ≡ W.window_sums minus taps.now long line.now (length acc.old) (length taps.now) }
 {
-    let mut t = 0;
-    while t < taps.len() {
-        let newest = long - t;
-        add_pairs(acc, &line[t..], &line[newest..], taps[t], minus);
-        t += 1;
+    for t in 0..taps.len() {
+        add_pairs(acc, &line[t..], &line[long - t..], taps[t], minus);
     }
 }
 
@@ -59,11 +52,9 @@ pub(crate) fn outputs_at(
     ensures { acc.new ≡ W.window_values centre minus taps.now long line.now (length acc.old) }
 {
     sums_at(acc, line, taps, long, minus);
-    if !centre {
-        return;
+    if centre {
+        add_centres(acc, &line[taps.len()..]);
     }
-    let m = taps.len();
-    add_centres(acc, &line[m..]);
 }
 
 // A whole group of them.
@@ -82,11 +73,7 @@ pub(crate) fn taken(line: &[f32]) -> [f32; LANES]
     ensures { result ≡ take 16 line.now }
 {
     let mut y = [0.0f32; LANES];
-    let mut j = 0;
-    while j < LANES {
-        y[j] = line[j];
-        j += 1;
-    }
+    y.copy_from_slice(&line[..LANES]);
     y
 }
 
@@ -95,10 +82,8 @@ pub(crate) fn put_group(span: &mut [f32], y: &[f32])
     requires { length y.now ≤ length span.old }
     ensures { span.new ≡ W.put_in_front y.now span.old }
 {
-    let mut j = 0;
-    while j < y.len() {
+    for j in 0..y.len() {
         span[j] = y[j];
-        j += 1;
     }
 }
 
@@ -111,24 +96,20 @@ pub(crate) fn put_all(span: &mut [f32], y: [f32; LANES])
 }
 
 // One of two lines.
+#[tactic(auto, unfolding(crate::specs::Windows::picked))]
 pub(crate) fn picked<'a>(first: bool, a: &'a [f32], b: &'a [f32]) -> &'a [f32]
     ensures { result.now ≡ W.picked first a.now b.now }
 {
-    if first {
-        return a;
-    }
-    b
+    if first { a } else { b }
 }
 
 // Where the window of output `at` begins: on the tape, which has the delay in front, or among the samples.
+#[tactic(auto, unfolding(crate::specs::Windows::window_start))]
 fn window_start(front: bool, at: usize, long: usize) -> usize
     requires { front ≡ false → long ≤ at }
     ensures { result ≡ W.window_start front at long }
 {
-    if front {
-        return at;
-    }
-    at - long
+    if front { at } else { at - long }
 }
 
 // An output of each sample into the span, the last whole group first. The samples are those of src, or (own) of the span itself, whose places before the group

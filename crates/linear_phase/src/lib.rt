@@ -4,13 +4,13 @@
 mod brief;
 mod few;
 mod filter;
+mod kinds;
 mod lanes;
+mod lent;
 mod limits;
 pub mod linear_phase_fir;
 mod one;
-mod pairs;
 
+pub use crate::kinds::Kind;
 pub use crate::limits::{LINEAR_PHASE_DELAYS, MOST_LINEAR_PHASE_TAPS};
-pub use crate::linear_phase_fir::{
-    LinearPhaseBlock, LinearPhaseFir, LinearPhaseOpening, LinearPhaseOut, LinearPhaseStep,
-};
+pub use crate::linear_phase_fir::LinearPhaseFir;

@@ -4,8 +4,8 @@ ghost use Rattle.half_band.specs.Windows.{slid};
 ghost use Rattle.linear_phase.specs.LinearPhase as P;
 ghost use Rattle.linear_phase.specs.Windows as W;
 
+use crate::kinds::{Kind, pair};
 use crate::lanes::{LANES, put_all, taken};
-use crate::pairs::pair;
 
 // Σ (new ± old) × taps[t] from 0.0, t ascending, at the window of the delay with x behind it.
 pub(crate) fn sum_with(delay: &[f32], taps: &[f32], antisymmetric: bool, x: f32) -> f32
@@ -14,27 +14,23 @@ pub(crate) fn sum_with(delay: &[f32], taps: &[f32], antisymmetric: bool, x: f32)
 {
     let long = delay.len();
     let mut acc = 0.0f32 + pair(antisymmetric, x, delay[0]) * taps[0];
-    let mut t = 1;
-    while t < taps.len() {
-        acc = acc + pair(antisymmetric, delay[long - t], delay[t]) * taps[t];
-        t += 1;
+    for t in 1..taps.len() {
+        acc += pair(antisymmetric, delay[long - t], delay[t]) * taps[t];
     }
     acc
 }
 
 // The output at that window; the centre is added last.
-pub(crate) fn value_with(delay: &[f32], taps: &[f32], odd: bool, antisymmetric: bool, x: f32) -> f32
-    requires { (1 ≤ length taps.now) × (length delay.now ≡ P.reach odd (length taps.now)) }
-    ensures { result ≡ W.window_value odd antisymmetric taps.now (delay.now ++ (x ∷ [])) }
+pub(crate) fn value_with(delay: &[f32], taps: &[f32], kind: Kind, x: f32) -> f32
+    requires { (1 ≤ length taps.now) × (length delay.now ≡ P.reach kind.odd (length taps.now)) }
+    ensures { result ≡ W.window_value kind.odd kind.antisymmetric taps.now (delay.now ++ (x ∷ [])) }
 {
-    let acc = sum_with(delay, taps, antisymmetric, x);
-    if antisymmetric {
-        return acc;
+    let acc = sum_with(delay, taps, kind.antisymmetric, x);
+    if kind.has_centre() {
+        acc + delay[taps.len()]
+    } else {
+        acc
     }
-    if odd {
-        return acc + delay[taps.len()];
-    }
-    acc
 }
 
 // So many places from `to` on get what stands one place on; all of it is read before any is written.
@@ -66,10 +62,8 @@ fn move_down(delay: &mut [f32])
     ensures { delay.new ≡ drop 1 delay.old ++ drop (length delay.old - 1) delay.old }
 {
     let last = delay.len() - 1;
-    let mut i = 0;
-    while i < last {
+    for i in 0..last {
         delay[i] = delay[i + 1];
-        i += 1;
     }
 }
 
@@ -85,18 +79,12 @@ fn move_in(delay: &mut [f32], x: f32)
 }
 
 // The sample goes in, and its output comes out.
-pub(crate) fn filter_one(
-    delay: &mut [f32],
-    taps: &[f32],
-    odd: bool,
-    antisymmetric: bool,
-    x: f32,
-) -> f32
-    requires { (1 ≤ length taps.now) × (length delay.old ≡ P.reach odd (length taps.now)) }
+pub(crate) fn filter_one(delay: &mut [f32], taps: &[f32], kind: Kind, x: f32) -> f32
+    requires { (1 ≤ length taps.now) × (length delay.old ≡ P.reach kind.odd (length taps.now)) }
     ensures delay { delay.new ≡ slid delay.old (x ∷ []) }
-    ensures value { result ≡ W.window_value odd antisymmetric taps.now (delay.old ++ (x ∷ [])) }
+    ensures value { result ≡ W.window_value kind.odd kind.antisymmetric taps.now (delay.old ++ (x ∷ [])) }
 {
-    let y = value_with(delay, taps, odd, antisymmetric, x);
+    let y = value_with(delay, taps, kind, x);
     move_in(delay, x);
     y
 }

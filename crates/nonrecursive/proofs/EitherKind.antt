@@ -3,12 +3,12 @@
 use mathlib.Core.Path.{◌≡◌, refl, sym, ap, ap₂, ◌∙◌}
 use mathlib.Core.Bool.{Bool, true, false, cond, ◌&&◌}
 use mathlib.Core.List.{List, [], ◌∷◌, map}
-use mathlib.Core.Option.{Option, none, some}
+use Rattle.std.specs.Prelude.{Option, None, Some}
 use Prim.Native.Nat.{ℕ, ◌+◌, ◌^◌, ◌≤◌, ◌<◌}
 use native.Mathlib.Decide.{dec_lt}
 use native.Mathlib.Omega.{arith}
 use borrow.Author.Tests.{lt-ltb, le-ltb}
-use lib.Dec.{leb}
+use lib.Dec.{eqb, ltb, leb}
 use lib.IntN.{ℤ}
 use mir.Syntax.{w32}
 use Rattle.theory.specs.Wrap.{wrap}
@@ -134,7 +134,7 @@ either_settings t e =
     settings_by t.kind t.cic.stages t.cic.r t.cic.sample_counter h.0 h.1
 
 -- a sum comes with the sample that the counter says
-answers_by : (k : Thinning) (c : CicDecimator) (n : List ℤ) (x : ℤ) → valid_at k c.stages c.r c.sample_counter ≡ true → (y : ℤ) × (out_by k (with_parts k c n) x ≡ cond (waits c) none (some y))
+answers_by : (k : Thinning) (c : CicDecimator) (n : List ℤ) (x : ℤ) → valid_at k c.stages c.r c.sample_counter ≡ true → (y : ℤ) × (out_by k (with_parts k c n) x ≡ cond (waits c) None (Some y))
 unfolding valid_at decimator nonrecursive
 answers_by thinning.Integrators c n x v = (_, refl)
 answers_by thinning.Neighbours c n x v =
@@ -145,14 +145,14 @@ answers_by thinning.Neighbours c n x v =
     m = halvings c.r
 
     go : c.r ≡ 2 ^ m → Dec (c.sample_counter + 1 < c.r) → c.sample_counter < c.r
-        → (y : ℤ) × ((thinned c.stages m n c.sample_counter (wrap w32 x)).out ≡ cond (waits c) none (some y))
+        → (y : ℤ) × ((thinned c.stages m n c.sample_counter (wrap w32 x)).out ≡ cond (waits c) None (Some y))
     go e (yes l) h =
-        (x, waits_out c.stages m n c.sample_counter (wrap w32 x) (omega (arith, e)) ∙ sym (ap (λ (b : Bool). cond b none (some x)) (lt-ltb (c.sample_counter + 1) c.r l)))
+        (x, waits_out c.stages m n c.sample_counter (wrap w32 x) (omega (arith, e)) ∙ sym (ap (λ (b : Bool). cond b None (Some x)) (lt-ltb (c.sample_counter + 1) c.r l)))
     go e (no l) h =
         let y = last_out c.stages m n c.sample_counter (wrap w32 x) (omega (arith, e)) in
-        (y.0, y.1 ∙ sym (ap (λ (b : Bool). cond b none (some y.0)) (le-ltb (c.sample_counter + 1) c.r (let q : c.r ≤ c.sample_counter + 1 = omega arith in q))))
+        (y.0, y.1 ∙ sym (ap (λ (b : Bool). cond b None (Some y.0)) (le-ltb (c.sample_counter + 1) c.r (let q : c.r ≤ c.sample_counter + 1 = omega arith in q))))
 
-pub either_answers : (t : Thinner) (x : ℤ) → fine t ≡ true → (y : ℤ) × (out_by t.kind t x ≡ cond (waits t.cic) none (some y))
+pub either_answers : (t : Thinner) (x : ℤ) → fine t ≡ true → (y : ℤ) × (out_by t.kind t x ≡ cond (waits t.cic) None (Some y))
 unfolding fine
 either_answers t x e = answers_by t.kind t.cic t.neighbours x (and-true (valid_at t.kind t.cic.stages t.cic.r t.cic.sample_counter) _ e).0
 
@@ -186,8 +186,8 @@ scaled_with g t (x ∷ xs) e =
     ∙ go (out_by t.kind t x) (outs thin (next_by t.kind t x) xs)
   where
     go : (o : Option ℤ) (l : List ℤ) → onto (scaled_by g o) (map (λ (y : ℤ). floor_div y (2 ^ g)) l) ≡ map (λ (y : ℤ). floor_div y (2 ^ g)) (onto o l)
-    go none l = refl
-    go (some y) l = refl
+    go None l = refl
+    go (Some y) l = refl
 
 pub outs_scaled : (t : Thinner) (xs : List ℤ) → outs either t xs ≡ map (λ (y : ℤ). floor_div y (2 ^ gain_bits t.cic.stages t.cic.r)) (outs thin t xs)
 outs_scaled t xs = scaled_with (gain_bits t.cic.stages t.cic.r) t xs refl
@@ -196,3 +196,21 @@ pub state_scaled : (t : Thinner) (xs : List ℤ) → state either t xs ≡ state
 unfolding either thin
 state_scaled t [] = refl
 state_scaled t (x ∷ xs) = state_scaled (next_by t.kind t x) xs
+
+-- the CIC decimator's tests of the numbers are those of either kind, but for row 23
+pub by_parts : (k : Thinning) (N r counter : ℕ) → valid_at k N r counter ≡ (C.valid_at N r counter && factor_for k r)
+unfolding valid_at factor_for C.valid_at D.valid_at D.settings_number
+by_parts thinning.Integrators N r counter = go (stages_ok N && (factor_ok r && ltb counter r))
+  where
+    go : (a : Bool) → a ≡ (a && true)
+    go true = refl
+    go false = refl
+by_parts thinning.Neighbours N r counter = go (stages_ok N) (factor_ok r) (D.power_of_two r) (ltb counter r)
+  where
+    go : (a b c d : Bool) → (eqb (cond a (cond b (cond c 0 23) 2) 1) 0 && d) ≡ ((a && (b && d)) && c)
+    go true true true true = refl
+    go true true true false = refl
+    go true true false true = refl
+    go true true false false = refl
+    go true false c d = refl
+    go false b c d = refl

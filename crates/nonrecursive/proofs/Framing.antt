@@ -3,7 +3,7 @@
 use mathlib.Core.Path.{◌≡◌, refl, sym, ap, ◌∙◌, subst}
 use mathlib.Core.Bool.{Bool, true, cond}
 use mathlib.Core.List.{List, [], ◌∷◌, map}
-use mathlib.Core.Option.{Option, none, some}
+use Rattle.std.specs.Prelude.{Option, None, Some}
 use Prim.Native.Nat.{ℕ, zero, suc, ◌+◌, ◌-◌, ◌*◌, ◌^◌, ◌≤◌, ◌<◌, pred}
 use native.Mathlib.Nat.{add-zero, suc-mul}
 use native.Mathlib.Decide.{dec_lt}
@@ -53,27 +53,27 @@ module _ {S : Type 0} (f : Section S ℤ ℤ) where
         by o h =
             sym (ap (λ (b : Bool). step m b s (head_of (drop t xs))) there
             ∙ ap (λ (l : List ℤ). step m true s (head_of l)) e
-            ∙ step_not m s (some x) refl
+            ∙ step_not m s (Some x) refl
             ∙ ap {B = Stepped S ℤ} (λ (p : Option ℤ). record { event = taking p; line = f.next s x }) h)
 
         go : (o : Option ℤ) → f.out s x ≡ o → Mid (put_all out w (onto o [])) (f.next s x) (t + 1) (w + length (onto o []))
-        go none h =
+        go None h =
             subst (λ (n : ℕ). Mid out (f.next s x) (t + 1) n) (sym (add-zero w))
-            (after_took m 0 Good law s₀ xs out₀ out s t w mid (record { event = took; line = f.next s x }) (by none h) refl).1
-        go (some y) h = (after_both m 0 Good law s₀ xs out₀ out s t w mid (record { event = both y; line = f.next s x }) (by (some y) h) y refl).2
+            (after_took m 0 Good law s₀ xs out₀ out s t w mid (record { event = took; line = f.next s x }) (by None h) refl).1
+        go (Some y) h = (after_both m 0 Good law s₀ xs out₀ out s t w mid (record { event = both y; line = f.next s x }) (by (Some y) h) y refl).2
 
     put_more : (o : Option ℤ) (out : List ℤ) (w : ℕ) (l : List ℤ) → put_all (put_all out w (onto o [])) (w + length (onto o [])) l ≡ put_all out w (onto o l)
     unfolding put_all
-    put_more none out w l = ap (λ (n : ℕ). put_all out n l) (add-zero w)
-    put_more (some y) out w l = refl
+    put_more None out w l = ap (λ (n : ℕ). put_all out n l) (add-zero w)
+    put_more (Some y) out w l = refl
 
     count_more : (o : Option ℤ) (w : ℕ) (l : List ℤ) → w + length (onto o []) + length l ≡ w + length (onto o l)
-    count_more none w l = omega arith
-    count_more (some y) w l = omega arith
+    count_more None w l = omega arith
+    count_more (Some y) w l = omega arith
 
     less_places : (o : Option ℤ) (w : ℕ) → less o (length out₀ - w) ≡ length out₀ - (w + length (onto o []))
-    less_places none w = omega arith
-    less_places (some y) w = let q : pred (length out₀ - w) ≡ length out₀ - (w + 1) = omega arith in q
+    less_places None w = omega arith
+    less_places (Some y) w = let q : pred (length out₀ - w) ≡ length out₀ - (w + 1) = omega arith in q
 
     -- all of them
     pub after_list : (v out : List ℤ) (s : S) (t w : ℕ) → Mid out s t w → take (length v) (drop t xs) ≡ v → Room s v (length out₀ - w)
@@ -91,7 +91,7 @@ module _ {S : Type 0} (f : Section S ℤ ℤ) where
         go (y ∷ ys) d q ih =
             let o = f.out s x in
             let l = outs f (f.next s x) v in
-            let h : some y ≡ some x = ap head_of q in
+            let h : Some y ≡ Some x = ap head_of q in
             let first : drop t xs ≡ x ∷ ys = d ∙ ap (λ (z : Option ℤ). onto z ys) h in
             let rest : drop (t + 1) xs ≡ ys = sym (drop-drop 1 t xs) ∙ ap (drop 1) d in
             let n : t + 1 + length v ≡ t + suc (length v) = omega arith in
@@ -139,7 +139,7 @@ module _ (N r : ℕ) (whole : r ≡ 2 ^ halvings r) where
       t : D.Thinned
       t = thinned N (halvings r) s p (wrap w32 x)
 
-      waiting : p + 1 < r → t.out ≡ none
+      waiting : p + 1 < r → t.out ≡ None
       waiting l = waits_out N (halvings r) s p (wrap w32 x) (subst (λ (q : ℕ). p + 1 < q) whole l)
 
       go : Dec (p + 1 < r) → ((q k : ℕ) → q < r → q + length w ≤ k * r → Room nonrecursive (nonrecursive_of N r t.state q) w k)
@@ -152,5 +152,5 @@ module _ (N r : ℕ) (whole : r ≡ 2 ^ halvings r) where
           (of t.out (ih 0))
         where
           of : (o : Option ℤ) → ((k : ℕ) → 0 < r → 0 + length w ≤ k * r → Room nonrecursive (nonrecursive_of N r t.state 0) w k) → Room nonrecursive (nonrecursive_of N r t.state 0) w (less o (suc n))
-          of none ih = ih (suc n) (omega arith) (omega arith)
-          of (some y) ih = ih n (omega arith) (omega (arith, suc-mul n r))
+          of None ih = ih (suc n) (omega arith) (omega arith)
+          of (Some y) ih = ih n (omega arith) (omega (arith, suc-mul n r))

@@ -8,7 +8,11 @@ use native.Mathlib.Decide.{dec_le, ℕ_discrete}
 use native.Mathlib.Omega.{arith}
 use borrow.Author.Tests.{eqb-true, eq-eqb, ne_eqb, le-leb, lt-leb}
 use lib.Dec.{eqb}
+use lib.Count.{ones, ones_step}
 use lib.Pow.{pow_pos, pow_mono}
+use Rattle.std.specs.Prelude.{count_ones}
+use Rattle.std.specs.Int.{is_power_of_two}
+use Rattle.std.proofs.lemmas.Nat.{zero_from_ones}
 use Rattle.nonrecursive.specs.NonrecursiveDecimator.{halvings_up_to, halvings, power_of_two}
 
 doubled : (n : ℕ) → 2 ^ suc n ≡ 2 * 2 ^ n
@@ -86,3 +90,26 @@ module _ (r : ℕ) (more : 2 ≤ r) (fits : r < 2 ^ 64) where
       go : Dec (2 ^ halvings (r / 2) ≡ r / 2) → eqb (2 ^ halvings (r / 2)) (r / 2) ≡ eqb (2 ^ halvings r) r
       go (yes e) = eq-eqb (2 ^ halvings (r / 2)) (r / 2) e ∙ sym (eq-eqb (2 ^ halvings r) r (omega (arith, twice, e, even)))
       go (no f) = let g : 2 ^ halvings r ≡ r → ⊥ = λ e. f (omega (arith, twice, e, even)) in ne_eqb (2 ^ halvings (r / 2)) (r / 2) f ∙ sym (ne_eqb (2 ^ halvings r) r g)
+
+-- std's test, that one bit is set, is the definition's
+one_bit : (d r : ℕ) → r ≤ d → r < 2 ^ 64 → eqb (count_ones r) 1 ≡ power_of_two r
+unfolding ones
+one_bit d zero h fits = power_below 0 (omega arith)
+one_bit d (suc zero) h fits = power_below 1 (omega arith)
+one_bit zero (suc (suc r)) h fits = absurd (omega arith)
+one_bit (suc d) (suc (suc r)) h fits = go (one_bit d (n / 2) (omega arith) (omega arith)) (ℕ_discrete (n % 2) 1)
+  where
+    n : ℕ
+    n = suc (suc r)
+
+    go : eqb (count_ones (n / 2)) 1 ≡ power_of_two (n / 2) → Dec (n % 2 ≡ 1) → eqb (count_ones n) 1 ≡ power_of_two n
+    go ih (yes odd) =
+        let some : count_ones (n / 2) ≡ 0 → ⊥ = λ e. let z = zero_from_ones (n / 2) e in absurd (omega arith) in
+        let more : count_ones n ≡ 1 → ⊥ = λ e. some (omega (arith, ones_step n)) in
+        ne_eqb (count_ones n) 1 more ∙ power_odd n (omega arith) fits odd
+    go ih (no even) =
+        let same : count_ones n ≡ count_ones (n / 2) = omega (arith, ones_step n) in
+        ap (λ (k : ℕ). eqb k 1) same ∙ ih ∙ power_even n (omega arith) fits even
+
+pub power_tested : (r : ℕ) → r < 2 ^ 64 → is_power_of_two r ≡ power_of_two r
+power_tested r fits = one_bit r r (omega arith) fits

@@ -3,7 +3,7 @@
 use mathlib.Core.Path.{◌≡◌, refl, sym, ap, ap₂, ◌∙◌}
 use mathlib.Core.Bool.{Bool, cond}
 use mathlib.Core.List.{List, [], ◌∷◌, ◌++◌, append_assoc}
-use mathlib.Core.Option.{none, some}
+use Rattle.std.specs.Prelude.{None, Some}
 use Prim.Native.Nat.{ℕ, zero, suc, ◌+◌, ◌*◌, ◌/◌, ◌%◌, ◌^◌, ◌≤◌, ◌<◌}
 use native.Mathlib.Nat.{div-one, mod-one, suc-mul}
 use native.Mathlib.Numerals.{add-one, one-add}
@@ -50,12 +50,12 @@ module _ (N : ℕ) where
   -- what value t does, at a place that is t modulo 2^m
   pub record Thins (m : ℕ) (f : Signal) (t place : ℕ) (rest : List ℤ) : Type 0 where
     pub neighbours : (thinned N m (neighbours_at m f t ++ rest) place (wrap w32 (f t))).state ≡ neighbours_at m f (suc t) ++ rest
-    pub made : suc t % 2 ^ m ≡ 0 → (thinned N m (neighbours_at m f t ++ rest) place (wrap w32 (f t))).out ≡ some (wrap w32 (fold m (halved N) f (t / 2 ^ m)))
-    pub waits : 0 < suc t % 2 ^ m → (thinned N m (neighbours_at m f t ++ rest) place (wrap w32 (f t))).out ≡ none
+    pub made : suc t % 2 ^ m ≡ 0 → (thinned N m (neighbours_at m f t ++ rest) place (wrap w32 (f t))).out ≡ Some (wrap w32 (fold m (halved N) f (t / 2 ^ m)))
+    pub waits : 0 < suc t % 2 ^ m → (thinned N m (neighbours_at m f t ++ rest) place (wrap w32 (f t))).out ≡ None
 
   -- the first halving, from what its neighbours hand on
   abbrev onward : ℕ → ℕ → Passed ℤ → Thinned
-  onward m place q = cond (eqb (place % 2) 0) (record { state = q.state; out = none }) (behind N q.state (thinned N m (drop N q.state) (place / 2) q.val))
+  onward m place q = cond (eqb (place % 2) 0) (record { state = q.state; out = None }) (behind N q.state (thinned N m (drop N q.state) (place / 2) q.val))
 
   -- a value t that is a second of two is value t / 2 of the next halving
   passed_on : (f : Signal) (t : ℕ) → t % 2 ≡ 1 → fold N paired (delay f) (suc t) ≡ halved N f (t / 2)
@@ -79,10 +79,10 @@ module _ (N : ℕ) where
         ap (λ (l : List ℤ). onward m place (summed N l (wrap w32 (f t)))) (append_assoc (tower paired N (delay f) t) (neighbours_at m (halved N f) (t / 2)) rest)
         ∙ ap (onward m place) (sums_row N (delay f) t others)
 
-    first_of_two : place % 2 ≡ 0 → thinned N (suc m) (neighbours_at (suc m) f t ++ rest) place (wrap w32 (f t)) ≡ record { state = ahead ++ others; out = none }
+    first_of_two : place % 2 ≡ 0 → thinned N (suc m) (neighbours_at (suc m) f t ++ rest) place (wrap w32 (f t)) ≡ record { state = ahead ++ others; out = None }
     first_of_two e =
         one_halving
-        ∙ ap (λ (b : Bool). cond b (record { state = ahead ++ others; out = none }) (behind N (ahead ++ others) (thinned N m (drop N (ahead ++ others)) (place / 2) after.val))) (eq-eqb (place % 2) 0 e)
+        ∙ ap (λ (b : Bool). cond b (record { state = ahead ++ others; out = None }) (behind N (ahead ++ others) (thinned N m (drop N (ahead ++ others)) (place / 2) after.val))) (eq-eqb (place % 2) 0 e)
 
     second_of_two :
         place % 2 ≡ 1 → t % 2 ≡ 1
@@ -91,7 +91,7 @@ module _ (N : ℕ) where
     second_of_two e odd =
         let n : place % 2 ≡ 0 → ⊥ = λ q. absurd (omega arith) in
         one_halving
-        ∙ ap (λ (b : Bool). cond b (record { state = ahead ++ others; out = none }) (behind N (ahead ++ others) (thinned N m (drop N (ahead ++ others)) (place / 2) after.val))) (ne_eqb (place % 2) 0 n)
+        ∙ ap (λ (b : Bool). cond b (record { state = ahead ++ others; out = None }) (behind N (ahead ++ others) (thinned N m (drop N (ahead ++ others)) (place / 2) after.val))) (ne_eqb (place % 2) 0 n)
         ∙ ap {B = Thinned} (λ (l : List ℤ). record { state = l ++ (thinned N m (drop N (ahead ++ others)) (place / 2) after.val).state; out = (thinned N m (drop N (ahead ++ others)) (place / 2) after.val).out }) (take_at ahead others N (tower_long N (delay f) (suc t)))
         ∙ ap {B = Thinned} (λ (l : List ℤ). record { state = ahead ++ (thinned N m l (place / 2) after.val).state; out = (thinned N m l (place / 2) after.val).out }) (drop_at ahead others N (tower_long N (delay f) (suc t)))
         ∙ ap {B = Thinned} (λ (z : ℤ). record { state = ahead ++ (thinned N m others (place / 2) (wrap w32 z)).state; out = (thinned N m others (place / 2) (wrap w32 z)).out }) (passed_on f t odd)
@@ -108,7 +108,7 @@ module _ (N : ℕ) where
   thins zero f t place rest e =
       record {
         neighbours = refl;
-        made = λ z. ap (λ (k : ℕ). some (wrap w32 (f k))) (sym (div-one t));
+        made = λ z. ap (λ (k : ℕ). Some (wrap w32 (f k))) (sym (div-one t));
         waits = λ h. absurd (omega (arith, mod-one (suc t)));
       }
   thins (suc m) f t place rest e = go (dec_le 1 (t % 2)) (thins m (halved N f) (t / 2) (place / 2) rest)
@@ -157,7 +157,7 @@ module _ (N : ℕ) where
             made = λ z.
                 ap (λ (q : Thinned). q.out) second
                 ∙ r.made (omega (arith, c, digits))
-                ∙ ap (λ (k : ℕ). some (wrap w32 (fold m (halved N) (halved N f) k))) (halves t m);
+                ∙ ap (λ (k : ℕ). Some (wrap w32 (fold m (halved N) (halved N f) k))) (halves t m);
             waits = λ l. ap (λ (q : Thinned). q.out) second ∙ r.waits (omega (arith, c, digits));
           }
 

@@ -3,7 +3,7 @@
 use mathlib.Core.Path.{◌≡◌, refl, sym, ap, ◌∙◌, subst}
 use mathlib.Core.Bool.{Bool, true, false, cond, ◌&&◌}
 use mathlib.Core.List.{List, [], ◌∷◌, ◌++◌, map}
-use mathlib.Core.Option.{Option, none, some}
+use Rattle.std.specs.Prelude.{Option, None, Some}
 use Prim.Native.Nat.{ℕ, suc, ◌+◌, ◌-◌, ◌*◌, ◌/◌, ◌%◌, ◌^◌, ◌≤◌, ◌<◌}
 use native.Mathlib.Nat.{mod-lt, mod-mod, suc-mul, div-add-mod', mul-le-mul}
 use native.Mathlib.Decide.{dec_lt}
@@ -43,8 +43,8 @@ use Rattle.nonrecursive.proofs.Neighbours.{neighbours_at, Thins, thins, neighbou
 -- two sections that make the same of every list answer each sample alike
 module _ {S T A B : Type 0} (f : Section S A B) (g : Section T A B) (s : S) (t : T) (same : (w : List A) → outs f s w ≡ outs g t w) where
   head_onto : (o : Option B) → head_of (onto o []) ≡ o
-  head_onto none = refl
-  head_onto (some b) = refl
+  head_onto None = refl
+  head_onto (Some b) = refl
 
   pub same_out : (w : List A) (x : A) → f.out (state f s w) x ≡ g.out (state g t w) x
   same_out w x =
@@ -99,17 +99,17 @@ module _ (N m : ℕ) (few_stages : N ≤ 8) (few : m ≤ 12) (counted : halvings
   unfolding nonrecursive
   out_at t = ap (λ (n : ℕ). (does n t).out) counted
 
-  waits_at : (k j : ℕ) → suc j < r → nonrecursive.out (state_at (k * r + j)) (f (k * r + j)) ≡ none
+  waits_at : (k j : ℕ) → suc j < r → nonrecursive.out (state_at (k * r + j)) (f (k * r + j)) ≡ None
   waits_at k j h =
       let e : suc (k * r + j) ≡ k * r + suc j = omega arith in
       let d : suc (k * r + j) % r ≡ suc j = ap (λ (n : ℕ). n % r) e ∙ digits_mod k h in
       out_at (k * r + j) ∙ (at (k * r + j)).waits (omega (arith, d))
 
-  sums_at : (k j : ℕ) → suc j ≡ r → nonrecursive.out (state_at (k * r + j)) (f (k * r + j)) ≡ some (wrap w32 (fold m (halved N) f k))
+  sums_at : (k j : ℕ) → suc j ≡ r → nonrecursive.out (state_at (k * r + j)) (f (k * r + j)) ≡ Some (wrap w32 (fold m (halved N) f k))
   sums_at k j h =
       let e : suc (k * r + j) ≡ suc k * r + 0 = omega (arith, suc-mul k r) in
       let d : suc (k * r + j) % r ≡ 0 = ap (λ (n : ℕ). n % r) e ∙ digits_mod (suc k) (pow_pos m) in
-      out_at (k * r + j) ∙ (at (k * r + j)).made d ∙ ap (λ (n : ℕ). some (wrap w32 (fold m (halved N) f n))) (digits_div k (omega arith))
+      out_at (k * r + j) ∙ (at (k * r + j)).made d ∙ ap (λ (n : ℕ). Some (wrap w32 (fold m (halved N) f n))) (digits_div k (omega arith))
 
   starts : state_at 0 ≡ fresh N r
   starts =
@@ -189,8 +189,8 @@ module _ (N r : ℕ) where
       ∙ go (nonrecursive.out d x) (outs nonrecursive (nonrecursive.next d x) w)
     where
       go : (o : Option ℤ) (l : List ℤ) → onto (scaled_by (gain_bits N r) o) (map scale l) ≡ map scale (onto o l)
-      go none l = refl
-      go (some y) l = refl
+      go None l = refl
+      go (Some y) l = refl
 
 pub nonrecursive_streams : (N r : ℕ) → settings_number N r ≡ 0 → Streams N r (fresh N r)
 nonrecursive_streams N r ok =

@@ -5,7 +5,7 @@ use Prim.Native.Nat.{ℕ, suc, ◌+◌, ◌*◌, ◌≤◌, ◌<◌}
 use native.Mathlib.Numerals.{add-one}
 use native.Mathlib.Omega.{arith}
 use lib.IntN.{ℤ, pos}
-use lib.ListN.{length, take, drop, get_or, set, length-set, length-drop, drop_of_length-le}
+use lib.ListN.{length, take, drop, get_or, set, length-set, drop_of_length-le, take-append-drop}
 use lib.Seq.{take-suc, take-suc-set, drop-cons, drop-set-lt, drop-drop, get_or-drop, get_or-take, length-take-le}
 use mir.Syntax.{w32}
 use Rattle.theory.specs.Wrap.{wrap}
@@ -14,17 +14,15 @@ use Rattle.nonrecursive.specs.Tape.{pairs, put_all}
 use Rattle.nonrecursive.proofs.StageByStage.{summed_long}
 
 pub laid_more :
-    (tape src : List ℤ) (from i : ℕ) (x : ℤ) → i < length tape → from + i < length src → x ≡ wrap w32 (get_or src (from + i) (pos 0))
-    → take i tape ≡ map (wrap w32) (take i (drop from src)) → take (i + 1) (set tape i x) ≡ map (wrap w32) (take (i + 1) (drop from src))
-laid_more tape src from i x h g e so_far =
-    let l : i < length (drop from src) = omega (arith, length-drop from src) in
-    let y = get_or src (from + i) (pos 0) in
+    (tape w : List ℤ) (i : ℕ) (x : ℤ) → i < length tape → i < length w → x ≡ wrap w32 (get_or w i (pos 0))
+    → take i tape ≡ map (wrap w32) (take i w) → take (i + 1) (set tape i x) ≡ map (wrap w32) (take (i + 1) w)
+laid_more tape w i x h g e so_far =
+    let y = get_or w i (pos 0) in
     ap (λ (n : ℕ). take n (set tape i x)) (add-one i)
     ∙ take-suc-set tape i x h
     ∙ ap₂ (λ (p : List ℤ) (z : ℤ). p ++ (z ∷ [])) so_far e
-    ∙ sym (map-append (wrap w32) (take i (drop from src)) (y ∷ []))
-    ∙ ap (map (wrap w32))
-    (sym (ap (λ (n : ℕ). take n (drop from src)) (add-one i) ∙ take-suc (drop from src) i (pos 0) l ∙ ap (λ (z : ℤ). take i (drop from src) ++ (z ∷ [])) (get_or-drop from src i (pos 0))))
+    ∙ sym (map-append (wrap w32) (take i w) (y ∷ []))
+    ∙ ap (map (wrap w32)) (sym (ap (λ (n : ℕ). take n w) (add-one i) ∙ take-suc w i (pos 0) g))
 
 -- a span keeps its length
 pub put_long : (dst : List ℤ) (w : ℕ) (l : List ℤ) → length (put_all dst w l) ≡ length dst
@@ -32,25 +30,18 @@ unfolding put_all
 put_long dst w [] = refl
 put_long dst w (y ∷ l) = put_long (set dst w y) (w + 1) l ∙ length-set dst w y
 
-module _ (dst₀ dst tape : List ℤ) (from count i : ℕ) (inside : count ≤ length tape) where
-  abbrev sums : List ℤ
-  sums = take count tape
-
-  long : length sums ≡ count
-  long = length-take-le count tape inside
-
-  pub put_more : i < count → (x : ℤ) → x ≡ get_or tape i (pos 0) → put_all dst₀ from sums ≡ put_all dst (from + i) (drop i sums)
-      → put_all dst₀ from sums ≡ put_all (set dst (from + i) x) (from + (i + 1)) (drop (i + 1) sums)
-  unfolding put_all
-  put_more h x e so_far =
-      let n : from + i + 1 ≡ from + (i + 1) = omega arith in
-      so_far
-      ∙ ap (put_all dst (from + i)) (drop-cons sums i (pos 0) (omega (arith, long)) ∙ ap₂ (λ (z : ℤ) (l : List ℤ). z ∷ l) (get_or-take count tape i (pos 0) h ∙ sym e) (ap (λ (k : ℕ). drop k sums) (sym (add-one i))))
-      ∙ ap (λ (k : ℕ). put_all (set dst (from + i) x) k (drop (i + 1) sums)) n
-
-  pub put_all_lem : count ≤ i → put_all dst₀ from sums ≡ put_all dst (from + i) (drop i sums) → dst ≡ put_all dst₀ from sums
-  unfolding put_all
-  put_all_lem h so_far = let g : length sums ≤ i = omega (arith, long) in sym (so_far ∙ ap (put_all dst (from + i)) (drop_of_length-le sums g))
+-- values put into a span one after the other stand there in one piece
+pub put_whole : (dst : List ℤ) (w : ℕ) (l : List ℤ) → w + length l ≤ length dst → put_all dst w l ≡ take w dst ++ (l ++ drop (length l) (drop w dst))
+unfolding put_all
+put_whole dst w [] fits = sym (take-append-drop w dst)
+put_whole dst w (y ∷ l) fits =
+    let there : w < length dst = omega arith in
+    let rest : w + 1 + length l ≤ length (set dst w y) = omega (arith, length-set dst w y) in
+    put_whole (set dst w y) (w + 1) l rest
+    ∙ ap (λ (k : ℕ). take k (set dst w y) ++ (l ++ drop (length l) (drop k (set dst w y)))) (add-one w)
+    ∙ ap₂ (λ (a b : List ℤ). a ++ (l ++ drop (length l) b)) (take-suc-set dst w y there) (drop-set-lt (suc w) dst w y (omega arith))
+    ∙ append_assoc (take w dst) (y ∷ []) (l ++ drop (length l) (drop (suc w) dst))
+    ∙ ap (λ (b : List ℤ). take w dst ++ (y ∷ (l ++ b))) (drop-drop (length l) (suc w) dst ∙ ap (λ (k : ℕ). drop k dst) (let e : suc w + length l ≡ w + suc (length l) = omega arith in e) ∙ sym (drop-drop (suc (length l)) w dst))
 
 -- what holds after i of the pairs of `line`, the first `count` pairs of the tape: their values stand in front, and what is not read yet as it was
 pub record Halving (N count : ℕ) (s₀ tape₀ s tape : List ℤ) (at i : ℕ) : Type 0 where

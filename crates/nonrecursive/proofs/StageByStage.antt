@@ -3,7 +3,7 @@
 use mathlib.Core.Path.{◌≡◌, refl, sym, ap, ap₂, ◌∙◌}
 use mathlib.Core.Bool.{Bool, cond}
 use mathlib.Core.List.{List, [], ◌∷◌, ◌++◌}
-use mathlib.Core.Option.{none, some}
+use Rattle.std.specs.Prelude.{None, Some}
 use Prim.Native.Nat.{ℕ, zero, suc, ◌+◌, ◌*◌, ◌/◌, ◌%◌, ◌^◌, ◌≤◌, ◌<◌}
 use native.Mathlib.Nat.{pow-suc, suc-mul, mul_assoc, mul_comm, add-zero}
 use native.Mathlib.Decide.{dec_lt}
@@ -12,7 +12,7 @@ use borrow.Author.Tests.{eq-eqb, ne_eqb, lt-ltb, le-ltb}
 use lib.IntN.{ℤ}
 use lib.ListN.{length, take, drop, length-drop, length-append, take-append-drop}
 use lib.Pow.{pow_pos}
-use lib.Seq.{take_at, drop_at, length-take-le}
+use lib.Seq.{take_at, drop_at, take_all, length-take-le}
 use Rattle.theory.specs.Sections.{Section, onto, state, outs}
 use Rattle.integer.specs.Stages.{Passed, row, kept, sum32}
 use Rattle.integer.proofs.Row.{long_kept, behind}
@@ -92,20 +92,22 @@ module _ (N : ℕ) where
   pairs_count (a ∷ []) s = refl
   pairs_count (a ∷ b ∷ w) s = let e = pairs_count w (both s a b).state in omega (arith, e)
 
-  -- so their halving may hold them apart, h behind them, and put them back
-  module _ (w s h : List ℤ) (enough : N ≤ length s) where
-    abbrev apart : List ℤ
-    apart = take N s ++ drop N h
+  -- so they may stand by themselves meanwhile
+  module _ (w s : List ℤ) (enough : N ≤ length s) where
+    long : length (take N s) ≡ N
+    long = length-take-le N s enough
 
-    same_front : take N apart ≡ take N s
-    same_front = take_at (take N s) (drop N h) N (length-take-le N s enough)
+    same_front : take N (take N s) ≡ take N s
+    same_front = take_all N (take N s) (omega (arith, long))
 
-    pub apart_vals : (pairs N apart w).vals ≡ (pairs N s w).vals
-    apart_vals = pairs_vals w apart s same_front
+    pub alone_vals : (pairs N (take N s) w).vals ≡ (pairs N s w).vals
+    alone_vals = pairs_vals w (take N s) s same_front
 
-    pub apart_state : take N (pairs N apart w).state ++ drop N s ≡ (pairs N s w).state
-    apart_state =
-        ap₂ (λ (a b : List ℤ). a ++ b) (pairs_front w apart s same_front) (sym (pairs_behind w s))
+    pub alone_state : (pairs N (take N s) w).state ++ drop N s ≡ (pairs N s w).state
+    alone_state =
+        let p : List ℤ = (pairs N (take N s) w).state in
+        let all : take N p ≡ p = take_all N p (omega (arith, pairs_long w (take N s), long)) in
+        ap₂ (λ (a b : List ℤ). a ++ b) (sym all ∙ pairs_front w (take N s) s same_front) (sym (pairs_behind w s))
         ∙ take-append-drop N (pairs N s w).state
 
   -- m halvings as a section over the neighbours and the place
@@ -123,16 +125,16 @@ module _ (N : ℕ) where
     double : r ≡ 2 * 2 ^ m
     double = omega (arith, pow-suc 2 m)
 
-    first_step : (s : List ℤ) (p : ℕ) (a : ℤ) → p % 2 ≡ 0 → thinned N (suc m) s p a ≡ record { state = (summed N s a).state; out = none }
+    first_step : (s : List ℤ) (p : ℕ) (a : ℤ) → p % 2 ≡ 0 → thinned N (suc m) s p a ≡ record { state = (summed N s a).state; out = None }
     unfolding thinned
     first_step s p a e =
-        ap (λ (b : Bool). cond b (record { state = (summed N s a).state; out = none }) (D.behind N (summed N s a).state (thinned N m (drop N (summed N s a).state) (p / 2) (summed N s a).val))) (eq-eqb (p % 2) 0 e)
+        ap (λ (b : Bool). cond b (record { state = (summed N s a).state; out = None }) (D.behind N (summed N s a).state (thinned N m (drop N (summed N s a).state) (p / 2) (summed N s a).val))) (eq-eqb (p % 2) 0 e)
 
     second_step : (s : List ℤ) (p : ℕ) (b : ℤ) → (p % 2 ≡ 0 → ⊥) →
         thinned N (suc m) s p b ≡ D.behind N (summed N s b).state (thinned N m (drop N (summed N s b).state) (p / 2) (summed N s b).val)
     unfolding thinned
     second_step s p b e =
-        ap (λ (c : Bool). cond c (record { state = (summed N s b).state; out = none }) (D.behind N (summed N s b).state (thinned N m (drop N (summed N s b).state) (p / 2) (summed N s b).val))) (ne_eqb (p % 2) 0 e)
+        ap (λ (c : Bool). cond c (record { state = (summed N s b).state; out = None }) (D.behind N (summed N s b).state (thinned N m (drop N (summed N s b).state) (p / 2) (summed N s b).val))) (ne_eqb (p % 2) 0 e)
 
     -- the place after a first of two, and after both
     place_one : (p : ℕ) → p % 2 ≡ 0 → p < r → next_place p r ≡ p + 1
@@ -280,17 +282,17 @@ module _ (N : ℕ) where
       ∙ ap (λ (n : ℕ). n % 2 ^ m) e
 
   -- a value whose place is not the last makes nothing
-  pub waits_out : (m : ℕ) (s : List ℤ) (p : ℕ) (v : ℤ) → p + 1 < 2 ^ m → (thinned N m s p v).out ≡ none
+  pub waits_out : (m : ℕ) (s : List ℤ) (p : ℕ) (v : ℤ) → p + 1 < 2 ^ m → (thinned N m s p v).out ≡ None
   unfolding thinned
   waits_out zero s p v h = absurd (omega arith)
   waits_out (suc m) s p v h = go (waits_out m (drop N (summed N s v).state) (p / 2) (summed N s v).val) (dec_lt (p % 2) 1)
     where
-      go : (p / 2 + 1 < 2 ^ m → (thinned N m (drop N (summed N s v).state) (p / 2) (summed N s v).val).out ≡ none) → Dec (p % 2 < 1) → (thinned N (suc m) s p v).out ≡ none
+      go : (p / 2 + 1 < 2 ^ m → (thinned N m (drop N (summed N s v).state) (p / 2) (summed N s v).val).out ≡ None) → Dec (p % 2 < 1) → (thinned N (suc m) s p v).out ≡ None
       go ih (yes l) = ap (λ (z : Thinned). z.out) (first_step m s p v (omega arith))
       go ih (no l) = ap (λ (z : Thinned). z.out) (second_step m s p v (omega arith)) ∙ ih (omega (arith, double m))
 
   -- and one whose place is the last makes a sum
-  pub last_out : (m : ℕ) (s : List ℤ) (p : ℕ) (v : ℤ) → p + 1 ≡ 2 ^ m → (y : ℤ) × ((thinned N m s p v).out ≡ some y)
+  pub last_out : (m : ℕ) (s : List ℤ) (p : ℕ) (v : ℤ) → p + 1 ≡ 2 ^ m → (y : ℤ) × ((thinned N m s p v).out ≡ Some y)
   unfolding thinned
   last_out zero s p v h = (v, refl)
   last_out (suc m) s p v h =

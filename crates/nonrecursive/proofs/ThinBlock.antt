@@ -1,5 +1,7 @@
 -- A block of section 1 of either kind is the block of the kind's own decimator, the rest of the state beside it: that decimator is seen in the states of its kind, and a
 -- sample changes nothing else.
+use Rattle.std.specs.Prelude.{Result, Ok, Err}
+use Rattle.std.specs.Result.{result_unwrap_or}
 use mathlib.Core.Path.{◌≡◌, refl, sym, ap, ◌∙◌}
 use mathlib.Core.Bool.{Bool, true, false, cond}
 use mathlib.Core.List.{List, ◌++◌}
@@ -11,8 +13,9 @@ use Rattle.theory.specs.Machines.{alone}
 use Rattle.theory.specs.Feeds.{Fed, idle, feed}
 use Rattle.theory.proofs.FeedRules.{feed_keeps}
 use Rattle.theory.proofs.FeedsSeen.{feed_seen}
-use Rattle.refusal.specs.Outcome.{Outcome, Moved, counts_answer}
-use Rattle.refusal.specs.declared.Counts.{Counts}
+use Rattle.refusal.specs.Outcome.{Outcome, none_moved, value_in, told_on}
+use Rattle.refusal.specs.declared.Moved.{Moved}
+use Rattle.refusal.specs.declared.Refusal.{Refusal}
 use Rattle.integer.specs.CicDecimator.{decimator_of, decimator}
 use Rattle.integer.specs.CicDecimator as C
 use Rattle.nonrecursive.specs.NonrecursiveDecimator.{nonrecursive_of, nonrecursive}
@@ -93,27 +96,32 @@ module _ {S : Type 0} (k : Thinning) (part : Thinner → S) (with_part : Thinner
   block_is true w span left a places own o e s = rw (fed_is w places, ← o, e, s) ((refl, refl), (refl, refl))
   block_is false w span left a places own o e s = rw (e, s, kind.own t) ((refl, refl), (refl, refl))
 
--- the same of counts that are told as numbers, with the arrays as the kind's own block leaves them
-module _ (N r : ℕ) (i h n : List ℤ) (counter : ℕ) (w span : List ℤ) (counts : Counts) {k : Thinning} {left : List ℤ} {taken made counter' counter'' : ℕ}
-    (told : (taken ≡ (counts_answer counts).value.taken) × (made ≡ (counts_answer counts).value.written) × (counter'' ≡ counter')) where
+-- the counts of a block, none where it is refused
+moved_is : (counts : Result Moved Refusal) (moved : Moved) → moved ≡ result_unwrap_or counts none_moved → moved ≡ value_in none_moved counts
+moved_is (Ok m) moved e = e
+moved_is (Err q) moved e = e
+
+-- the same of a result's counts, with the arrays as the kind's own block leaves them
+module _ (N r : ℕ) (i h n : List ℤ) (counter : ℕ) (w span : List ℤ) (counts : Result Moved Refusal) {k : Thinning} {left : List ℤ} {moved : Moved} {counter' : ℕ}
+    (told : moved ≡ result_unwrap_or counts none_moved) where
   pub integrators_block :
       {i' h' : List ℤ} → k ≡ thinning.Integrators
-      → C.told_block (record { counts = counts; state = decimator_of N r i' h' counter' }) ≡ C.block (decimator_of N r i h counter) w (length span)
+      → told_on none_moved counts (decimator_of N r i' h' counter') ≡ C.block (decimator_of N r i h counter) w (length span)
       → left ≡ C.block_span (decimator_of N r i h counter) w span
-      → Given (thin_fed (thinner_of k N r i h n counter) w (length span)) span taken made (thinner_of k N r i' h' n counter'') left
+      → Given (thin_fed (thinner_of k N r i h n counter) w (length span)) span moved.taken moved.written (thinner_of k N r i' h' n counter') left
   unfolding C.block C.block_span C.fed_block thin_fed valid_at
   integrators_block {i'} {h'} is e s =
-      rw (is, told.0, told.1, told.2)
+      rw (is, moved_is counts moved told)
       (block_is thinning.Integrators (λ u. u.cic) with_cic decimator integrators_kind (thinner_of thinning.Integrators N r i h n counter) refl (C.valid_at N r counter) w span left
-      (C.told_block (record { counts = counts; state = decimator_of N r i' h' counter' })) (length span) _ refl e s)
+      (told_on none_moved counts (decimator_of N r i' h' counter')) (length span) _ refl e s)
 
   pub neighbours_block :
       {n' : List ℤ} → k ≡ thinning.Neighbours
-      → D.told_block (record { counts = counts; state = nonrecursive_of N r n' counter' }) ≡ D.block (nonrecursive_of N r n counter) w (length span)
+      → told_on none_moved counts (nonrecursive_of N r n' counter') ≡ D.block (nonrecursive_of N r n counter) w (length span)
       → left ≡ D.block_span (nonrecursive_of N r n counter) w span
-      → Given (thin_fed (thinner_of k N r i h n counter) w (length span)) span taken made (thinner_of k N r i h n' counter'') left
+      → Given (thin_fed (thinner_of k N r i h n counter) w (length span)) span moved.taken moved.written (thinner_of k N r i h n' counter') left
   unfolding D.block D.block_span D.fed_block thin_fed valid_at
   neighbours_block {n'} is e s =
-      rw (is, told.0, told.1, told.2)
+      rw (is, moved_is counts moved told)
       (block_is thinning.Neighbours beside with_beside nonrecursive neighbours_kind (thinner_of thinning.Neighbours N r i h n counter) refl (D.valid_at N r counter) w span left
-      (D.told_block (record { counts = counts; state = nonrecursive_of N r n' counter' })) (length span) _ refl e s)
+      (told_on none_moved counts (nonrecursive_of N r n' counter')) (length span) _ refl e s)

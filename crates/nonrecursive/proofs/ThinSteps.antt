@@ -2,7 +2,7 @@
 use mathlib.Core.Path.{◌≡◌, refl, sym, ap, ap₂, ◌∙◌}
 use mathlib.Core.Bool.{Bool, cond}
 use mathlib.Core.List.{List, ◌++◌, append-nil, append_assoc}
-use mathlib.Core.Option.{Option, none, some}
+use Rattle.std.specs.Prelude.{Option, None, Some}
 use Prim.Native.Nat.{ℕ, ◌+◌, ◌-◌, ◌/◌, ◌%◌, ◌^◌, ◌≤◌, ◌<◌, min}
 use native.Mathlib.Decide.{dec_le}
 use native.Mathlib.Nat.{min-eq_left, min-eq_right}
@@ -48,7 +48,7 @@ module _ (N : ℕ) (s : List ℤ) (from : ℕ) (e : from ≡ min N (length s)) w
   put_is y = ap₂ (λ (p q : List ℤ). p ++ (y ++ q)) front (drop_of_length-le (drop from s) all_left) ∙ ap (λ (q : List ℤ). take N s ++ q) (append-nil y)
 
 module _ (N r : ℕ) (s : List ℤ) (place : ℕ) (v : ℤ) where
-  pub thin_none : r < 2 → record { state = s; out = some v } ≡ thinned N (halvings r) s place v
+  pub thin_none : r < 2 → record { state = s; out = Some v } ≡ thinned N (halvings r) s place v
   unfolding thinned
   thin_none h = sym (ap (λ (m : ℕ). thinned N m s place v) (halvings_none r h))
 
@@ -59,17 +59,17 @@ module _ (N r : ℕ) (s : List ℤ) (place : ℕ) (v : ℤ) where
     abbrev goes_on : Thinned
     goes_on = behind N q.state (thinned N (halvings (r / 2)) (drop N q.state) (place / 2) q.val)
 
-    pub thin_first : place % 2 ≡ 0 → record { state = q.state; out = none } ≡ thinned N (halvings r) s place v
+    pub thin_first : place % 2 ≡ 0 → record { state = q.state; out = None } ≡ thinned N (halvings r) s place v
     unfolding thinned
     thin_first e =
         sym (ap (λ (m : ℕ). thinned N m s place v) (halvings_half r more fits)
-        ∙ ap (λ (b : Bool). cond b (record { state = q.state; out = none }) goes_on) (eq-eqb (place % 2) 0 e))
+        ∙ ap (λ (b : Bool). cond b (record { state = q.state; out = None }) goes_on) (eq-eqb (place % 2) 0 e))
 
     thin_second : (place % 2 ≡ 0 → ⊥) → goes_on ≡ thinned N (halvings r) s place v
     unfolding thinned
     thin_second n =
         sym (ap (λ (m : ℕ). thinned N m s place v) (halvings_half r more fits)
-        ∙ ap (λ (b : Bool). cond b (record { state = q.state; out = none }) goes_on) (ne_eqb (place % 2) 0 n))
+        ∙ ap (λ (b : Bool). cond b (record { state = q.state; out = None }) goes_on) (ne_eqb (place % 2) 0 n))
 
 -- what is left to do of the neighbours from a place on, with those in front of it done
 abbrev pub going_on : ℕ → List ℤ → Thinned → Thinned
@@ -105,7 +105,7 @@ module _ (N left : ℕ) (n : List ℤ) (from at : ℕ) (v : ℤ) (more : 2 ≤ l
     val_is : (summed N (drop from n) v).val ≡ u
     val_is = sym (e_v ∙ ap (λ (s : List ℤ). (summed N s v).val) part_left)
 
-    pub thin_ends : at % 2 ≡ 0 → (after ≡ whole.state) × (none ≡ whole.out)
+    pub thin_ends : at % 2 ≡ 0 → (after ≡ whole.state) × (None ≡ whole.out)
     thin_ends e =
         let t = thin_first N left (drop from n) at v more fits e in (
           put_left ∙ ap (λ (q : List ℤ). take from n ++ q) (sym state_is ∙ ap (λ (q : Thinned). q.state) t),

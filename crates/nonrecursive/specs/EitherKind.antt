@@ -1,8 +1,7 @@
 -- 02, §13: "the line may be opened with either". Section 1 as the line has it: which kind thins, the CIC decimator with the numbers that both kinds have, and the
 -- neighbours. Of integrators and combs, or neighbours, one part is off. Its opening, what a state must be not to be refused, its sums, a block of them, and its scaled
 -- sums.
-use Rattle.std.specs.Prelude.{Bool, true, false, cond, ◌&&◌, List, ℕ, leb, ℤ, pos, replicate}
-use Rattle.std.proofs.Math.Option.{Option}
+use Rattle.std.specs.Prelude.{Bool, true, false, cond, ◌&&◌, List, ℕ, leb, ℤ, pos, replicate, Option}
 use Rattle.theory.specs.Sections.{Section}
 use Rattle.theory.specs.Machines.{alone}
 use Rattle.theory.specs.Feeds.{Fed, idle, feed}

@@ -1,23 +1,20 @@
 -- 02, §13, `NonrecursiveDecimator`: the CIC decimator's sums with no integrators, for a factor that is a power of two. Its state, its opening and refusals, one
 -- sample, one scaled sample; and what holds of every stream.
-use Rattle.std.specs.Prelude.{◌≡◌, Bool, true, cond, ◌&&◌, List, ◌++◌, ℕ, zero, suc, ◌+◌, ◌/◌, ◌%◌, ◌^◌, eqb, leb, ltb, ℤ, pos, length, take, drop, replicate}
-use Rattle.std.proofs.Math.Option.{Option, none, some}
+use Rattle.std.specs.Prelude.{◌≡◌, Bool, true, cond, ◌&&◌, List, ◌++◌, ℕ, zero, suc, ◌+◌, ◌/◌, ◌%◌, ◌^◌, eqb, leb, ltb, ℤ, pos, length, take, drop, replicate, Option, None, Some}
 use Rattle.std.specs.Int.{w32}
 use Rattle.theory.specs.Wrap.{wrap}
 use Rattle.theory.specs.Sections.{Section, state, outs}
 use Rattle.theory.specs.Machines.{Machine, alone}
 use Rattle.theory.specs.Feeds.{Fed, feed, History, Promised}
-use Rattle.refusal.specs.Outcome.{Outcome, Opened, opening_number, Moved, counts_answer}
+use Rattle.refusal.specs.Outcome.{Outcome, Opened}
+use Rattle.refusal.specs.declared.Moved.{Moved}
 use Rattle.integer.specs.Limits.{stages_ok, factor_ok}
 use Rattle.integer.specs.Stages.{Passed, row, kept, sum32}
 use Rattle.integer.specs.Gain.{gain_bits, most_bits}
 use Rattle.integer.specs.MovingSums.{sums, scaled_sums}
-use Rattle.integer.specs.CicDecimator.{scaled_by, output_number, output_sum}
+use Rattle.integer.specs.CicDecimator.{scaled_by}
 use Rattle.integer.specs.CicDecimator as C
 use Rattle.nonrecursive.specs.declared.nonrecursive_decimator.NonrecursiveDecimator.{NonrecursiveDecimator}
-use Rattle.nonrecursive.specs.declared.nonrecursive_decimator.NonrecursiveOpened.{NonrecursiveOpened}
-use Rattle.nonrecursive.specs.declared.nonrecursive_decimator.NonrecursiveStep.{NonrecursiveStep}
-use Rattle.nonrecursive.specs.declared.nonrecursive_decimator.NonrecursiveBlock.{NonrecursiveBlock}
 
 -- "each halving of the factor, rounded down, that leaves at least 1": the most m up to `most` with 2^m ≤ r, and 0 where there is none
 unfoldable pub halvings_up_to : ℕ → ℕ → ℕ
@@ -79,9 +76,9 @@ behind N s q = record { state = take N s ++ q.state; out = q.out }
 
 -- m halvings: "drop every first of two", which is a value whose place is even; a second goes on to the next halving, at half the place
 unfoldable pub thinned : ℕ → ℕ → List ℤ → ℕ → ℤ → Thinned
-thinned N zero s place v = record { state = s; out = some v }
+thinned N zero s place v = record { state = s; out = Some v }
 thinned N (suc m) s place v =
-    cond (eqb (place % 2) 0) (record { state = (summed N s v).state; out = none })
+    cond (eqb (place % 2) 0) (record { state = (summed N s v).state; out = None })
     (behind N (summed N s v).state (thinned N m (drop N (summed N s v).state) (place / 2) (summed N s v).val))
 
 -- the place after one sample more
@@ -96,7 +93,7 @@ nonrecursive =
     }
 
 abbrev pub refused_step : ℕ → NonrecursiveDecimator → Outcome (Option ℤ) NonrecursiveDecimator
-refused_step n d = record { number = n; value = none; state = d }
+refused_step n d = record { number = n; value = None; state = d }
 
 -- `process_sample`
 unfoldable pub step : NonrecursiveDecimator → ℤ → Outcome (Option ℤ) NonrecursiveDecimator
@@ -138,16 +135,6 @@ block_span d w span =
     cond (valid d)
     ((fed_block d w (length span)).written ++ drop (length (fed_block d w (length span)).written) span)
     span
-
--- what the answers tell
-abbrev pub told_opening : NonrecursiveOpened → Opened NonrecursiveDecimator
-told_opening o = record { number = opening_number o.answer; state = o.state }
-
-abbrev pub told_step : NonrecursiveStep → Outcome (Option ℤ) NonrecursiveDecimator
-told_step s = record { number = output_number s.output; value = output_sum s.output; state = s.state }
-
-abbrev pub told_block : NonrecursiveBlock → Outcome Moved NonrecursiveDecimator
-told_block b = record { number = (counts_answer b.counts).number; value = (counts_answer b.counts).value; state = b.state }
 
 -- What a decimator d of N stages and factor r keeps over every list of samples
 pub record Streams (N r : ℕ) (d : NonrecursiveDecimator) : Type 0 where

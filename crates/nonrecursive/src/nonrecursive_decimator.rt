@@ -1,21 +1,20 @@
 // 02, §13: the sums of the CIC decimator with no integrators, for a factor that is a power of two. Each halving of the factor adds neighbours, as often as there
 // are stages, and hands every second value on.
-ghost use Rattle.std.specs.Prelude.{◌≡◌, length};
+ghost use Rattle.std.specs.Prelude.{◌≡◌, cond, IfOk, None, length};
 ghost use Rattle.theory.specs.Sections.{outs};
-ghost use Rattle.refusal.specs.Table.{number_of};
-ghost use Rattle.refusal.specs.Outcome.{opening_number};
+ghost use Rattle.refusal.specs.Outcome.{number_in, none_moved, told, told_on, told_opened};
 ghost use Rattle.integer.specs.Opening.{on_state};
-ghost use Rattle.integer.specs.Gain.{gain_of, gain_bits, told_gain, told_bits, Least};
-ghost use Rattle.integer.specs.CicDecimator as C;
+ghost use Rattle.integer.specs.Stages.{kept, sum32};
+ghost use Rattle.integer.specs.Gain.{gain_of, gain_bits, Least};
 ghost use Rattle.integer.specs.ExactSums.{ExactSums};
 ghost use Rattle.nonrecursive.specs.NonrecursiveDecimator as D;
 
 use crate::block::block_at;
-use integer::cic_decimator::{CicOutput, CicSum, output_of, scaled_output_of, waits};
-use integer::gain::{Gain, GainBits, bits_of, gain_of};
-use integer::limits::{MAX_BITS, factor_ok, least, stages_ok};
-use integer::wrapping::wrapping_add_i32;
-use refusal::{Counts, Opening, Refusal};
+use integer::cic_decimator::waits;
+use integer::gain::{bits_of, gain_of, scaled, scaling_bits};
+use integer::limits::settings_answer;
+use integer::stages::{Stage, pass};
+use refusal::{Moved, Refusal};
 
 // 8 stages for each of the 12 halvings of 4,096.
 pub const MAX_NEIGHBOURS: usize = 96;
@@ -28,251 +27,183 @@ pub struct NonrecursiveDecimator {
     pub place: usize,
 }
 
-// An opening, with the state beside it.
-#[derive(Drop)]
-pub struct NonrecursiveOpened {
-    pub answer: Opening,
-    pub state: NonrecursiveDecimator,
-}
+// It keeps a value, and hands on the sum of it and the one before.
+pub struct Neighbour;
 
-#[derive(Drop)]
-pub struct NonrecursiveStep {
-    pub output: CicOutput,
-    pub state: NonrecursiveDecimator,
-}
+impl Stage for Neighbour {
+    ghost keep = { kept };
 
-#[derive(Drop)]
-pub struct NonrecursiveBlock {
-    pub counts: Counts,
-    pub state: NonrecursiveDecimator,
-}
+    ghost out = { sum32 };
 
-// What a block gave where the neighbours are lent: the counts, and the next place.
-#[derive(Drop)]
-pub struct NonrecursiveMoved {
-    pub counts: Counts,
-    pub place: usize,
-}
-
-#[derive(Drop)]
-pub struct NonrecursiveAt {
-    pub sum: CicSum,
-    pub place: usize,
-}
-
-fn zeros(stages: usize, r: usize) -> NonrecursiveDecimator
-    ensures { result ≡ D.fresh stages r }
-{
-    NonrecursiveDecimator {
-        stages,
-        r,
-        neighbours: [0; MAX_NEIGHBOURS],
-        place: 0,
+    fn pass(state: i32, val: i32) -> (i32, i32) {
+        (val, state.wrapping_add(val))
     }
 }
 
-// A value goes through the first `stages` neighbours: each is added to it, and keeps what it was before.
+// A value goes through the first `stages` neighbours.
+#[tactic(auto, unfolding(crate::specs::NonrecursiveDecimator::summed))]
 pub(crate) fn sum_neighbours(stages: usize, neighbours: &mut [i32], input: i32) -> i32
     ensures { (neighbours.new ≡ (D.summed stages neighbours.old input).state) × (result ≡ (D.summed stages neighbours.old input).val) }
 {
-    let mut val = input;
-    let mut i = 0;
-    while i < neighbours.len() && i < stages {
-        let sum = wrapping_add_i32(neighbours[i], val);
-        neighbours[i] = val;
-        val = sum;
-        i += 1;
-    }
-    val
+    pass::<Neighbour>(stages, neighbours, input)
 }
 
 // A value goes through the halvings of r: the first of two ends at its halving, the second goes on.
-fn thin(stages: usize, r: usize, place: usize, neighbours: &mut [i32], input: i32) -> CicSum
-    ensures { (neighbours.new ≡ (D.thinned stages (D.halvings r) neighbours.old place input).state) × (C.sum_of result ≡ (D.thinned stages (D.halvings r) neighbours.old place input).out) }
+fn thin(stages: usize, r: usize, place: usize, neighbours: &mut [i32], input: i32) -> Option<i32>
+    ensures { (neighbours.new ≡ (D.thinned stages (D.halvings r) neighbours.old place input).state) × (result ≡ (D.thinned stages (D.halvings r) neighbours.old place input).out) }
 {
     let mut val = input;
     let mut left = r;
     let mut at = place;
-    let mut from = 0usize;
+    let mut from = 0;
     while 2 <= left {
         val = sum_neighbours(stages, &mut neighbours[from..], val);
         if at % 2 == 0 {
-            return CicSum::Nothing;
+            return None;
         }
-        from = from + least(stages, neighbours.len() - from);
-        at = at / 2;
-        left = left / 2;
+        from += stages.min(neighbours.len() - from);
+        at /= 2;
+        left /= 2;
     }
-    CicSum::Value(val)
+    Some(val)
 }
 
-// One sample, the numbers by value and the neighbours lent.
+// One sample, the fields lent. A leaf for the line, which keeps them apart and has looked at the numbers: it refuses nothing.
+#[tactic(auto, using(theory::proofs::Wrap::wrap_id), unfolding(crate::specs::NonrecursiveDecimator::nonrecursive))]
 pub fn nonrecursive_at(
     stages: usize,
     r: usize,
-    place: usize,
+    place: &mut usize,
     neighbours: &mut [i32; MAX_NEIGHBOURS],
     input: i32,
-) -> NonrecursiveAt
-    ensures { (C.sum_of result.sum ≡ (D.nonrecursive).out (D.nonrecursive_of stages r neighbours.old place) input) × (D.nonrecursive_of stages r neighbours.new result.place ≡ (D.nonrecursive).next (D.nonrecursive_of stages r neighbours.old place) input) }
+) -> Option<i32>
+    ensures out { result ≡ (D.nonrecursive).out (D.nonrecursive_of stages r neighbours.old place.old) input }
+    ensures next { D.nonrecursive_of stages r neighbours.new place.new ≡ (D.nonrecursive).next (D.nonrecursive_of stages r neighbours.old place.old) input }
 {
-    let sum = thin(stages, r, place, neighbours, input);
-    if waits(place, r) {
-        return NonrecursiveAt {
-            sum,
-            place: place + 1,
-        };
+    let sum = thin(stages, r, *place, neighbours, input);
+    if waits(*place, r) {
+        *place += 1;
+        return sum;
     }
-    NonrecursiveAt { sum, place: 0 }
+    *place = 0;
+    sum
 }
 
-// Whether r halves down to 1 with nothing left over.
 pub fn power_of_two(r: usize) -> bool
     ensures { result ≡ D.power_of_two r }
 {
-    let mut left = r;
-    while 2 <= left {
-        if left % 2 == 1 {
-            return false;
-        }
-        left = left / 2;
-    }
-    left == 1
+    r.is_power_of_two()
 }
 
-// Whether a call on a state with these numbers is not refused by 15.
-pub fn valid(stages: usize, r: usize, place: usize) -> bool
-    ensures { result ≡ D.valid_at stages r place }
+// Rows 1, 2 and 23.
+#[tactic(auto, unfolding(crate::specs::NonrecursiveDecimator::settings_number, integer::specs::Opening::settings_number))]
+fn opening_answer(stages: usize, r: usize) -> Result<(), Refusal>
+    ensures { number_in result ≡ D.settings_number stages r }
 {
-    if !stages_ok(stages) {
-        return false;
-    }
-    if !factor_ok(r) {
-        return false;
-    }
+    settings_answer(stages, r)?;
     if !power_of_two(r) {
-        return false;
+        return Err(Refusal::PowerOfTwo);
     }
-    place < r
+    Ok(())
 }
 
-fn refused_opening(refusal: Refusal) -> NonrecursiveOpened
-    ensures { D.told_opening result ≡ D.refused_opening (number_of refusal) }
+// Row 15.
+#[tactic(auto, unfolding(crate::specs::NonrecursiveDecimator::valid_at))]
+pub(crate) fn state_answer(stages: usize, r: usize, place: usize) -> Result<(), Refusal>
+    ensures { number_in result ≡ cond (D.valid_at stages r place) 0 15 }
 {
-    let state = zeros(0, 0);
-    NonrecursiveOpened {
-        answer: Opening::Refused(refusal),
-        state,
+    if opening_answer(stages, r).is_err() || r <= place {
+        return Err(Refusal::State);
     }
+    Ok(())
 }
 
-fn refused(refusal: Refusal, state: NonrecursiveDecimator) -> NonrecursiveStep
-    ensures { D.told_step result ≡ D.refused_step (number_of refusal) state }
-{
-    NonrecursiveStep {
-        output: CicOutput::Refused(refusal),
-        state,
-    }
-}
-
+// The methods are the CIC decimator's, of two lines each: a trait over both would ask each for its section, its validity and its settings first.
 impl NonrecursiveDecimator {
-    // Refusals 1, 2 and 23. The clause `stream` is Hogenauer's theorem, and that each answer is the CIC decimator's; `exact` says when no sum wraps.
-    pub fn new(stages: usize, r: usize) -> NonrecursiveOpened
-        ensures answer { D.told_opening result ≡ D.opening stages r }
-        ensures stream { opening_number result.answer ≡ 0 → D.Streams stages r result.state }
-        ensures exact { opening_number result.answer ≡ 0 → ExactSums stages r (outs D.nonrecursive result.state) (outs D.scaled_nonrecursive result.state) }
+    // One that has taken nothing in yet. A refused opening leaves that of 0 and 0, which is zeros.
+    pub fn fresh(stages: usize, r: usize) -> NonrecursiveDecimator
+        ensures { result ≡ D.fresh stages r }
     {
-        if !stages_ok(stages) {
-            return refused_opening(Refusal::Stages);
+        NonrecursiveDecimator {
+            stages,
+            r,
+            neighbours: [0; MAX_NEIGHBOURS],
+            place: 0,
         }
-        if !factor_ok(r) {
-            return refused_opening(Refusal::Factor);
-        }
-        if !power_of_two(r) {
-            return refused_opening(Refusal::PowerOfTwo);
-        }
-        let state = zeros(stages, r);
-        NonrecursiveOpened {
-            answer: Opening::Opened,
-            state,
-        }
+    }
+
+    // Refusals 1, 2 and 23. The clause `stream` is Hogenauer's theorem, and that each answer is the CIC decimator's; `exact` says when no sum wraps.
+    #[tactic(auto, unfolding(crate::specs::NonrecursiveDecimator::opening))]
+    pub fn new(stages: usize, r: usize) -> Result<NonrecursiveDecimator, Refusal>
+        ensures answer { told_opened (D.fresh 0 0) result ≡ D.opening stages r }
+        ensures stream { IfOk result (D.Streams stages r) }
+        ensures exact { IfOk result (λ d. ExactSums stages r (outs D.nonrecursive d) (outs D.scaled_nonrecursive d)) }
+    {
+        opening_answer(stages, r)?;
+        Ok(NonrecursiveDecimator::fresh(stages, r))
     }
 
     // r^N, held at 2^64 - 1.
-    pub fn gain(self) -> Gain
-        ensures answer { told_gain result ≡ on_state (D.valid self) (gain_of self.stages self.r) }
+    #[tactic(auto, unfolding(integer::specs::Opening::on_state))]
+    pub fn gain(&self) -> Result<u64, Refusal>
+        ensures answer { told 0 result ≡ on_state (D.valid self.now) (gain_of self.now.stages self.now.r) }
     {
-        if !valid(self.stages, self.r, self.place) {
-            return Gain::Refused(Refusal::State);
-        }
-        Gain::Value(gain_of(self.stages, self.r))
+        state_answer(self.stages, self.r, self.place)?;
+        Ok(gain_of(self.stages, self.r))
     }
 
     // The least g with 2^g no less than the gain.
-    pub fn gain_bits(self) -> GainBits
-        ensures answer { told_bits result ≡ on_state (D.valid self) (gain_bits self.stages self.r) }
-        ensures least { (told_bits result).number ≡ 0 → Least (gain_of self.stages self.r) (told_bits result).value }
+    #[tactic(auto, using(integer::proofs::Bits::gain_least), unfolding(integer::specs::Opening::on_state))]
+    pub fn gain_bits(&self) -> Result<u32, Refusal>
+        ensures answer { told 0 result ≡ on_state (D.valid self.now) (gain_bits self.now.stages self.now.r) }
+        ensures least { IfOk result (Least (gain_of self.now.stages self.now.r)) }
     {
-        if !valid(self.stages, self.r, self.place) {
-            return GainBits::Refused(Refusal::State);
-        }
-        GainBits::Value(bits_of(gain_of(self.stages, self.r)))
+        Ok(bits_of(self.gain()?))
     }
 
-    pub fn process_sample(mut self, input: i32) -> NonrecursiveStep
-        ensures answer { D.told_step result ≡ D.step self input }
+    fn next_sum(&mut self, input: i32) -> Option<i32>
+        ensures out { result ≡ (D.nonrecursive).out self.old input }
+        ensures next { self.new ≡ (D.nonrecursive).next self.old input }
     {
-        if !valid(self.stages, self.r, self.place) {
-            return refused(Refusal::State, self);
-        }
-        let mut neighbours = self.neighbours;
-        let at = nonrecursive_at(self.stages, self.r, self.place, &mut neighbours, input);
-        self.neighbours = neighbours;
-        self.place = at.place;
-        let sum = at.sum;
-        let output = output_of(sum);
-        NonrecursiveStep {
-            output,
-            state: self,
-        }
+        nonrecursive_at(
+            self.stages,
+            self.r,
+            &mut self.place,
+            &mut self.neighbours,
+            input,
+        )
+    }
+
+    #[tactic(auto, unfolding(crate::specs::NonrecursiveDecimator::step))]
+    pub fn process_sample(&mut self, input: i32) -> Result<Option<i32>, Refusal>
+        ensures answer { told_on None result self.new ≡ D.step self.old input }
+    {
+        state_answer(self.stages, self.r, self.place)?;
+        Ok(self.next_sum(input))
     }
 
     // Refusal 3 is looked at on every call: it goes by the settings alone.
-    pub fn process_sample_scaled(mut self, input: i32) -> NonrecursiveStep
-        ensures answer { D.told_step result ≡ D.scaled_step self input }
+    #[tactic(auto, unfolding(crate::specs::NonrecursiveDecimator::scaled_step, crate::specs::NonrecursiveDecimator::scaled_nonrecursive, integer::specs::Gain::scaling_bits))]
+    pub fn process_sample_scaled(&mut self, input: i32) -> Result<Option<i32>, Refusal>
+        ensures answer { told_on None result self.new ≡ D.scaled_step self.old input }
     {
-        if !valid(self.stages, self.r, self.place) {
-            return refused(Refusal::State, self);
-        }
-        let bits = bits_of(gain_of(self.stages, self.r));
-        if bits > MAX_BITS {
-            return refused(Refusal::GainBits, self);
-        }
-        let mut neighbours = self.neighbours;
-        let at = nonrecursive_at(self.stages, self.r, self.place, &mut neighbours, input);
-        self.neighbours = neighbours;
-        self.place = at.place;
-        let sum = at.sum;
-        let output = scaled_output_of(sum, bits);
-        NonrecursiveStep {
-            output,
-            state: self,
-        }
+        state_answer(self.stages, self.r, self.place)?;
+        let bits = scaling_bits(self.stages, self.r)?;
+        Ok(self.next_sum(input).map(|sum| scaled(sum, bits)))
     }
 
     // Samples of src become sums in dst while dst has a place.
-    pub fn process_block(mut self, src: &[i32], dst: &mut [i32]) -> NonrecursiveBlock
-        ensures answer { D.told_block result ≡ D.block self src.now (length dst.old) }
-        ensures span { dst.new ≡ D.block_span self src.now dst.old }
+    pub fn process_block(&mut self, src: &[i32], dst: &mut [i32]) -> Result<Moved, Refusal>
+        ensures answer { told_on none_moved result self.new ≡ D.block self.old src.now (length dst.old) }
+        ensures span { dst.new ≡ D.block_span self.old src.now dst.old }
     {
-        let mut neighbours = self.neighbours;
-        let moved = block_at(self.stages, self.r, self.place, &mut neighbours, src, dst);
-        self.neighbours = neighbours;
-        self.place = moved.place;
-        let counts = moved.counts;
-        NonrecursiveBlock {
-            counts,
-            state: self,
-        }
+        block_at(
+            self.stages,
+            self.r,
+            &mut self.place,
+            &mut self.neighbours,
+            src,
+            dst,
+        )
     }
 }

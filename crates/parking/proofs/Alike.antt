@@ -3,7 +3,7 @@
 use mathlib.Core.Path.{◌≡◌, refl, sym, ap, ◌∙◌, subst}
 use mathlib.Core.Bool.{Bool, true, false}
 use mathlib.Core.List.{List, [], ◌∷◌}
-use mathlib.Core.Option.{Option, none, some}
+use Rattle.std.specs.Prelude.{Option, None, Some}
 use Prim.Native.Nat.{ℕ, zero, suc, ◌+◌}
 use lib.ListN.{length}
 use Rattle.theory.specs.Sections.{Section, onto}
@@ -37,12 +37,12 @@ module _ {S R A B C : Type 0} (f : Section S A B) (m : Machine R B C) (FineS : S
       }
     where
       goes : (r u : R) (o : Option B) → FineR r → SameR r u → SameR (next_for f m r o) (next_for f m u o)
-      goes r u none g e = e
-      goes r u (some b) g e = law.next r u b g e
+      goes r u None g e = e
+      goes r u (Some b) g e = law.next r u b g e
 
       told : (r u : R) (o : Option B) → FineR r → SameR r u → now_for f m r o ≡ now_for f m u o
-      told r u none g e = refl
-      told r u (some b) g e = law.now r u b g e
+      told r u None g e = refl
+      told r u (Some b) g e = law.now r u b g e
 
 -- what two feeds did
 pub record SameFed {S C : Type 0} (Same : S → S → Type 0) (f g : Fed S C) : Type 0 where

@@ -2,7 +2,7 @@
 use mathlib.Core.Path.{◌≡◌, refl, sym, ap, ap₂, ◌∙◌, subst}
 use mathlib.Core.Bool.{Bool, true, false, cond, ◌&&◌, false≢true}
 use mathlib.Core.List.{List, ◌∷◌, ◌++◌}
-use mathlib.Core.Option.{Option, none, some}
+use Rattle.std.specs.Prelude.{Option, None, Some}
 use Prim.Native.Nat.{ℕ, zero, suc, ◌+◌, ◌*◌, ◌-◌, ◌≤◌, ◌<◌, min}
 use native.Mathlib.Omega.{arith}
 use native.Mathlib.Decide.{dec_lt}
@@ -32,7 +32,7 @@ use Rattle.q15.proofs.FirSteps.{valid_on, line_valid}
 use Rattle.half_band.specs.HbfTaps.{stage_taps, decimation}
 use Rattle.half_band.specs.HbfStream.{Half, through, stream, hbf_stream}
 use Rattle.half_band.specs.declared.hbf_stream.HbfStream.{HbfStream}
-use Rattle.half_band.proofs.StageTables.{dec_stages}
+use Rattle.half_band.specs.HbfTaps.{decimation_five}
 use Rattle.half_band.proofs.Stages.{Sized, stage, stages_from, out_through, stages_through}
 use Rattle.half_band.proofs.Streaming.{depth_next, sized_next}
 use Rattle.theory.specs.Cascades.{cascade_next, cascade_out}
@@ -102,9 +102,9 @@ module _ (N r c : ℕ) (i j u v : List ℤ) (x : ℤ) (ei : take N i ≡ take N 
   unfolding decimator
   out_same = go (ltb (c + 1) r)
     where
-      go : (b : Bool) → cond b none (some (combed N u (integrated N i x).val).val) ≡ cond b none (some (combed N v (integrated N j x).val).val)
+      go : (b : Bool) → cond b None (Some (combed N u (integrated N i x).val).val) ≡ cond b None (Some (combed N v (integrated N j x).val).val)
       go true = refl
-      go false = ap some (combs_same _ _ sums.0).0
+      go false = ap Some (combs_same _ _ sums.0).0
 
 -- the second with the first one's numbers
 again : (d e : CicDecimator) → CicSame d e → e ≡ decimator_of d.stages d.r e.integrator_state e.comb_state d.sample_counter
@@ -309,11 +309,11 @@ module _ (s : FirDecimator) (x : ℤ) (z : s.tap_count ≡ 0) where
   unfolding fir_next
   off_next = rw (eq-eqb s.tap_count 0 z)
 
-  off_out : fir_out s x ≡ some x
+  off_out : fir_out s x ≡ Some x
   unfolding fir_out
   off_out = rw (eq-eqb s.tap_count 0 z)
 
-  off_sum : fir_sum_out s x ≡ none
+  off_sum : fir_sum_out s x ≡ None
   unfolding fir_sum_out
   off_sum = rw (eq-eqb s.tap_count 0 z)
 
@@ -355,7 +355,7 @@ fir_alike = record { next = λ s t x v e. (fir_both s t x v e).next; out = λ s 
 -- ---- section 4
 
 abbrev stages5 : ℕ → HbfStream → List Half
-stages5 n s = stages_from (stage_taps decimation) dec_stages n 0 s
+stages5 n s = stages_from (stage_taps decimation) decimation_five n 0 s
 
 pub record HalfSame (s t : HbfStream) : Type 0 where
   pub depth : s.depth ≡ t.depth
@@ -373,28 +373,28 @@ module _ (s t : HbfStream) (x : Float) (e : HalfSame s t) where
   half_next : HalfSame (hbf_stream.next s x) (hbf_stream.next t x)
   unfolding hbf_stream stream
   half_next =
-      let ds = depth_next (stage_taps decimation) dec_stages s x in
-      let dt = depth_next (stage_taps decimation) dec_stages t x in
+      let ds = depth_next (stage_taps decimation) decimation_five s x in
+      let dt = depth_next (stage_taps decimation) decimation_five t x in
       record {
         depth = ds ∙ e.depth ∙ sym dt;
-        sized = sized_next (stage_taps decimation) dec_stages s x e.sized;
-        sized_too = sized_next (stage_taps decimation) dec_stages t x e.sized_too;
+        sized = sized_next (stage_taps decimation) decimation_five s x e.sized;
+        sized_too = sized_next (stage_taps decimation) decimation_five t x e.sized_too;
         stages =
             ap (λ (k : ℕ). stages5 (min k 5) (hbf_stream.next s x)) ds
-            ∙ stages_through (stage_taps decimation) dec_stages n 0 x s under e.sized
-            ∙ ap (λ (l : List Half). cascade_next (stage (stage_taps decimation) dec_stages) 0 l x) e.stages
-            ∙ sym (stages_through (stage_taps decimation) dec_stages n 0 x t under e.sized_too)
-            ∙ ap (λ (k : ℕ). stages5 n (through (stage_taps decimation) (min k 5) 0 (some x) t).state) e.depth
+            ∙ stages_through (stage_taps decimation) decimation_five n 0 x s under e.sized
+            ∙ ap (λ (l : List Half). cascade_next (stage (stage_taps decimation) decimation_five) 0 l x) e.stages
+            ∙ sym (stages_through (stage_taps decimation) decimation_five n 0 x t under e.sized_too)
+            ∙ ap (λ (k : ℕ). stages5 n (through (stage_taps decimation) (min k 5) 0 (Some x) t).state) e.depth
             ∙ ap (λ (k : ℕ). stages5 (min k 5) (hbf_stream.next t x)) (sym ds);
       }
 
   half_out : hbf_stream.out s x ≡ hbf_stream.out t x
   unfolding hbf_stream stream
   half_out =
-      out_through (stage_taps decimation) dec_stages n 0 x s under e.sized
-      ∙ ap (λ (l : List Half). cascade_out (stage (stage_taps decimation) dec_stages) 0 l x) e.stages
-      ∙ sym (out_through (stage_taps decimation) dec_stages n 0 x t under e.sized_too)
-      ∙ ap (λ (k : ℕ). (through (stage_taps decimation) (min k 5) 0 (some x) t).out) e.depth
+      out_through (stage_taps decimation) decimation_five n 0 x s under e.sized
+      ∙ ap (λ (l : List Half). cascade_out (stage (stage_taps decimation) decimation_five) 0 l x) e.stages
+      ∙ sym (out_through (stage_taps decimation) decimation_five n 0 x t under e.sized_too)
+      ∙ ap (λ (k : ℕ). (through (stage_taps decimation) (min k 5) 0 (Some x) t).out) e.depth
 
 pub half_alike : AlikeSection hbf_stream (λ s. Unit {0}) HalfSame
 half_alike = record { next = λ s t x g e. half_next s t x e; out = λ s t x g e. half_out s t x e }
@@ -514,5 +514,5 @@ resampler_alike =
       val = λ p q g s d. on_output p q s (on_is p (and_left (is_on p) (lt p.mu one32) d));
       after = λ p q g s d. on_passed p q s (on_is p (and_left (is_on p) (lt p.mu one32) d));
       next = λ p q x g s. subst (λ (b : Bool). ResamplerSame (cond (is_on p) (consumed p x) p) (cond b (consumed q x) q)) (on_same p q s) (next_by_lem p q x s (is_on p) refl);
-      now = λ p q x g s. ap (λ (b : Bool). cond b none (some x)) (on_same p q s);
+      now = λ p q x g s. ap (λ (b : Bool). cond b None (Some x)) (on_same p q s);
     }

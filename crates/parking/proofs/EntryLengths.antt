@@ -10,9 +10,9 @@ use Rattle.q15.specs.FirDecimator.{most_taps}
 use Rattle.q15.specs.declared.fir_decimator.FirDecimator.{FirDecimator}
 use Rattle.float.specs.declared.polyphase_resamp.PolyphaseResampF32.{PolyphaseResampF32}
 use Rattle.parking.specs.Parked.{neighbour_count}
-use Rattle.parking.specs.Fields.{joined, i16_bytes, i32_bytes, f32_bytes}
+use Rattle.words.specs.Fields.{joined, i16_bytes, i32_bytes, f32_bytes}
 use Rattle.parking.specs.Entries.{cic_bytes, neighbours_bytes, tap_bytes, delay_bytes, prototype_bytes, resampler_bytes}
-use Rattle.parking.proofs.Loops.{joined_taken}
+use Rattle.words.proofs.Loops.{joined_taken}
 
 pub cic_long : (d : CicDecimator) → d.stages ≤ 8 → length d.integrator_state ≡ 8 → length d.comb_state ≡ 8 → length (cic_bytes d) ≡ 2 + 8 * d.stages
 unfolding cic_bytes

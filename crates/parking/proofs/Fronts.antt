@@ -6,7 +6,7 @@ use native.Mathlib.Omega.{arith}
 use lib.ListN.{get_or, take, drop}
 use lib.Seq.{take-nil, get_or-take}
 use Rattle.integer.specs.Stages.{row}
-use Rattle.parking.specs.Fields.{All}
+use Rattle.words.specs.Fields.{All}
 
 pub front_at : {A : Type 0} (n : ℕ) (s t : List A) (i : ℕ) (z : A) → take n s ≡ take n t → i < n → get_or s i z ≡ get_or t i z
 front_at {A} n s t i z e h = sym (get_or-take n s i z h) ∙ ap (λ (l : List A). get_or l i z) e ∙ get_or-take n t i z h

@@ -1,5 +1,4 @@
 pub mod Panels
-pub mod Fields
 pub mod Fronts
 pub mod Behind
 pub mod Thinned
@@ -8,10 +7,11 @@ pub mod WholeFloats
 pub mod WholeLine
 pub mod Back
 pub mod Taken
-pub mod Loops
 pub mod StageLengths
 pub mod EntryLengths
 pub mod WholeSheet
+pub mod LineSheet
+pub mod Answered
 pub mod ParkedLine
 pub mod Older
 pub mod Alike

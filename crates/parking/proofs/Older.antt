@@ -26,15 +26,16 @@ use Rattle.line.proofs.Flags.{and_left, and_right, and_both}
 use Rattle.line.proofs.Lawful.{to_parts}
 use Rattle.sheet.specs.Sheet.{Rule, former, present, le16, mark, marked, sum}
 use Rattle.sheet.proofs.Rules.{count_same}
-use Rattle.parking.specs.Fields.{IsFloat, joined, i16_bytes}
+use Rattle.words.specs.Fields.{IsFloat, joined, i16_bytes}
 use Rattle.parking.specs.Parked.{Panel, at6, at7, at9, panel, Settings, settings_of, sizes, thin_sizes, flat, lengths_of, parked, entries_of as entries_in, shaped}
 use Rattle.parking.specs.Entries.{fir_on, resampler_on, settings_in, tap_bytes, delay_bytes, entries_of, thin_entries, entries_by, line_entries, entry_of, line_from, written, fine}
 use Rattle.parking.specs.Parking.{parked_line, park_number, park_answer, park_span, taken_up, taken_up_number}
 use Rattle.parking.specs.Between.{sheet_in}
+use Rattle.parking.specs.Told.{Lengths, on}
 use Rattle.parking.specs.Limits.{Arrays}
 use Rattle.parking.specs.Older.{held_by, ForOlder, formerly, StillTaken}
 use Rattle.parking.proofs.Panels.{Fits, settings_back, Small, sum_of_lengths, seven_shaped, eight_misshapen, past_limit, misshapen, still_taken, wider_taken, parked_marked, older_refuses, marked_parked, unmarked_same}
-use Rattle.parking.proofs.Fields.{bits_below}
+use Rattle.words.specs.Reading.{bits_below}
 use Rattle.parking.proofs.WholeSheet.{lengths_of_lem, thin_lengths_of}
 use Rattle.parking.proofs.ParkedLine.{limits_of, sizes_most, thin_most}
 use Rattle.parking.proofs.Taken.{on_numbers, straight_most, sheet_in_lem}
@@ -200,16 +201,12 @@ number_told : (l : Line) (places : ℕ) (r : Answer ℕ) → r ≡ park_answer p
 unfolding park_answer
 number_told l places r e z = ap (λ (x : Answer ℕ). x.number) (sym e) ∙ z
 
--- what is left in front of a span, by what the parts that are parked are known to be
-pub older_parked :
-    (l : Line) (f : FirDecimator) (p : PolyphaseResampF32) → valid l ≡ true → f ≡ fir_on l.fir → p ≡ resampler_on l.resampler
-    → Arrays l.cic f l.half_band p × ((length l.neighbours ≡ 96) × (IsFloat p.step × (l.cuts < 4294967296)))
-    → (r : Answer ℕ) (s span : List ℕ) → r ≡ park_answer panel l (length span) → s ≡ park_span panel l span → r.number ≡ 0 → ForOlder l (take r.value s)
-older_parked l f p v e₁ e₂ t r s span e₃ e₄ z =
-    let u : Arrays l.cic (fir_on l.fir) l.half_band (resampler_on l.resampler) × ((length l.neighbours ≡ 96) × (IsFloat (resampler_on l.resampler).step × (l.cuts < 4294967296))) = rw (e₁, e₂) at t in
+-- what is left in front of a span
+pub older_parked : (l : Line) → valid l ≡ true → Lengths (on l) → (r : Answer ℕ) (s span : List ℕ) → r ≡ park_answer panel l (length span) → s ≡ park_span panel l span → r.number ≡ 0 → ForOlder l (take r.value s)
+older_parked l v t r s span e₃ e₄ z =
     let n : park_number panel l (length span) ≡ 0 = number_told l (length span) r e₃ z in
     let e : take r.value s ≡ sheet_in panel l span = rw (e₃, e₄) in
-    subst (ForOlder l) (sym (e ∙ sheet_in_lem panel l span n)) (for_older l v u.0 u.1.0 u.1.1.0 u.1.1.1)
+    subst (ForOlder l) (sym (e ∙ sheet_in_lem panel l span n)) (for_older l v t.arrays t.neighbours t.step t.cuts)
 
 -- ---- "Sheets parked earlier are still taken up"
 

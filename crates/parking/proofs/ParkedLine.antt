@@ -2,7 +2,7 @@
 use mathlib.Core.Path.{◌≡◌, refl, sym, ap, ◌∙◌}
 use mathlib.Core.Bool.{Bool, true, false, cond}
 use mathlib.Core.List.{List, ◌++◌}
-use Prim.Native.Nat.{ℕ, ◌+◌, ◌*◌, ◌≤◌}
+use Prim.Native.Nat.{ℕ, ◌+◌, ◌≤◌}
 use native.Mathlib.Omega.{arith}
 use borrow.Author.Tests.{eqb-false}
 use lib.Dec.{leb, eqb}
@@ -23,7 +23,7 @@ use Rattle.line.specs.declared.gauge_line.Line.{Line}
 use Rattle.line.proofs.Lawful.{to_parts}
 use Rattle.sheet.specs.Sheet.{present, pairs_from, sum, written}
 use Rattle.sheet.proofs.Laying.{pairs_length}
-use Rattle.parking.specs.Parked.{Settings, panel, sizes, thin_sizes, half_band_bytes, neighbour_count, flat, parked}
+use Rattle.parking.specs.Parked.{Settings, panel, sizes, thin_sizes, flat, parked}
 use Rattle.parking.specs.Entries.{fir_on, resampler_on, settings_in, entries_of, thin_entries}
 use Rattle.parking.specs.Parking.{parked_line, park_number, park_answer, park_span, sheet_answer, sheet_span}
 use Rattle.parking.specs.Limits.{InLimits, Arrays}
@@ -92,14 +92,6 @@ module _ (d : CicDecimator) (f : FirDecimator) (s : HbfStream) (p : PolyphaseRes
       let l : length (pairs_from 58 (sizes q)) ≡ 56 = pairs_length 58 (sizes q) in
       let k = length-append (pairs_from 58 (sizes q)) (flat es) in
       rw (lengths_of_lem d f s p cuts a m) (let r : 2 + length (pairs_from 58 (sizes q) ++ flat es) ≡ 58 + sum (sizes q) = omega arith in omega arith)
-
--- a span with places for the sheet of eight entries has them for its parts
-pub thin_room :
-    (d : CicDecimator) (n : List ℤ) (f : FirDecimator) (s : HbfStream) (p : PolyphaseResampF32) (cuts : ℕ) → Arrays d f s p → length n ≡ 96 → InLimits (settings_in d f s.depth p cuts)
-    → (places k : ℕ) → k ≡ length (parked present (thin_entries d n f s p cuts)) → k ≤ places
-    → 90 + (2 + 4 * f.tap_count) + (half_band_bytes s.depth + (4 * (p.phases * p.taps) + (4 + 4 * p.taps))) + (2 + 4 * neighbour_count d.stages d.r) ≤ places
-unfolding sum thin_sizes settings_in
-thin_room d n f s p cuts a ln m places k e h = let l = thin_long d n f s p cuts a ln m in omega arith
 
 -- what parking answers of a valid line is what its sheet makes
 answer_by : (b : Bool) (n : ℕ) → cond {A = Answer ℕ} b (record { number = 0; value = n }) (record { number = 17; value = 0 }) ≡ record { number = cond b 0 17; value = cond (eqb (cond b 0 17) 0) n 0 }

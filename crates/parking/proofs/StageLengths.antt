@@ -9,10 +9,10 @@ use lib.ListN.{length, take, drop, length-append, length-drop}
 use Rattle.half_band.specs.HbfStream.{stream_of}
 use Rattle.half_band.specs.declared.hbf_stream.HbfStream.{HbfStream}
 use Rattle.parking.specs.Parked.{half_band_bytes}
-use Rattle.parking.specs.Fields.{joined, f32_bytes}
+use Rattle.words.specs.Fields.{joined, f32_bytes}
 use Rattle.parking.specs.Entries.{window_of, stage_bytes, stages_bytes}
 use Rattle.parking.proofs.WholeFloats.{window_most}
-use Rattle.parking.proofs.Loops.{joined_taken}
+use Rattle.words.proofs.Loops.{joined_taken}
 use Rattle.parking.proofs.Back.{bytes_more}
 
 module _ (s : HbfStream) (l : length s.delays ≡ 480) where
@@ -30,6 +30,16 @@ module _ (s : HbfStream) (l : length s.delays ≡ 480) where
   stages_long (suc k) h =
       let b : k < 5 = omega arith in
       length-append (stages_bytes s k) (stage_bytes s k) ∙ ap₂ {C = ℕ} (λ (a b : ℕ). a + b) (stages_long k (omega arith)) (stage_long k b) ∙ sym (bytes_more k b)
+
+-- a stage of the first n has its place among their bytes
+pub stages_room : (s : HbfStream) (k n : ℕ) → k < n → length (stages_bytes s k) + length (stage_bytes s k) ≤ length (stages_bytes s n)
+stages_room s k zero h = absurd (omega arith)
+stages_room s k (suc n) h =
+    let l : length (stages_bytes s (suc n)) ≡ length (stages_bytes s n) + length (stage_bytes s n) = unfold stages_bytes in length-append (stages_bytes s n) (stage_bytes s n) in
+    elim (dec_lt k n) [
+      | yes b ↦ (let r = stages_room s k n b in omega arith)
+      | no b ↦ (let e : k ≡ n = omega arith in rw e (omega arith))
+    ]
 
 -- more stages have more bytes
 pub bytes_mono : (k n : ℕ) → n ≤ 5 → k ≤ n → half_band_bytes k ≤ half_band_bytes n

@@ -3,13 +3,13 @@
 use mathlib.Core.Path.{◌≡◌, refl, sym, ap, ap₂, ◌∙◌}
 use mathlib.Core.Bool.{Bool, true, false, cond}
 use mathlib.Core.List.{List, ◌++◌}
-use mathlib.Core.Option.{none}
+use Rattle.std.specs.Prelude.{None}
 use Prim.Native.Nat.{ℕ, zero, suc, ◌+◌, ◌*◌, ◌-◌, ◌%◌, ◌/◌, ◌^◌, ◌≤◌, ◌<◌}
 use native.Mathlib.Nat.{mul-le-mul}
 use native.Mathlib.Omega.{arith}
 use native.Mathlib.Decide.{dec_le}
 use lib.Dec.{eqb, leb}
-use borrow.Author.Tests.{leb-true}
+use borrow.Author.Tests.{leb-true, leb-false}
 use lib.IntN.{ℤ}
 use lib.Pow.{pow_mono}
 use lib.ListN.{length, take, drop, length-append, length-drop, take-append-drop}
@@ -20,9 +20,9 @@ use Rattle.theory.proofs.Wrap.{wrap_fits}
 use Rattle.integer.specs.Stages.{row, kept, sum32}
 use Rattle.nonrecursive.specs.NonrecursiveDecimator.{halvings_up_to, halvings, summed, behind, Thinned, thinned}
 use Rattle.nonrecursive.proofs.StageByStage.{summed_long}
-use Rattle.parking.specs.Fields.{All}
+use Rattle.words.specs.Fields.{All}
 use Rattle.parking.specs.Parked.{neighbour_count}
-use Rattle.parking.proofs.Fields.{all_take, all_drop, all_append}
+use Rattle.words.proofs.Fields.{all_take, all_drop, all_append}
 use Rattle.parking.proofs.Behind.{row_behind}
 use Rattle.parking.proofs.Fronts.{drop_front, row_front, row_typed, row_value}
 
@@ -52,6 +52,30 @@ up_to_below (suc most) r m h = go (leb (2 ^ suc most) r) refl (up_to_below most 
       | no l ↦ (let p : 2 ^ suc m ≤ 2 ^ suc most = pow_mono (let q : suc m ≤ suc most = omega arith in q) in let t = leb-true (2 ^ suc most) r e in absurd (omega arith))
     ]
     go false e i = i
+
+up_to_above : (most r m : ℕ) → m ≤ most → 2 ^ m ≤ r → m ≤ halvings_up_to most r
+unfolding halvings_up_to
+up_to_above zero r m h p = omega arith
+up_to_above (suc most) r m h p = go (leb (2 ^ suc most) r) refl (λ l. up_to_above most r m l p)
+  where
+    go : (b : Bool) → leb (2 ^ suc most) r ≡ b → (m ≤ most → m ≤ halvings_up_to most r) → m ≤ cond b (suc most) (halvings_up_to most r)
+    go true e i = h
+    go false e i = elim (dec_le m most) [
+      | yes l ↦ i l
+      | no l ↦ (let q : m ≡ suc most = omega arith in let t = leb-false (2 ^ suc most) r e in let u : 2 ^ suc most ≤ r = rw (← q) p in absurd (omega arith))
+    ]
+
+-- the logarithm to the base 2, rounded down
+pub halvings_is : (r k : ℕ) → 2 ^ k ≤ r → r < 2 * 2 ^ k → k < 64 → k ≡ halvings r
+unfolding halvings
+halvings_is r k a b h =
+    let u = up_to_above 63 r k (omega arith) a in
+    let v = up_to_below 63 r k (let q : r < 2 ^ suc k = omega arith in q) in
+    omega arith
+
+pub halvings_zero : 0 ≡ halvings 0
+unfolding halvings
+halvings_zero = let v = up_to_below 63 0 0 (let q : 0 < 2 ^ 1 = omega arith in q) in omega arith
 
 pub halvings_few : (r : ℕ) → r ≤ 4096 → halvings r ≤ 12
 unfolding halvings
@@ -94,7 +118,7 @@ module _ (N : ℕ) where
 
   -- what the first of two leaves, and the second
   abbrev first : List ℤ → ℤ → Thinned
-  first s v = record { state = (summed N s v).state; out = none }
+  first s v = record { state = (summed N s v).state; out = None }
 
   abbrev second : ℕ → List ℤ → ℕ → ℤ → Thinned
   second m s place v = behind N (summed N s v).state (thinned N m (drop N (summed N s v).state) (place / 2) (summed N s v).val)

@@ -3,7 +3,7 @@
 use mathlib.Core.Path.{◌≡◌, refl, sym, ap, ap₂, ◌∙◌, subst}
 use mathlib.Core.Bool.{Bool, true, false, cond}
 use mathlib.Core.List.{List, ◌∷◌, ◌++◌}
-use mathlib.Core.Option.{Option, none, some}
+use Rattle.std.specs.Prelude.{Option, None, Some}
 use Prim.Native.Nat.{ℕ, zero, suc, ◌+◌, ◌*◌, ◌-◌, ◌≤◌, ◌<◌, min}
 use native.Mathlib.Nat.{mul-le-mul}
 use native.Mathlib.Omega.{arith}
@@ -36,7 +36,7 @@ use Rattle.q15.proofs.FirSteps.{valid_on, line_valid}
 use Rattle.half_band.specs.HbfTaps.{stage_taps, decimation}
 use Rattle.half_band.specs.HbfStream.{Half, stage_in, with_stage, hbf_stream, stream_fresh}
 use Rattle.half_band.specs.declared.hbf_stream.HbfStream.{HbfStream}
-use Rattle.half_band.proofs.StageTables.{dec_stages}
+use Rattle.half_band.specs.HbfTaps.{decimation_five}
 use Rattle.half_band.proofs.Stages.{Sized, stages_from, found, elsewhere}
 use Rattle.half_band.proofs.HeldOnes.{refused_says, not_refused, line_not_refused, line_refused_says}
 use Rattle.float.specs.F32.{zero32}
@@ -54,11 +54,11 @@ use Rattle.line.proofs.Lawful.{to_parts, of_parts, line_lawful}
 use Rattle.line.proofs.Demanded.{outcome_is}
 use Rattle.parking.specs.Alike.{LineTyped, fed_on, GoesOnAlike}
 use Rattle.parking.specs.Entries.{fir_on, resampler_on, settings_in, cic_bytes, tap_bytes, delay_bytes, window_of, stage_bytes, stages_bytes, prototype_bytes, resampler_bytes, entries_of, neighbours_bytes, thin_entries, entries_by, line_entries}
-use Rattle.parking.specs.Fields.{All, IsFloat}
+use Rattle.words.specs.Fields.{All, IsFloat}
 use Rattle.parking.specs.Parked.{Panel, neighbour_count, parked}
 use Rattle.parking.specs.Parking.{parked_line, park_number, taken_up}
-use Rattle.parking.proofs.Loops.{get_d_any}
-use Rattle.parking.proofs.Fields.{all_take, all_append, all_replicate}
+use Rattle.words.proofs.Loops.{get_d_any}
+use Rattle.words.proofs.Fields.{all_take, all_append, all_replicate}
 use Rattle.parking.proofs.Behind.{stage_long}
 use Rattle.parking.proofs.Thinned.{few_neighbours}
 use Rattle.parking.proofs.Whole.{Used, CicWhole, ThinWholeBy, ThinNumbers, thin_numbers, FirWhole}
@@ -225,7 +225,7 @@ module _ (s : HbfStream) (few : s.depth ≤ 5) (z : Sized s) (ad : All IsFloat s
   filled_used zero h = half_fresh s.depth
   filled_used (suc n) h =
       with_used s.depth few n (stage_in c5 n s) (filled s n) h (stage_typed c5 n s (record { delays = ad; held = ah }))
-      (stage_long c5 dec_stages n s (omega arith) z) (filled_used n (omega arith))
+      (stage_long c5 decimation_five n s (omega arith) z) (filled_used n (omega arith))
 
   filled_depth : (n : ℕ) → (filled s n).depth ≡ s.depth
   unfolding filled with_stage
@@ -237,11 +237,11 @@ module _ (s : HbfStream) (few : s.depth ≤ 5) (z : Sized s) (ad : All IsFloat s
   filled_stage zero h k l = absurd (omega arith)
   filled_stage (suc n) h k l =
       let in_range : n < 5 = omega arith in
-      let long = stage_long c5 dec_stages n s in_range z in
+      let long = stage_long c5 decimation_five n s in_range z in
       let sized = (filled_used n (omega arith)).sized in
       elim (dec_lt k n) [
-        | yes b ↦ (elsewhere c5 dec_stages n (stage_in c5 n s) (filled s n) in_range sized long k (omega arith) (let q : k ≡ n → ⊥ = omega arith in q) ∙ filled_stage n (omega arith) k b)
-        | no b ↦ (let e : k ≡ n = omega arith in subst (λ (j : ℕ). stage_in c5 j (with_stage c5 n (stage_in c5 n s) (filled s n)) ≡ stage_in c5 j s) (sym e) (found c5 dec_stages n (stage_in c5 n s) (filled s n) in_range sized long))
+        | yes b ↦ (elsewhere c5 decimation_five n (stage_in c5 n s) (filled s n) in_range sized long k (omega arith) (let q : k ≡ n → ⊥ = omega arith in q) ∙ filled_stage n (omega arith) k b)
+        | no b ↦ (let e : k ≡ n = omega arith in subst (λ (j : ℕ). stage_in c5 j (with_stage c5 n (stage_in c5 n s) (filled s n)) ≡ stage_in c5 j s) (sym e) (found c5 decimation_five n (stage_in c5 n s) (filled s n) in_range sized long))
       ]
 
   t : HbfStream
@@ -259,7 +259,7 @@ module _ (s : HbfStream) (few : s.depth ≤ 5) (z : Sized s) (ad : All IsFloat s
   unfolding t
   t_depth = filled_depth s.depth
 
-  stages_same : (n k : ℕ) → k + n ≤ s.depth → stages_from c5 dec_stages n k s ≡ stages_from c5 dec_stages n k t
+  stages_same : (n k : ℕ) → k + n ≤ s.depth → stages_from c5 decimation_five n k s ≡ stages_from c5 decimation_five n k t
   stages_same zero k h = refl
   stages_same (suc n) k h =
       ap₂ {C = List Half} (λ (a : Half) (l : List Half). a ∷ l) (sym (t_stage k (omega arith))) (stages_same n (suc k) (omega arith))
@@ -517,8 +517,8 @@ fine_parts : (l : Line) → Good l → Unit {0} × (Unit {0} × Fine3 (parts_of 
 fine_parts l v = (tt, (tt, ((to_parts l v).1.1.0, (tt, (tt, tt)))))
 
 cuts_for_lem : (f g : FirDecimator) (o : Option ℤ) → Q.valid_in_line f ≡ true → FirSame f g → cuts_for f o ≡ cuts_for g o
-cuts_for_lem f g none v e = refl
-cuts_for_lem f g (some z) v e = ap (λ (o : Option ℤ). cut_one w16 z + sum_cut o) (fir_both f g (cut w16 z) v e).sum_out
+cuts_for_lem f g None v e = refl
+cuts_for_lem f g (Some z) v e = ap (λ (o : Option ℤ). cut_one w16 z + sum_cut o) (fir_both f g (cut w16 z) v e).sum_out
 
 line_alike : Alike line Good SameLine
 line_alike =

@@ -32,9 +32,9 @@ use Rattle.q15.specs.FirDecimator as Q
 use Rattle.q15.specs.declared.fir_decimator.FirDecimator.{FirDecimator}
 use Rattle.q15.proofs.FirSteps.{On, valid_on, line_valid}
 use Rattle.theory.specs.Wrap.{wrap}
-use Rattle.parking.specs.Fields.{All}
+use Rattle.words.specs.Fields.{All}
 use Rattle.parking.specs.Parked.{neighbour_count}
-use Rattle.parking.proofs.Fields.{all_take, all_drop, all_append, all_set, all_replicate}
+use Rattle.words.proofs.Fields.{all_take, all_drop, all_append, all_set, all_replicate}
 use Rattle.parking.proofs.Thinned.{few_neighbours, thinned_long, thinned_typed, thinned_behind}
 use Rattle.parking.proofs.Fronts.{row_typed, row_value}
 use Rattle.parking.proofs.Behind.{integrators_behind, combs_behind, stored_behind, moved_behind}

@@ -2,7 +2,7 @@
 use mathlib.Core.Path.{◌≡◌, refl, sym, ◌∙◌, subst}
 use mathlib.Core.Bool.{Bool, true, false, cond}
 use mathlib.Core.List.{List, [], ◌∷◌, ◌++◌}
-use mathlib.Core.Option.{Option, none, some}
+use Rattle.std.specs.Prelude.{Option, None, Some}
 use mathlib.Core.Logic.{inl, inr}
 use Prim.Native.Nat.{ℕ, zero, suc, ◌+◌, ◌*◌, ◌-◌, ◌≤◌, ◌<◌, min}
 use native.Mathlib.Omega.{arith}
@@ -18,15 +18,15 @@ use Rattle.half_band.specs.Windows.{slid, dec_value}
 use Rattle.half_band.specs.HbfStream.{Half, half, stage_in, with_stage, through, stream, hbf_stream}
 use Rattle.half_band.specs.declared.hbf_stream.HbfStream.{HbfStream}
 use Rattle.half_band.proofs.Stages.{Sized, sized_with, sized_through}
-use Rattle.half_band.proofs.StageTables.{dec_stages}
+use Rattle.half_band.specs.HbfTaps.{decimation_five}
 use Rattle.half_band.proofs.Streaming.{depth_next}
 use Rattle.float.specs.F32.{zero32}
 use Rattle.float.specs.PolyphaseResamp.{shifted_in, consumed, passed}
 use Rattle.float.specs.PolyphaseResamp as R
 use Rattle.float.specs.declared.polyphase_resamp.PolyphaseResampF32.{PolyphaseResampF32}
 use Rattle.parking.specs.Entries.{window_of}
-use Rattle.parking.specs.Fields.{All, IsFloat}
-use Rattle.parking.proofs.Fields.{all_take, all_drop, all_append, all_set, all_get_d}
+use Rattle.words.specs.Fields.{All, IsFloat}
+use Rattle.words.proofs.Fields.{all_take, all_drop, all_append, all_set, all_get_d}
 use Rattle.parking.proofs.Behind.{shifted_behind, Beside, beside_with, beside_through}
 use Rattle.parking.proofs.Whole.{Used, used_kept}
 
@@ -45,7 +45,7 @@ window_is (suc (suc (suc (suc zero)))) h = refl
 window_is (suc (suc (suc (suc (suc k))))) h = absurd (omega arith)
 
 pub window_most : (k : ℕ) → k < 5 → window_of k ≤ 96
-window_most k h = let w = window_is k h in let m = dec_stages.most k h in omega arith
+window_most k h = let w = window_is k h in let m = decimation_five.most k h in omega arith
 
 -- the part of stage j's places that its window leaves
 abbrev pub gap : ℕ → List Float → List Float
@@ -66,8 +66,8 @@ HalfWhole s = HalfUsed s.depth s
 
 -- an option whose value, if there is one, is a float
 abbrev pub Given : Option Float → Type 0
-Given none = Unit {0}
-Given (some x) = IsFloat x
+Given None = Unit {0}
+Given (Some x) = IsFloat x
 
 -- a stage keeps its values
 pub record HalfTyped (h : Half) : Type 0 where
@@ -86,7 +86,7 @@ half_given : (c : List Float) (h : Half) (x : Float) → Given ((half c).out h x
 unfolding half dec_value
 half_given c h x = go (eqb h.count 0)
   where
-    go : (b : Bool) → Given (cond b none (some (dec_value c (slid h.window (h.held ∷ x ∷ [])))))
+    go : (b : Bool) → Given (cond b None (Some (dec_value c (slid h.window (h.held ∷ x ∷ [])))))
     go true = tt
     go false = mul-fits binary32 _ _
 
@@ -116,49 +116,49 @@ module _ (taps : ℕ → List Float) where
   through_typed : (n k : ℕ) (o : Option Float) (s : HbfStream) → Given o → StreamTyped s → StreamTyped (through taps n k o s).state
   unfolding through
   through_typed zero k o s g t = t
-  through_typed (suc n) k none s g t = t
-  through_typed (suc n) k (some x) s g t =
+  through_typed (suc n) k None s g t = t
+  through_typed (suc n) k (Some x) s g t =
       through_typed n (suc k) ((half (taps k)).out (stage_in taps k s) x) _ (half_given (taps k) (stage_in taps k s) x)
       (with_typed k ((half (taps k)).next (stage_in taps k s) x) s (half_typed (taps k) (stage_in taps k s) x (stage_typed k s t) g) t)
 
   pub through_given : (n k : ℕ) (o : Option Float) (s : HbfStream) → Given o → Given (through taps n k o s).out
   unfolding through
   through_given zero k o s g = g
-  through_given (suc n) k none s g = tt
-  through_given (suc n) k (some x) s g = through_given n (suc k) ((half (taps k)).out (stage_in taps k s) x) _ (half_given (taps k) (stage_in taps k s) x)
+  through_given (suc n) k None s g = tt
+  through_given (suc n) k (Some x) s g = through_given n (suc k) ((half (taps k)).out (stage_in taps k s) x) _ (half_given (taps k) (stage_in taps k s) x)
 
   -- what is held behind the stages
   through_held : (n k : ℕ) (o : Option Float) (s : HbfStream) (m : ℕ) → k + n ≤ m → drop m (through taps n k o s).state.held ≡ drop m s.held
   unfolding through with_stage
   through_held zero k o s m h = refl
-  through_held (suc n) k none s m h = refl
-  through_held (suc n) k (some x) s m h =
+  through_held (suc n) k None s m h = refl
+  through_held (suc n) k (Some x) s m h =
       through_held n (suc k) ((half (taps k)).out (stage_in taps k s) x) (with_stage taps k ((half (taps k)).next (stage_in taps k s) x) s) m (omega arith)
       ∙ drop-set-lt m s.held k ((half (taps k)).next (stage_in taps k s) x).held (omega arith)
 
   through_counts : (n k : ℕ) (o : Option Float) (s : HbfStream) (m : ℕ) → k + n ≤ m → drop m (through taps n k o s).state.counts ≡ drop m s.counts
   unfolding through with_stage
   through_counts zero k o s m h = refl
-  through_counts (suc n) k none s m h = refl
-  through_counts (suc n) k (some x) s m h =
+  through_counts (suc n) k None s m h = refl
+  through_counts (suc n) k (Some x) s m h =
       through_counts n (suc k) ((half (taps k)).out (stage_in taps k s) x) (with_stage taps k ((half (taps k)).next (stage_in taps k s) x) s) m (omega arith)
       ∙ drop-set-lt m s.counts k ((half (taps k)).next (stage_in taps k s) x).count (omega arith)
 
 -- what n stages leave alone: the gap behind each window, and all behind the stages
 module _ (n : ℕ) (few : n ≤ 5) where
-  beside_gap : (j : ℕ) → j < 5 → (i : ℕ) → i < n → Beside c5 dec_stages (96 * j + window_of j) (96 - window_of j) i
+  beside_gap : (j : ℕ) → j < 5 → (i : ℕ) → i < n → Beside c5 decimation_five (96 * j + window_of j) (96 - window_of j) i
   unfolding Beside
   beside_gap j h i b = elim (dec_le i j) [
     | yes l ↦ inr (elim (dec_lt i j) [
-      | yes m ↦ (let q : 96 * i + 4 * length (stage_taps decimation i) ≤ 96 * j + window_of j = omega (arith, dec_stages.most i (let k : i < 5 = omega arith in k)) in q)
+      | yes m ↦ (let q : 96 * i + 4 * length (stage_taps decimation i) ≤ 96 * j + window_of j = omega (arith, decimation_five.most i (let k : i < 5 = omega arith in k)) in q)
       | no m ↦ (let e : i ≡ j = omega arith in let q : 96 * i + 4 * length (stage_taps decimation i) ≤ 96 * j + window_of j = rw (e, window_is j h) (omega arith) in q)
     ])
     | no l ↦ inl (let q : 96 * j + window_of j + (96 - window_of j) ≤ 96 * i = omega (arith, window_most j h) in q)
   ]
 
-  beside_rest : (i : ℕ) → i < n → Beside c5 dec_stages (96 * n) (480 - 96 * n) i
+  beside_rest : (i : ℕ) → i < n → Beside c5 decimation_five (96 * n) (480 - 96 * n) i
   unfolding Beside
-  beside_rest i b = inr (let q : 96 * i + 4 * length (stage_taps decimation i) ≤ 96 * n = omega (arith, dec_stages.most i (let k : i < 5 = omega arith in k)) in q)
+  beside_rest i b = inr (let q : 96 * i + 4 * length (stage_taps decimation i) ≤ 96 * n = omega (arith, decimation_five.most i (let k : i < 5 = omega arith in k)) in q)
 
   all_of : (l : List Float) → length l ≡ 480 → take (480 - 96 * n) (drop (96 * n) l) ≡ drop (96 * n) l
   all_of l e = take_all (480 - 96 * n) (drop (96 * n) l) (rw (length-drop (96 * n) l, e) (omega arith))
@@ -168,14 +168,14 @@ module _ (n : ℕ) (few : n ≤ 5) where
   unfolding with_stage
   with_used k h s l t e w =
       let in_range : k < 5 = omega arith in
-      let z = sized_with c5 dec_stages k h s in_range w.sized e in
+      let z = sized_with c5 decimation_five k h s in_range w.sized e in
       let typed : StreamTyped (with_stage c5 k h s) = with_typed c5 k h s t (record { delays = w.delays_typed; held = w.held_typed }) in
       record {
         sized = z;
-        gaps = λ j a b. beside_with c5 dec_stages k s in_range w.sized h e (96 * j + window_of j) (96 - window_of j) (beside_gap j b k l) ∙ w.gaps j a b;
+        gaps = λ j a b. beside_with c5 decimation_five k s in_range w.sized h e (96 * j + window_of j) (96 - window_of j) (beside_gap j b k l) ∙ w.gaps j a b;
         behind =
             sym (all_of (with_stage c5 k h s).delays z.delays)
-            ∙ beside_with c5 dec_stages k s in_range w.sized h e (96 * n) (480 - 96 * n) (beside_rest k l)
+            ∙ beside_with c5 decimation_five k s in_range w.sized h e (96 * n) (480 - 96 * n) (beside_rest k l)
             ∙ all_of s.delays w.sized.delays ∙ w.behind;
         held_rest = drop-set-lt n s.held k h.held l ∙ w.held_rest;
         counts_rest = drop-set-lt n s.counts k h.count l ∙ w.counts_rest;
@@ -185,26 +185,26 @@ module _ (n : ℕ) (few : n ≤ 5) where
 
 module _ (s : HbfStream) (x : Float) (n : ℕ) (few : n ≤ 5) (p : IsFloat x) (w : HalfUsed n s) where
   abbrev s' : HbfStream
-  s' = (through c5 n 0 (some x) s).state
+  s' = (through c5 n 0 (Some x) s).state
 
   few' : 0 + n ≤ 5
   few' = omega arith
 
   sized' : Sized s'
-  sized' = sized_through c5 dec_stages n 0 (some x) s few' w.sized
+  sized' = sized_through c5 decimation_five n 0 (Some x) s few' w.sized
 
   through_used : HalfUsed n s'
   through_used =
-      let typed : StreamTyped s' = through_typed c5 n 0 (some x) s p (record { delays = w.delays_typed; held = w.held_typed }) in
+      let typed : StreamTyped s' = through_typed c5 n 0 (Some x) s p (record { delays = w.delays_typed; held = w.held_typed }) in
       record {
         sized = sized';
-        gaps = λ j a h. beside_through c5 dec_stages n 0 (some x) s few' w.sized (96 * j + window_of j) (96 - window_of j) (λ i u v. beside_gap n few j h i (omega arith)) ∙ w.gaps j a h;
+        gaps = λ j a h. beside_through c5 decimation_five n 0 (Some x) s few' w.sized (96 * j + window_of j) (96 - window_of j) (λ i u v. beside_gap n few j h i (omega arith)) ∙ w.gaps j a h;
         behind =
             sym (all_of n few s'.delays sized'.delays)
-            ∙ beside_through c5 dec_stages n 0 (some x) s few' w.sized (96 * n) (480 - 96 * n) (λ i u v. beside_rest n few i (omega arith))
+            ∙ beside_through c5 decimation_five n 0 (Some x) s few' w.sized (96 * n) (480 - 96 * n) (λ i u v. beside_rest n few i (omega arith))
             ∙ all_of n few s.delays w.sized.delays ∙ w.behind;
-        held_rest = through_held c5 n 0 (some x) s n (omega arith) ∙ w.held_rest;
-        counts_rest = through_counts c5 n 0 (some x) s n (omega arith) ∙ w.counts_rest;
+        held_rest = through_held c5 n 0 (Some x) s n (omega arith) ∙ w.held_rest;
+        counts_rest = through_counts c5 n 0 (Some x) s n (omega arith) ∙ w.counts_rest;
         delays_typed = typed.delays;
         held_typed = typed.held;
       }
@@ -213,12 +213,12 @@ pub half_whole : (s : HbfStream) (x : Float) → s.depth ≤ 5 → IsFloat x →
 unfolding hbf_stream stream
 half_whole s x few p w =
     let m : s.depth ≡ min s.depth 5 = omega arith in
-    subst (λ (k : ℕ). HalfUsed k (hbf_stream.next s x)) (sym (depth_next (stage_taps decimation) dec_stages s x))
-    (subst (λ (k : ℕ). HalfUsed s.depth (through (stage_taps decimation) k 0 (some x) s).state) m (through_used s x s.depth few p w))
+    subst (λ (k : ℕ). HalfUsed k (hbf_stream.next s x)) (sym (depth_next (stage_taps decimation) decimation_five s x))
+    (subst (λ (k : ℕ). HalfUsed s.depth (through (stage_taps decimation) k 0 (Some x) s).state) m (through_used s x s.depth few p w))
 
 pub half_out : (s : HbfStream) (x : Float) → IsFloat x → Given (hbf_stream.out s x)
 unfolding hbf_stream stream
-half_out s x p = through_given (stage_taps decimation) (min s.depth 5) 0 (some x) s p
+half_out s x p = through_given (stage_taps decimation) (min s.depth 5) 0 (Some x) s p
 
 -- ---- section 5
 

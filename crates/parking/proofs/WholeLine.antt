@@ -2,7 +2,7 @@
 use mathlib.Core.Path.{◌≡◌, refl, sym, ap, ◌∙◌, subst}
 use mathlib.Core.Bool.{Bool, true, false, cond, ◌&&◌, false≢true}
 use mathlib.Core.List.{List, ◌∷◌, ◌++◌}
-use mathlib.Core.Option.{Option, none, some}
+use Rattle.std.specs.Prelude.{Option, None, Some}
 use Prim.Native.Nat.{ℕ, zero, suc, ◌+◌, ◌*◌, ◌-◌, ◌≤◌}
 use native.Mathlib.Nat.{mul-le-mul}
 use native.Mathlib.Omega.{arith}
@@ -47,8 +47,8 @@ use Rattle.line.proofs.Openings.{Accepted, On}
 use Rattle.line.proofs.Demanded.{outcome_is, ok, start, valid_fresh}
 use Rattle.parking.specs.Entries.{window_of}
 use Rattle.parking.specs.Between.{Typed}
-use Rattle.parking.specs.Fields.{All, IsFloat}
-use Rattle.parking.proofs.Fields.{all_append, all_replicate}
+use Rattle.words.specs.Fields.{All, IsFloat}
+use Rattle.words.proofs.Fields.{all_append, all_replicate}
 use Rattle.parking.proofs.Whole.{Used, used_fresh, ThinWhole, thin_whole, thin_fresh, cut_fits, FirWhole, fir_whole_lem}
 use Rattle.parking.proofs.WholeFloats.{HalfWhole, Given, half_whole, half_out, ResamplerWhole, passed_whole, consumed_whole, window_most}
 
@@ -59,8 +59,8 @@ pub record Keeps {S A C : Type 0} (m : Machine S A C) (In : A → Type 0) (Fine 
   pub next : (s : S) (a : A) → Fine s → Whole s → In a → m.due s ≡ false → Whole (m.next s a)
 
 abbrev IfAny : {B : Type 0} → (B → Type 0) → Option B → Type 0
-IfAny In none = Unit {0}
-IfAny In (some b) = In b
+IfAny In None = Unit {0}
+IfAny In (Some b) = In b
 
 keeps_before :
     {S R A B C : Type 0} (f : Section S A B) (m : Machine R B C) (InA : A → Type 0) (InB : B → Type 0) (FineS WholeS : S → Type 0) (FineR WholeR : R → Type 0)
@@ -73,8 +73,8 @@ keeps_before {S} {R} {A} {B} {C} f m InA InB FineS WholeS FineR WholeR kept out 
     }
   where
     go : (r : R) (o : Option B) → FineR r → WholeR r → IfAny InB o → m.due r ≡ false → WholeR (next_for f m r o)
-    go r none g w i e = w
-    go r (some b) g w i e = law.next r b g w i e
+    go r None g w i e = w
+    go r (Some b) g w i e = law.next r b g w i e
 
 -- ---- the sections
 
@@ -115,8 +115,8 @@ keeps4 =
     (λ s x v w p. half_whole s x (half_depth s v) p w) (λ s x p. given (hbf_stream.out s x) (half_out s x p)) keeps5
   where
     given : (o : Option Float) → Given o → IfAny IsFloat o
-    given none g = tt
-    given (some x) g = g
+    given None g = tt
+    given (Some x) g = g
 
 keeps_level :
     Keeps (before {S = Unit {0}} (each level) from4) (λ z. Unit {0}) (λ p. Unit {0} × ((half_band_fine p.1.0 ≡ true) × (valid_in_line p.1.1 ≡ true))) (λ p. Unit {0} × (HalfWhole p.1.0 × ResamplerWhole p.1.1))
@@ -126,8 +126,8 @@ keeps_level =
     (λ s a f w i. tt) (λ s a i. div-fits binary32 _ _) keeps4
 
 any : {B : Type 0} (o : Option B) → IfAny (λ z. Unit {0}) o
-any none = tt
-any (some b) = tt
+any None = tt
+any (Some b) = tt
 
 abbrev Fine3 : FirDecimator × (Unit {0} × (HbfStream × PolyphaseResampF32)) → Type 0
 Fine3 p = (Q.valid_in_line p.0 ≡ true) × (Unit {0} × ((half_band_fine p.1.1.0 ≡ true) × (valid_in_line p.1.1.1 ≡ true)))

@@ -7,7 +7,7 @@ use Rattle.nonrecursive.specs.NonrecursiveDecimator.{most_neighbours}
 use Rattle.line.specs.Line.{feed_outcome, feed_span}
 use Rattle.line.specs.Demand3.{History, none_yet, fed}
 use Rattle.line.specs.declared.gauge_line.Line.{Line}
-use Rattle.parking.specs.Fields.{All, IsFloat}
+use Rattle.words.specs.Fields.{All, IsFloat}
 use Rattle.parking.specs.Limits.{Arrays}
 
 -- a record has its types: arrays of their lengths, integers and floats in their widths

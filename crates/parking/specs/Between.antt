@@ -6,7 +6,7 @@ use Rattle.line.specs.Outputs.{Opening}
 use Rattle.line.specs.Line.{feed_outcome, feed_span, opened, reset}
 use Rattle.line.specs.Demand3 as D
 use Rattle.line.specs.declared.gauge_line.Line.{Line}
-use Rattle.parking.specs.Fields.{All, IsFloat}
+use Rattle.words.specs.Fields.{All, IsFloat}
 use Rattle.parking.specs.Parked.{Panel}
 use Rattle.parking.specs.Parking.{parked_line, park_number, park_answer, park_span, taken_up}
 

@@ -18,7 +18,7 @@ use Rattle.line.specs.Line as L
 use Rattle.line.specs.declared.gauge_line.Line.{Line}
 use Rattle.sheet.specs.Sheet.{le16, le32, bytes16}
 use Rattle.sheet.specs.Laid.{laid}
-use Rattle.parking.specs.Fields.{i16_bytes, i32_bytes, f32_bytes, joined, i16_at, i32_at, f32_at, values_at, is_float, floats_at}
+use Rattle.words.specs.Fields.{i16_bytes, i32_bytes, f32_bytes, joined, i16_at, i32_at, f32_at, values_at, is_float, floats_at}
 use Rattle.parking.specs.Parked.{Settings, settings_bytes, settings_of, half_band_bytes, neighbour_count}
 
 -- "A part that is off is parked as zeros, settings too"

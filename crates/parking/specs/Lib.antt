@@ -1,5 +1,4 @@
 pub mod Parked
-pub mod Fields
 pub mod Entries
 pub mod Parking
 pub mod Between

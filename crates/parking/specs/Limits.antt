@@ -1,5 +1,5 @@
 -- The numbers of a line that may be parked, and the lengths of its arrays, which are their types'.
-use Rattle.std.specs.Prelude.{◌≡◌, ◌≤◌, length}
+use Rattle.std.specs.Prelude.{◌≡◌, ◌≤◌, ◌<◌, length}
 use Rattle.integer.specs.declared.cic_decimator.CicDecimator.{CicDecimator}
 use Rattle.q15.specs.FirDecimator.{most_taps}
 use Rattle.q15.specs.declared.fir_decimator.FirDecimator.{FirDecimator}
@@ -15,6 +15,13 @@ pub record InLimits (q : Settings) : Type 0 where
   pub depth : q.depth ≤ 5
   pub phases : q.phases ≤ 64
   pub cells : q.cells ≤ 16
+
+-- numbers that fit the words of the settings entry, as far as lengths go by them
+pub record InWords (q : Settings) : Type 0 where
+  pub stages : q.stages < 65536
+  pub taps : q.taps < 65536
+  pub phases : q.phases < 65536
+  pub cells : q.cells < 65536
 
 pub record Arrays (d : CicDecimator) (f : FirDecimator) (s : HbfStream) (p : PolyphaseResampF32) : Type 0 where
   pub integrators : length d.integrator_state ≡ 8

@@ -2,10 +2,8 @@
 #![tactic(auto)]
 
 mod entries;
-mod off;
 mod put;
 pub mod settings;
-mod thin;
 mod writing;
 
 pub use crate::writing::{park, parked_len};

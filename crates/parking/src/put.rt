@@ -1,77 +1,28 @@
-// Values written into a span one behind the other, each as the little-endian bytes of its bits.
-ghost use Rattle.std.specs.Prelude.{◌≡◌, ◌+◌, ◌*◌, ◌≤◌, length, take, drop};
-ghost use Rattle.sheet.specs.Laid.{laid};
-ghost use Rattle.sheet.specs.Sheet.{bytes16, bytes32};
-ghost use Rattle.parking.specs.Fields.{joined, i16_bytes, i32_bytes, f32_bytes};
+// Values laid one behind the other.
+ghost use Rattle.std.specs.Prelude.{◌≡◌, ◌+◌, ◌≤◌, length};
+ghost use Rattle.words.specs.Fields.{joined};
+ghost use Rattle.words.specs.Puts.{Puts};
 
-use sheet::{lay16, lay32};
-use words::{bits_of_f32, bits_of_i16, bits_of_i32};
+use sheet::lay;
+use words::Word;
 
-fn wide16(n: u16) -> usize
-    ensures { result ≡ n }
+// Lays bytes at a place, and answers the place behind them.
+#[tactic(auto, using(words::proofs::Loops::put_in))]
+pub(crate) fn put(span: &mut [u8], at: usize, bytes: &[u8]) -> usize
+    requires { at + length bytes.now ≤ length span.old }
+    ensures { Puts at bytes.now span.old span.new result }
 {
-    n as usize
+    lay(span, at, bytes);
+    at + bytes.len()
 }
 
-fn wide32(n: u32) -> usize
-    ensures { result ≡ n }
+// Lays values from a place on, and answers the place behind them.
+pub(crate) fn put_all<W: Word>(span: &mut [u8], at: usize, xs: &[W]) -> usize
+    requires { at + length (joined W.bytes xs.now) ≤ length span.old }
+    ensures { Puts at (joined W.bytes xs.now) span.old span.new result }
 {
-    n as usize
-}
-
-// The 16 bits of n, where the span is known to have room for them.
-pub(crate) fn put16(span: &mut [u8], at: usize, n: usize)
-    requires { at + 2 ≤ length span.old }
-    ensures { span.new ≡ laid at (bytes16 n) span.old }
-{
-    lay16(span, at, n);
-}
-
-// The same of 32 bits.
-pub(crate) fn put32(span: &mut [u8], at: usize, n: usize)
-    requires { at + 4 ≤ length span.old }
-    ensures { span.new ≡ laid at (bytes32 n) span.old }
-{
-    lay32(span, at, n);
-}
-
-// The first n values.
-pub(crate) fn put_i16s(span: &mut [u8], at: usize, xs: &[i16], n: usize)
-    requires { (n ≤ length xs.now) × (at + 2 * n ≤ length span.old) }
-    ensures { span.new ≡ laid at (joined i16_bytes (take n xs.now)) span.old }
-{
-    let mut i = 0;
-    while i < n {
-        let x = xs[i];
-        let word = wide16(bits_of_i16(x));
-        put16(span, at + 2 * i, word);
-        i += 1;
+    for (i, x) in xs.iter().enumerate() {
+        x.lay(span, at + W::SIZE * i);
     }
-}
-
-pub(crate) fn put_i32s(span: &mut [u8], at: usize, xs: &[i32], n: usize)
-    requires { (n ≤ length xs.now) × (at + 4 * n ≤ length span.old) }
-    ensures { span.new ≡ laid at (joined i32_bytes (take n xs.now)) span.old }
-{
-    let mut i = 0;
-    while i < n {
-        let x = xs[i];
-        let word = wide32(bits_of_i32(x));
-        put32(span, at + 4 * i, word);
-        i += 1;
-    }
-}
-
-// n values from one on.
-pub(crate) fn put_f32s(span: &mut [u8], at: usize, xs: &[f32], from: usize, n: usize)
-    requires { (from + n ≤ length xs.now) × (at + 4 * n ≤ length span.old) }
-    ensures { span.new ≡ laid at (joined f32_bytes (take n (drop from xs.now))) span.old }
-{
-    let mut i = 0;
-    while i < n {
-        let x = xs[from + i];
-        let word = wide32(bits_of_f32(x));
-        put32(span, at + 4 * i, word);
-        i += 1;
-    }
+    at + W::SIZE * xs.len()
 }

@@ -1,14 +1,14 @@
 // What stands in the settings entry, and the lengths that it makes.
-ghost use Rattle.std.specs.Prelude.{◌≡◌, cond, ◌≤◌};
+ghost use Rattle.std.specs.Prelude.{◌≡◌, ◌<◌, ◌≤◌, take, sum};
 ghost use Rattle.nonrecursive.specs.NonrecursiveDecimator as D;
 ghost use Rattle.parking.specs.Entries as E;
+ghost use Rattle.parking.specs.Limits.{InWords};
 ghost use Rattle.parking.specs.Parked as P;
-ghost use Rattle.parking.specs.Told.{numbers_of};
+ghost use Rattle.parking.specs.Told.{numbers_of, count_by, sizes_by};
 
-use float::PolyphaseResampF32;
 use half_band::MOST_STAGES;
-use integer::CicDecimator;
-use q15::FirDecimator;
+use line::Line;
+use nonrecursive::Thinning;
 use words::bits_of_f32;
 
 #[derive(Clone, Copy)]
@@ -21,8 +21,8 @@ pub struct ParkedSettings {
     pub phases: usize,
     pub cells: usize,
     pub straight: usize,
-    pub step: usize,
-    pub cuts: usize,
+    pub step: u32,
+    pub cuts: u32,
 }
 
 // The delays of each half-band stage, 4M.
@@ -35,72 +35,83 @@ const HALF_BAND_BYTES: [usize; MOST_STAGES + 1] = [0, 54, 124, 210, 376, 750];
 pub fn window(k: usize) -> usize
     ensures { result ≡ E.window_of k }
 {
-    if k < MOST_STAGES {
-        return WINDOWS[k];
-    }
-    0
+    if k < MOST_STAGES { WINDOWS[k] } else { 0 }
 }
 
 // How many bytes the half-band entry has; "a depth over 5 counts as 5".
+#[tactic(auto, unfolding(crate::specs::Parked::half_band_bytes))]
 pub fn half_band_bytes(depth: usize) -> usize
     ensures { result ≡ P.half_band_bytes depth }
 {
-    if depth < MOST_STAGES {
-        return HALF_BAND_BYTES[depth];
-    }
-    HALF_BAND_BYTES[MOST_STAGES]
+    HALF_BAND_BYTES[depth.min(MOST_STAGES)]
 }
 
 // How often r can be halved, rounded down, so that at least 1 is left.
+#[tactic(auto, using(crate::proofs::Thinned::halvings_is, crate::proofs::Thinned::halvings_zero))]
 pub fn halvings(r: usize) -> usize
-    ensures { (result ≡ D.halvings r) × (result ≤ 63) }
+    ensures value { result ≡ D.halvings r }
+    ensures most { result ≤ 63 }
 {
-    let mut n = 0usize;
-    let mut left = r;
-    while 2 <= left {
-        left = left / 2;
-        n += 1;
+    if r == 0 { 0 } else { r.ilog2() as usize }
+}
+
+// How many entries the sheet of a line has: of neighbours one more.
+pub fn entry_count(thinning: Thinning) -> usize
+    ensures { result ≡ count_by thinning }
+{
+    match thinning {
+        Thinning::Integrators => 7,
+        Thinning::Neighbours => 8,
     }
-    n
 }
 
-pub(crate) fn wide(n: u32) -> usize
-    ensures { result ≡ n }
+// How many bytes entries of these sizes have together.
+pub(crate) fn total(sizes: &[usize]) -> usize
+    requires { sum sizes.now < 4294967296 }
+    ensures { result ≡ sum sizes.now }
 {
-    n as usize
+    sizes.iter().sum()
 }
 
-fn flag(b: bool) -> usize
-    ensures { result ≡ cond b 1 0 }
-{
-    if b {
-        return 1;
+impl ParkedSettings {
+    #[tactic(auto, unfolding(crate::specs::Entries::settings_in))]
+    pub(crate) fn of(line: &Line) -> ParkedSettings
+        ensures { numbers_of result ≡ E.settings_in line.now.cic line.now.fir line.now.half_band.depth line.now.resampler line.now.cuts }
+    {
+        let resampler = &line.resampler;
+        ParkedSettings {
+            stages: line.cic.stages,
+            r: line.cic.r,
+            taps: line.fir.tap_count,
+            factor: line.fir.factor,
+            depth: line.half_band.depth,
+            phases: resampler.phases,
+            cells: resampler.taps,
+            straight: resampler.straight as usize,
+            step: bits_of_f32(resampler.step),
+            cuts: line.cuts,
+        }
     }
-    0
-}
 
-pub(crate) fn settings_in(
-    d: CicDecimator,
-    f: FirDecimator,
-    depth: usize,
-    p: PolyphaseResampF32,
-    cuts: u32,
-) -> ParkedSettings
-    ensures { numbers_of result ≡ E.settings_in d f depth p cuts }
-{
-    let straight = flag(p.straight);
-    let step = wide(bits_of_f32(p.step));
-    let cut = wide(cuts);
-    ParkedSettings {
-        stages: d.stages,
-        r: d.r,
-        taps: f.tap_count,
-        factor: f.factor,
-        depth,
-        phases: p.phases,
-        cells: p.taps,
-        straight,
-        step,
-        cuts: cut,
+    // How long each entry is: the neighbours' comes last, and of another line there is none.
+    #[tactic(auto, unfolding(crate::specs::Parked::sizes, crate::specs::Parked::thin_sizes, crate::specs::Parked::neighbour_count))]
+    pub(crate) fn sizes(&self, thinning: Thinning) -> [usize; 8]
+        requires { InWords (numbers_of self.now) }
+        ensures { take (count_by thinning) result ≡ sizes_by thinning (numbers_of self.now) }
+    {
+        let (first, last) = match thinning {
+            Thinning::Integrators => (2 + 8 * self.stages, 0),
+            Thinning::Neighbours => (0, 2 + 4 * (self.stages * halvings(self.r))),
+        };
+        [
+            24,
+            first,
+            2 * self.taps,
+            2 + 2 * self.taps,
+            half_band_bytes(self.depth),
+            4 * (self.phases * self.cells),
+            4 + 4 * self.cells,
+            last,
+        ]
     }
 }

@@ -3,7 +3,7 @@
 use mathlib.Core.Path.{◌≡◌, refl, sym, ap, ap₂, ◌∙◌}
 use mathlib.Core.Bool.{Bool, true, false, cond, true≢false, false≢true}
 use mathlib.Core.List.{List, [], ◌∷◌}
-use mathlib.Core.Option.{Option, none, some}
+use Rattle.std.specs.Prelude.{Option, None, Some}
 use Prim.Native.Nat.{ℕ, zero, suc, ◌+◌, ◌-◌, ◌*◌, ◌≤◌, ◌<◌}
 use native.Mathlib.Nat.{suc-mul, mul_comm, mul-pos}
 use native.Mathlib.Omega.{arith}
@@ -82,7 +82,7 @@ now_last : (p : ℕ) (c : Clock) → 1 ≤ p → ticking.now c tt ≡ ticking.no
 unfolding ticking
 now_last p c h = rw (leb_last p c.left h) refl
 
-now_wait : (l p : ℕ) (c : Clock) → 1 < l → none ≡ ticking.now (slowed l p c) tt
+now_wait : (l p : ℕ) (c : Clock) → 1 < l → None ≡ ticking.now (slowed l p c) tt
 unfolding ticking
 now_wait l p c h = rw (leb_wait l ((c.left - 1) * p) h) refl
 
@@ -102,31 +102,31 @@ module _ {S R A B C : Type 0} (f : Section S A B) (m : Machine R B C) (left peri
   slow p = slowed (left p.0) (period p.0) (clock p.1)
 
   good_for : (r : R) (o : Option B) → GoodR r → GoodR (next_for f m r o)
-  good_for r none g = g
-  good_for r (some b) g = cm.good_next r b g
+  good_for r None g = g
+  good_for r (Some b) g = cm.good_next r b g
 
   -- by whether the section's value has come
   next_for_lem :
       (l p : ℕ) (r : R) → 1 ≤ l → 1 ≤ p → GoodR r → (b : Bool) → leb l 1 ≡ b → (o : Option B) → came o ≡ b
       → slowed (cond b p (l - 1)) p (clock (next_for f m r o)) ≡ ticking.next (slowed l p (clock r)) tt
-  next_for_lem l p r hl hp g true e none q = absurd (false≢true q)
-  next_for_lem l p r hl hp g true e (some v) q =
+  next_for_lem l p r hl hp g true e None q = absurd (false≢true q)
+  next_for_lem l p r hl hp g true e (Some v) q =
       let t = leb-true l 1 e in
       let z : 1 ≡ l = omega arith in
       ap (slowed p p) (cm.next_same r v g) ∙ slowed_last p (clock r) hp (cm.some_period r g) ∙ ap (λ (n : ℕ). ticking.next (slowed n p (clock r)) tt) z
-  next_for_lem l p r hl hp g false e none q = slowed_wait l p (clock r) (leb-false l 1 e)
-  next_for_lem l p r hl hp g false e (some v) q = absurd (true≢false q)
+  next_for_lem l p r hl hp g false e None q = slowed_wait l p (clock r) (leb-false l 1 e)
+  next_for_lem l p r hl hp g false e (Some v) q = absurd (true≢false q)
 
   now_for_lem :
       (l p : ℕ) (r : R) → 1 ≤ l → 1 ≤ p → GoodR r → (b : Bool) → leb l 1 ≡ b → (o : Option B) → came o ≡ b
       → came (now_for f m r o) ≡ came (ticking.now (slowed l p (clock r)) tt)
-  now_for_lem l p r hl hp g true e none q = absurd (false≢true q)
-  now_for_lem l p r hl hp g true e (some v) q =
+  now_for_lem l p r hl hp g true e None q = absurd (false≢true q)
+  now_for_lem l p r hl hp g true e (Some v) q =
       let t = leb-true l 1 e in
       let z : 1 ≡ l = omega arith in
       cm.now_same r v g ∙ ap came (now_last p (clock r) hp) ∙ ap (λ (n : ℕ). came (ticking.now (slowed n p (clock r)) tt)) z
-  now_for_lem l p r hl hp g false e none q = ap came (now_wait l p (clock r) (leb-false l 1 e))
-  now_for_lem l p r hl hp g false e (some v) q = absurd (true≢false q)
+  now_for_lem l p r hl hp g false e None q = ap came (now_wait l p (clock r) (leb-false l 1 e))
+  now_for_lem l p r hl hp g false e (Some v) q = absurd (true≢false q)
 
   pub counts_before : Counts (before f m) slow (λ p. GoodS p.0 × GoodR p.1)
   counts_before =
@@ -226,10 +226,10 @@ module _ {S A C : Type 0} (m : Machine S A C) (clock : S → Clock) (Good : S �
           of :
               (o : Option C) (u : Option (Unit {0})) → came o ≡ came u
               → SameCounts clock (took_then o (steps m k (m.next s a) ys (less o (suc j)))) (took_then u (steps ticking k (clock (m.next s a)) (marks ys) (less u (suc j))))
-          of none none q = let i = ih (m.next s a) ys (suc j) (c.good_next s a g) in record { taken = ap suc i.taken; written = i.written; line = i.line }
-          of none (some u) q = absurd (false≢true q)
-          of (some b) none q = absurd (true≢false q)
-          of (some b) (some u) q = let i = ih (m.next s a) ys j (c.good_next s a g) in record { taken = ap suc i.taken; written = ap suc i.written; line = i.line }
+          of None None q = let i = ih (m.next s a) ys (suc j) (c.good_next s a g) in record { taken = ap suc i.taken; written = i.written; line = i.line }
+          of None (Some u) q = absurd (false≢true q)
+          of (Some b) None q = absurd (true≢false q)
+          of (Some b) (Some u) q = let i = ih (m.next s a) ys j (c.good_next s a g) in record { taken = ap suc i.taken; written = ap suc i.written; line = i.line }
 
   pub feed_counts_lem : (s : S) (xs : List A) (j : ℕ) → Good s → SameCounts clock (feed m s xs j) (feed ticking (clock s) (marks xs) j)
   feed_counts_lem s xs j g = rw (length-replicate (length xs) (tt {0})) (steps_count (length xs + j) s xs j g)

@@ -11,7 +11,8 @@ use Rattle.theory.specs.Feeds as F
 use Rattle.theory.proofs.Machines.{all}
 use Rattle.theory.proofs.Feeds.{promised}
 use Rattle.theory.proofs.FeedRules.{feed_keeps}
-use Rattle.refusal.specs.Outcome.{Outcome, Moved}
+use Rattle.refusal.specs.Outcome.{Outcome}
+use Rattle.refusal.specs.declared.Moved.{Moved}
 use Rattle.nonrecursive.specs.declared.thinning.Thinning.{Thinning}
 use Rattle.line.specs.Outputs.{Opening, levels, Resampled, Outputs, cuts_of, held_cuts}
 use Rattle.line.specs.Line.{line, feed_outcome, feed_span, opened, resampler_fresh, fresh}

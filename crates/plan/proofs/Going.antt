@@ -2,7 +2,7 @@
 -- the one that brings a value are one turn.
 use mathlib.Core.Path.{◌≡◌, refl, sym, ap, ap₂, ◌∙◌, subst}
 use mathlib.Core.Bool.{Bool, true, false, cond}
-use mathlib.Core.Option.{Option, none, some}
+use Rattle.std.specs.Prelude.{Option, None, Some}
 use Prim.Native.Nat.{ℕ, zero, suc, ◌+◌, ◌-◌, ◌≤◌, ◌<◌}
 use native.Mathlib.Omega.{arith}
 use borrow.Author.Tests.{lt-leb}
@@ -19,17 +19,17 @@ run c a n = feed ticking c (replicate a tt) n
 
 -- none or one
 abbrev one : Option (Unit {0}) → ℕ
-one none = 0
-one (some u) = 1
+one None = 0
+one (Some u) = 1
 
 run_take : (c : Clock) (a n : ℕ) → ticking.due c ≡ false → run c (suc a) (suc n) ≡ took_then (ticking.now c tt) (run (ticking.next c tt) a (less (ticking.now c tt) (suc n)))
 run_take c a n d =
-    feed_follow ticking c (replicate (suc a) tt) (suc n) (record { event = taking (ticking.now c tt); line = ticking.next c tt }) (sym (step_not ticking c (some tt) d))
+    feed_follow ticking c (replicate (suc a) tt) (suc n) (record { event = taking (ticking.now c tt); line = ticking.next c tt }) (sym (step_not ticking c (Some tt) d))
     ∙ go (ticking.now c tt)
   where
     go : (o : Option (Unit {0})) → follow ticking (feed ticking) (replicate (suc a) tt) (suc n) (ticking.next c tt) (taking o) ≡ took_then o (run (ticking.next c tt) a (less o (suc n)))
-    go none = refl
-    go (some u) = refl
+    go None = refl
+    go (Some u) = refl
 
 -- t samples are taken and w places written, and the clock is c
 pub record Going (c₀ : Clock) (piece places : ℕ) (c : Clock) (t w : ℕ) : Type 0 where
@@ -89,14 +89,14 @@ module _ (c₀ : Clock) (piece places : ℕ) (c : Clock) (t w : ℕ) (g : Going 
       go :
           (o : Option (Unit {0})) (n : ℕ) → places - w ≡ suc n → run c (piece - t) (places - w) ≡ took_then o (run (ticking.next c tt) (piece - (t + 1)) (less o (suc n)))
           → Going c₀ piece places (ticking.next c tt) (t + 1) (w + one o)
-      go none n p r =
+      go None n p r =
           let h : Fed Clock (Unit {0}) = run (ticking.next c tt) (piece - (t + 1)) (suc n) in
           let z : suc n ≡ places - (w + 0) = omega arith in
-          by (t + 1) (w + 0) (ticking.next c tt) (took_then none h) h r (omega arith) (omega arith) refl (ap (run (ticking.next c tt) (piece - (t + 1))) z) (omega arith) (omega arith)
-      go (some u) n p r =
+          by (t + 1) (w + 0) (ticking.next c tt) (took_then None h) h r (omega arith) (omega arith) refl (ap (run (ticking.next c tt) (piece - (t + 1))) z) (omega arith) (omega arith)
+      go (Some u) n p r =
           let h : Fed Clock (Unit {0}) = run (ticking.next c tt) (piece - (t + 1)) n in
           let z : n ≡ places - (w + 1) = omega arith in
-          by (t + 1) (w + 1) (ticking.next c tt) (took_then (some u) h) h r (omega arith) (omega arith) refl (ap (run (ticking.next c tt) (piece - (t + 1))) z) (omega arith) (omega arith)
+          by (t + 1) (w + 1) (ticking.next c tt) (took_then (Some u) h) h r (omega arith) (omega arith) refl (ap (run (ticking.next c tt) (piece - (t + 1))) z) (omega arith) (omega arith)
 
   done : Runs c → run c (piece - t) (places - w) ≡ idle c → CountedTo c₀ piece places t w c
   unfolding count_feed
@@ -125,7 +125,7 @@ module _ (c₀ : Clock) (piece places : ℕ) (c : Clock) (t w : ℕ) (g : Going 
   unfolding ticking
   next_left n h = rw (lt-leb n 1 h) refl
 
-  now_left : (n : ℕ) → 1 < n → ticking.now (at_left c n) tt ≡ none
+  now_left : (n : ℕ) → 1 < n → ticking.now (at_left c n) tt ≡ None
   unfolding ticking
   now_left n h = rw (lt-leb n 1 h) refl
 
@@ -156,7 +156,7 @@ module _ (c₀ : Clock) (piece places : ℕ) (c : Clock) (t w : ℕ) (g : Going 
       let f : t + k + 1 ≡ t + c.left = omega arith in
       subst (λ (m : ℕ). Going c₀ piece places (arrived c) m (w + cond c.on 0 1)) f (value i)
     where
-      one_by : (b : Bool) → one (cond b none (some tt)) ≡ cond b 0 1
+      one_by : (b : Bool) → one (cond b None (Some tt)) ≡ cond b 0 1
       one_by true = refl
       one_by false = refl
 

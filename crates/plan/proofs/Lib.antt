@@ -4,3 +4,4 @@ pub mod Going
 pub mod Listing
 pub mod Start
 pub mod EitherLine
+mod Fine

@@ -3,7 +3,7 @@
 use mathlib.Core.Path.{◌≡◌, refl, ap, ap₂, ◌∙◌}
 use mathlib.Core.Bool.{Bool, true, false, cond, not}
 use mathlib.Core.List.{List, [], ◌∷◌, map}
-use mathlib.Core.Option.{Option, none, some}
+use Rattle.std.specs.Prelude.{Option, None, Some}
 use Prim.Native.Nat.{ℕ}
 use native.Mathlib.Omega.{arith}
 use lib.Dec.{eqb}
@@ -17,7 +17,8 @@ use Rattle.theory.specs.Tally.{tallied}
 use Rattle.theory.specs.Feeds as F
 use Rattle.theory.proofs.Feeds.{feed_right}
 use Rattle.theory.proofs.FeedRules.{feed_keeps}
-use Rattle.refusal.specs.Outcome.{Outcome, Moved}
+use Rattle.refusal.specs.Outcome.{Outcome}
+use Rattle.refusal.specs.declared.Moved.{Moved}
 use Rattle.nonrecursive.specs.EitherKind as E
 use Rattle.q15.specs.Fixed.{cut}
 use Rattle.q15.specs.FirDecimator.{fir}
@@ -62,7 +63,7 @@ counts5 =
     mu_by true c mu = refl
     mu_by false c mu = refl
 
-    now : (x : Float) (b : Bool) → came (cond b none (some x)) ≡ came (cond {A = Option (Unit {0})} b none (some tt))
+    now : (x : Float) (b : Bool) → came (cond b None (Some x)) ≡ came (cond {A = Option (Unit {0})} b None (Some tt))
     now x true = refl
     now x false = refl
 

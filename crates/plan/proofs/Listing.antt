@@ -6,7 +6,7 @@ use native.Mathlib.Numerals.{add-one}
 use native.Mathlib.Omega.{arith}
 use lib.ListN.{length, get_or, set, take, drop, length-set, drop_of_length-le}
 use lib.Seq.{take-suc-set, take_all, drop-cons}
-use Rattle.refusal.specs.Outcome.{Moved}
+use Rattle.refusal.specs.declared.Moved.{Moved}
 use Rattle.plan.specs.Ticking.{count_feed, moved_by, count_feeds}
 use Rattle.plan.specs.declared.counting.Clock.{Clock}
 

@@ -11,7 +11,7 @@ use lib.IntN.{ℤ}
 use lib.Ieee.{Float}
 use lib.ListN.{length, get_or, replicate}
 use lib.Pow.{pow_pos}
-use Rattle.refusal.specs.Outcome.{Moved}
+use Rattle.refusal.specs.declared.Moved.{Moved}
 use Rattle.refusal.specs.Rows.{first_of, outside}
 use Rattle.refusal.proofs.Limits.{within}
 use Rattle.integer.specs.Limits.{factor_ok}

@@ -1,14 +1,11 @@
 -- 02, §10, "Trying a feeding plan": "Given all that an opening takes and two lists, piece lengths and span lengths of up to 4,096 calls, step through the feeding and list
 -- samples taken and written for each call. Lengths are at most 65,536, and an untaken rest isn't carried over."
 use Rattle.std.specs.Prelude.{◌≡◌, Bool, true, cond, ◌&&◌, List, [], ◌∷◌, map, ℕ, leb, eqb, ℤ, length}
-use Rattle.refusal.specs.Outcome.{Moved}
-use Rattle.refusal.specs.Table.{number_of}
+use Rattle.refusal.specs.declared.Moved.{Moved}
 use Rattle.refusal.specs.Rows.{first_of, most_block}
 use Rattle.line.specs.Outputs.{Opening}
 use Rattle.line.specs.Line.{feed_outcome, opened, opening_number_of}
 use Rattle.line.specs.declared.gauge_line.Line.{Line}
-use Rattle.plan.specs.declared.feeding.PlanAnswer.{PlanAnswer}
-use Rattle.plan.specs.declared.feeding.PlanAnswer.TheVariants as answer
 
 -- what each feed answers, one after the other, each getting the line that the one before returned: call i is lent the samples of piece i alone, whatever call i−1 left
 abbrev pub feed_counts : Line → List (List ℤ) → List ℕ → List Moved
@@ -39,8 +36,3 @@ lists_fine pieces spans taken_places written_places =
 -- "22 .., after all opening refusals"
 unfoldable pub plan_number : Opening → List ℕ → List ℕ → ℕ → ℕ → ℕ
 plan_number o pieces spans taken_places written_places = first_of (opening_number_of o) (cond (lists_fine pieces spans taken_places written_places) 0 22)
-
--- each case of PlanAnswer: its number
-abbrev pub answer_number : PlanAnswer → ℕ
-answer_number answer.Planned = 0
-answer_number (answer.Refused q) = number_of q

@@ -1,12 +1,11 @@
 -- A line that only counts, for the contracts of the private functions: how many samples are left until a value reaches the resampler, how many lie between two
 -- values, and mu. It has no samples, and no outputs, only whether there is one.
-use Rattle.std.specs.Prelude.{◌≡◌, cond, ◌&&◌, not, List, [], ◌∷◌, ℕ, ◌+◌, ◌-◌, ◌*◌, ◌^◌, ◌≤◌, leb, eqb, Float, length, replicate}
-use Rattle.std.proofs.Math.Option.{none, some}
+use Rattle.std.specs.Prelude.{◌≡◌, cond, ◌&&◌, not, List, [], ◌∷◌, ℕ, ◌+◌, ◌-◌, ◌*◌, ◌^◌, ◌≤◌, leb, eqb, Float, length, replicate, None, Some}
 use Rattle.std.specs.Float.{binary32}
 use Rattle.std.specs.Float.Ieee.{add, sub, lt}
 use Rattle.theory.specs.Machines.{Machine}
 use Rattle.theory.specs.Feeds as F
-use Rattle.refusal.specs.Outcome.{Moved}
+use Rattle.refusal.specs.declared.Moved.{Moved}
 use Rattle.float.specs.F32.{zero32, one32}
 use Rattle.chain.specs.Counting.{or_one}
 use Rattle.line.specs.declared.settings.Settings.{Settings}
@@ -29,7 +28,7 @@ ticking =
       val = λ c. tt;
       after = λ c. at_mu c (add binary32 c.mu c.step);
       next = λ c u. cond (leb c.left 1) (arrived c) (at_left c (c.left - 1));
-      now = λ c u. cond (leb c.left 1) (cond c.on none (some tt)) none;
+      now = λ c u. cond (leb c.left 1) (cond c.on None (Some tt)) None;
     }
 
 -- the clock behind a section whose next value is `left` samples away, and each other `period` more

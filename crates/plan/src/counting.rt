@@ -1,13 +1,14 @@
 // A line that only counts. The CIC decimator, the FIR and the half-band stages each make a value of every so many, so together they are one countdown: so many
 // samples until the next value reaches the resampler, and then so many from each to the next. The samples between two values are counted at once.
-ghost use Rattle.std.specs.Prelude.{◌≡◌, cond, not, ◌&&◌, ◌+◌, ◌*◌, ◌^◌, ◌≤◌, eqb};
+ghost use Rattle.std.specs.Prelude.{◌≡◌, ◌&&◌, ◌+◌, ◌*◌, ◌^◌, ◌≤◌};
 ghost use Rattle.std.specs.Float.Ieee.{lt};
 ghost use Rattle.q15.specs.FirDecimator.{most_taps};
-ghost use Rattle.float.specs.F32.{zero32, one32};
+ghost use Rattle.float.specs.F32.{one32};
 ghost use Rattle.chain.specs.Counting.{or_one};
 ghost use Rattle.plan.specs.Ticking as K;
 
 use line::Settings;
+use refusal::Moved;
 
 #[derive(Clone, Copy)]
 pub struct Clock {
@@ -21,14 +22,6 @@ pub struct Clock {
     pub mu: f32,
 }
 
-// How far a feed came.
-#[derive(Drop)]
-pub struct Counted {
-    pub clock: Clock,
-    pub taken: usize,
-    pub written: usize,
-}
-
 fn two_to(depth: usize) -> usize
     requires { depth ≤ 5 }
     ensures { result ≡ 2 ^ depth }
@@ -39,130 +32,93 @@ fn two_to(depth: usize) -> usize
 fn or_one(tap_count: usize, n: usize) -> usize
     ensures { result ≡ or_one tap_count n }
 {
-    if tap_count == 0 {
-        return 1;
+    if tap_count == 0 { 1 } else { n }
+}
+
+impl Clock {
+    // The clock of a resampler alone, which gets every value; one that is off is zeros.
+    fn of_resampler(s: Settings) -> Clock
+        ensures { result ≡ K.resampler_clock s }
+    {
+        let mut clock = Clock {
+            left: 1,
+            period: 1,
+            on: s.phases != 0,
+            step: 0.0,
+            mu: 0.0,
+        };
+        if clock.on {
+            clock.step = s.step;
+            clock.mu = 1.0;
+        }
+        clock
     }
-    n
-}
 
-fn or_zero(phases: usize, x: f32) -> f32
-    ensures { result ≡ cond (eqb phases 0) zero32 x }
-{
-    if phases == 0 {
-        return 0.0;
-    }
-    x
-}
-
-fn is_on(phases: usize) -> bool
-    ensures { result ≡ not (eqb phases 0) }
-{
-    phases != 0
-}
-
-fn resampler_clock(s: Settings) -> Clock
-    ensures { result ≡ K.resampler_clock s }
-{
-    Clock {
-        left: 1,
-        period: 1,
-        on: is_on(s.phases),
-        step: or_zero(s.phases, s.step),
-        mu: or_zero(s.phases, 1.0),
-    }
-}
-
-fn slowed(left: usize, period: usize, c: Clock) -> Clock
-    requires { (left ≤ 4096) × (period ≤ 4096) × (1 ≤ c.left) × (c.left ≤ 4294967296) × (c.period ≤ 4294967296) }
-    ensures is { result ≡ K.slowed left period c }
-    ensures bounds { (left ≤ result.left) × (result.left ≤ left + c.left * 4096) × (result.period ≤ 4096 * c.period) }
-{
-    Clock {
-        left: left + (c.left - 1) * period,
-        period: period * c.period,
-        on: c.on,
-        step: c.step,
-        mu: c.mu,
-    }
-}
-
-// The clock of a line that was just opened.
-pub(crate) fn start_clock(s: Settings, tap_count: usize) -> Clock
-    requires { (1 ≤ s.r) × (s.r ≤ 4096) × (1 ≤ or_one tap_count tap_count) × (or_one tap_count tap_count ≤ most_taps) × (or_one tap_count s.factor ≤ 4096) × (s.depth ≤ 5) }
-    ensures { result ≡ K.start_clock s tap_count }
-{
-    let rate = two_to(s.depth);
-    let behind = slowed(rate, rate, resampler_clock(s));
-    let filtered = slowed(
-        or_one(tap_count, tap_count),
-        or_one(tap_count, s.factor),
-        behind,
-    );
-    slowed(s.r, s.r, filtered)
-}
-
-// "An output is due when the resampler is on and mu < 1."
-fn due(c: Clock) -> bool
-    ensures { result ≡ (c.on && lt c.mu one32) }
-{
-    if !c.on {
-        return false;
-    }
-    c.mu < 1.0
-}
-
-// A value has come.
-fn arrived(c: Clock) -> Clock
-    ensures { result ≡ K.arrived c }
-{
-    let mut next = c;
-    next.left = c.period;
-    if c.on {
-        next.mu = c.mu - 1.0;
-    }
-    next
-}
-
-// How many outputs a value makes at once.
-fn at_once(on: bool) -> usize
-    ensures { result ≡ cond on 0 1 }
-{
-    if on {
-        return 0;
-    }
-    1
-}
-
-// A feed of so many samples into so many places.
-pub(crate) fn feed_counted(clock: Clock, piece: usize, places: usize) -> Counted
-    requires { K.Runs clock }
-    ensures { K.CountedTo clock piece places result.taken result.written result.clock }
-{
-    let mut c = clock;
-    let mut taken: usize = 0;
-    let mut written: usize = 0;
-    while written < places {
-        if due(c) {
-            c.mu = c.mu + c.step;
-            written += 1;
-        } else {
-            let rest = piece - taken;
-            if rest < c.left {
-                c.left = c.left - rest;
-                return Counted {
-                    clock: c,
-                    taken: piece,
-                    written,
-                };
-            }
-            taken += c.left;
-            written += at_once(c.on);
-            c = arrived(c);
+    // The clock behind a section whose next value is `left` samples away, and each other `period` more.
+    fn slowed(self, left: usize, period: usize) -> Clock
+        requires { (left ≤ 4096) × (period ≤ 4096) × (1 ≤ self.left) × (self.left ≤ 4294967296) × (self.period ≤ 4294967296) }
+        ensures is { result ≡ K.slowed left period self }
+        ensures bounds { (left ≤ result.left) × (result.left ≤ left + self.left * 4096) × (result.period ≤ 4096 * self.period) }
+    {
+        Clock {
+            left: left + (self.left - 1) * period,
+            period: period * self.period,
+            ..self
         }
     }
-    Counted {
-        clock: c,
-        taken,
-        written,
+
+    // The clock of a line that was just opened.
+    pub(crate) fn of_line(s: Settings, tap_count: usize) -> Clock
+        requires { (1 ≤ s.r) × (s.r ≤ 4096) × (1 ≤ or_one tap_count tap_count) × (or_one tap_count tap_count ≤ most_taps) × (or_one tap_count s.factor ≤ 4096) × (s.depth ≤ 5) }
+        ensures { result ≡ K.start_clock s tap_count }
+    {
+        let rate = two_to(s.depth);
+        let behind = Clock::of_resampler(s).slowed(rate, rate);
+        let first = or_one(tap_count, tap_count);
+        let filtered = behind.slowed(first, or_one(tap_count, s.factor));
+        filtered.slowed(s.r, s.r)
+    }
+
+    // "An output is due when the resampler is on and mu < 1."
+    fn is_due(self) -> bool
+        ensures { result ≡ (self.on && lt self.mu one32) }
+    {
+        self.on && self.mu < 1.0
+    }
+
+    // A value has come.
+    fn arrive(&mut self)
+        ensures { self.new ≡ K.arrived self.old }
+    {
+        self.left = self.period;
+        if self.on {
+            self.mu -= 1.0;
+        }
+    }
+
+    // A feed of so many samples into so many places. A turn counts as many samples as lie before the next output, so it is no loop over a range.
+    pub(crate) fn feed(&mut self, piece: usize, places: usize) -> Moved
+        requires { K.Runs self.old }
+        ensures { K.CountedTo self.old piece places result.taken result.written self.new }
+    {
+        let mut taken: usize = 0;
+        let mut written: usize = 0;
+        while written < places {
+            if self.is_due() {
+                self.mu += self.step;
+                written += 1;
+            } else {
+                let rest = piece - taken;
+                if rest < self.left {
+                    self.left -= rest;
+                    taken = piece;
+                    break;
+                }
+                taken += self.left;
+                written += if self.on { 0 } else { 1 };
+                self.arrive();
+            }
+        }
+        Moved { taken, written }
     }
 }

@@ -5,5 +5,5 @@ mod counting;
 mod feeding;
 mod lists;
 
-pub use crate::feeding::{PlanAnswer, feeding_plan};
+pub use crate::feeding::feeding_plan;
 pub use crate::lists::MOST_CALLS;

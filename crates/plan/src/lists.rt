@@ -11,16 +11,10 @@ pub const MOST_CALLS: usize = 4096;
 fn lengths_fine(lengths: &[usize]) -> bool
     ensures { result ≡ P.lengths_fine lengths.now }
 {
-    let mut i = 0usize;
-    while i < lengths.len() {
-        if MOST_BLOCK < lengths[i] {
-            return false;
-        }
-        i += 1;
-    }
-    true
+    lengths.iter().all(|length| *length <= MOST_BLOCK)
 }
 
+#[tactic(auto, unfolding(crate::specs::Plan::lists_fine))]
 pub(crate) fn lists_fine(
     pieces: &[usize],
     spans: &[usize],
@@ -29,21 +23,11 @@ pub(crate) fn lists_fine(
 ) -> bool
     ensures { result ≡ P.lists_fine pieces.now spans.now taken_places written_places }
 {
-    let n = pieces.len();
-    if spans.len() != n {
-        return false;
-    }
-    if taken_places != n {
-        return false;
-    }
-    if written_places != n {
-        return false;
-    }
-    if MOST_CALLS < n {
-        return false;
-    }
-    if !lengths_fine(pieces) {
-        return false;
-    }
-    lengths_fine(spans)
+    let calls = pieces.len();
+    spans.len() == calls
+        && taken_places == calls
+        && written_places == calls
+        && calls <= MOST_CALLS
+        && lengths_fine(pieces)
+        && lengths_fine(spans)
 }

@@ -9,7 +9,7 @@ use lib.IntN.{ℤ, pos, negsuc, nat_abs, ◌*ℤ◌, ◌+ℤ◌, ◌-ℤ◌}
 use lib.Signed.{lt_z, non_neg}
 use mir.Syntax.{w16, w32, w64}
 use mir.Val.{SFits, Fits}
-use Rattle.theory.proofs.Integers.{up, dn, fits_of, fits_is, mul_is, mul_within, add_is, sub_is_ℤ, floor, lt_true}
+use Rattle.theory.proofs.Integers.{up, dn, fits_of, fits_is, mul_is, add_is, sub_is_ℤ, floor, lt_true}
 use Rattle.q15.specs.ResampleLinear.{part_of, between}
 use Rattle.q15.proofs.Sums.{both}
 
@@ -24,12 +24,6 @@ module _ (d : ℤ) (frac : ℕ) (l : frac < 65536) where
       let u = f.is in
       let v = f.below in
       (omega arith, omega arith)
-
-  pub product_fits : (up d ≤ 65535) × (dn d ≤ 65535) → SFits w64 (d *ℤ pos frac)
-  product_fits h = let m = mul_within 65535 65536 d (pos frac) h (omega arith, omega arith) in fits_of (d *ℤ pos frac) (omega (arith, m))
-
-  pub part_fits : (up d ≤ 65535) × (dn d ≤ 65535) → SFits w64 (part_of d frac)
-  part_fits h = fits_of (part_of d frac) (omega (arith, part_within))
 
 module _ (a b : ℤ) (f : SFits w16 a) (g : SFits w16 b) where
   pub between_fits : (frac : ℕ) → frac < 65536 → SFits w16 (between a b frac)

@@ -1,5 +1,5 @@
 -- A span that is filled with sums, cut, from the front, and the count of those that were cut: it is the count of the sums so far, which a list joined to another adds to.
-use mathlib.Core.Path.{◌≡◌, refl, sym, ap, ◌∙◌}
+use mathlib.Core.Path.{◌≡◌, refl, sym, ap, ap₂, ◌∙◌}
 use mathlib.Core.Bool.{Bool, true, false, cond}
 use mathlib.Core.List.{List, [], ◌∷◌, ◌++◌}
 use Prim.Native.Nat.{ℕ, suc, ◌+◌, ◌≤◌, ◌<◌, min}
@@ -7,14 +7,16 @@ use native.Mathlib.Nat.{add_assoc, add-zero}
 use native.Mathlib.Numerals.{add-one}
 use native.Mathlib.Omega.{arith}
 use lib.IntN.{ℤ}
-use lib.ListN.{length, set, drop}
+use lib.ListN.{length, set, take, drop}
+use lib.Seq.{length-take-le}
 use mir.Syntax.{w16}
-use Rattle.refusal.specs.Outcome.{Answer}
+use mir.Val.{bool_byte}
+use borrow.Rule.Slice.PartMut.{put_mid}
 use Rattle.theory.specs.Lists.{listed}
 use Rattle.theory.proofs.Listed.{length_listed}
 use Rattle.q15.specs.Fixed.{cut, is_cut, cut_one, cut_count}
-use Rattle.q15.specs.Block.{block_answer, block_span, block_cuts}
-use Rattle.q15.proofs.Filling.{Filled, none_filled, next_filled, all_filled, listed_more, least_listed, block_filled}
+use Rattle.q15.specs.Block.{block_span, block_cuts}
+use Rattle.q15.proofs.Filling.{Filled, none_filled, next_filled, all_filled, whole_filled, more_filled, listed_more, least_listed, block_filled}
 
 -- a list joined to another
 pub count_append : (k l : List ℤ) → cut_count w16 (k ++ l) ≡ cut_count w16 k + cut_count w16 l
@@ -28,6 +30,15 @@ count_few (z ∷ l) = go (is_cut w16 z) (count_few l)
     go : (b : Bool) → cut_count w16 l ≤ length l → cond b 1 0 + cut_count w16 l ≤ suc (length l)
     go true h = omega arith
     go false h = omega arith
+
+-- a flag as a number
+pub byte_one : (b : Bool) → bool_byte b ≡ cond b 1 0
+byte_one true = refl
+byte_one false = refl
+
+byte_most : (b : Bool) → bool_byte b ≤ 1
+byte_most true = omega arith
+byte_most false = omega arith
 
 -- sums by index: no more are cut than there are, one more of them, m more
 pub listed_few : (n : ℕ) (g : ℕ → ℤ) → cut_count w16 (listed n g) ≤ n
@@ -66,6 +77,25 @@ module _ (g : ℕ → ℤ) (d : List ℤ) where
         counted = n ∙ ap (λ (x : Bool). cuts + cond x 1 0) h ∙ ap (λ (k : ℕ). k + cut_one w16 (g i)) f.counted ∙ sym (listed_next i g);
       }
 
+  -- the same, where a flag is added as a number
+  pub few_flagged : (count : ℕ) (e : List ℤ) (i cuts : ℕ) (b : Bool) → CutFilled count e i cuts → cuts + bool_byte b ≤ i + 1
+  few_flagged count e i cuts b f = let h : bool_byte b ≤ 1 = byte_most b in omega (arith, h, few_cut count e i cuts f)
+
+  pub next_flagged :
+      (count : ℕ) (e : List ℤ) (i cuts : ℕ) (v : ℤ) (b : Bool) (k : ℕ) → i < count → count ≤ length d → v ≡ cut w16 (g i) → b ≡ is_cut w16 (g i)
+      → k ≡ bool_byte b → CutFilled count e i cuts → CutFilled count (set e i v) (i + 1) (cuts + k)
+  next_flagged count e i cuts v b k l m q h n f = next_cut count e i cuts v b (cuts + k) l m q h (ap (λ (x : ℕ). cuts + x) (n ∙ byte_one b)) f
+
+  -- m more go in behind those that stand there
+  pub more_cut :
+      (count : ℕ) (e : List ℤ) (i m cuts : ℕ) (part : List ℤ) (k : ℕ) → i + m ≤ count → count ≤ length d → part ≡ listed m (λ k. cut w16 (g (i + k)))
+      → k ≡ cut_count w16 (listed m (λ k. g (i + k))) → CutFilled count e i cuts → CutFilled count (put_mid i m e part) (i + m) (cuts + k)
+  more_cut count e i m cuts part k l n q h f =
+      record {
+        filled = more_filled (λ k. cut w16 (g k)) d count e i m part l n f.filled q;
+        counted = ap₂ {C = ℕ} (λ (x y : ℕ). x + y) f.counted h ∙ sym (listed_joined i m g);
+      }
+
   pub all_cut :
       (count : ℕ) (e : List ℤ) (i cuts : ℕ) → count ≤ i → CutFilled count e i cuts
       → (e ≡ listed count (λ k. cut w16 (g k)) ++ drop count d) × (cuts ≡ cut_count w16 (listed count g))
@@ -73,11 +103,19 @@ module _ (g : ℕ → ℤ) (d : List ℤ) where
       let q : i ≡ count = omega (arith, f.filled.within) in
       (all_filled (λ k. cut w16 (g k)) d count e i l f.filled, f.counted ∙ ap (λ (n : ℕ). cut_count w16 (listed n g)) q)
 
--- the answer, the span and the count of a block that no row turned back
+  -- the whole span
+  pub whole_cut :
+      (e : List ℤ) (i cuts : ℕ) → length d ≤ i → CutFilled (length d) e i cuts
+      → (e ≡ listed (length d) (λ k. cut w16 (g k))) × (cuts ≡ cut_count w16 (listed (length d) g))
+  whole_cut e i cuts l f = (whole_filled (λ k. cut w16 (g k)) d e i l f.filled, (all_cut (length d) e i cuts l f).1)
+
+-- the span and the count of a block that no row turned back, whose first k places were lent to be filled
 pub block_cut :
-    (number n count k cuts : ℕ) (g : ℕ → ℤ) (d e : List ℤ) → number ≡ 0 → count ≡ min (length d) n → k ≡ count
-    → e ≡ listed k (λ i. cut w16 (g i)) ++ drop k d → cuts ≡ cut_count w16 (listed k g)
-    → (◌≡◌ {A = Answer ℕ} (record { number = 0; value = k }) (block_answer number count)) × ((e ≡ block_span number (listed n (λ i. cut w16 (g i))) d) × (cuts ≡ block_cuts number (listed n g) d))
-block_cut number n count k cuts g d e z m h f q =
-    let b = block_filled number n count k (λ i. cut w16 (g i)) d e z m h f in
-    (b.0, (b.1, rw z (q ∙ ap (λ (i : ℕ). cut_count w16 (listed i g)) (h ∙ m) ∙ ap (cut_count w16) (sym (least_listed g (length d) n)))))
+    (number n k : ℕ) (g : ℕ → ℤ) (d part : List ℤ) (cuts : ℕ) → 0 ≡ number → k ≡ min (length d) n
+    → part ≡ listed (length (take k d)) (λ i. cut w16 (g i)) → cuts ≡ cut_count w16 (listed (length (take k d)) g)
+    → (part ++ drop k d ≡ block_span number (listed n (λ i. cut w16 (g i))) d) × (cuts ≡ block_cuts number (listed n g) d)
+block_cut number n k g d part cuts z m h q =
+    let l : length (take k d) ≡ k = length-take-le k d (omega (arith, m)) in (
+      block_filled number n k (λ i. cut w16 (g i)) d part (sym z) m (h ∙ ap (λ (i : ℕ). listed i (λ j. cut w16 (g j))) l),
+      rw (← z) (q ∙ ap (λ (i : ℕ). cut_count w16 (listed i g)) (l ∙ m) ∙ ap (cut_count w16) (sym (least_listed g (length d) n))),
+    )

@@ -1,5 +1,5 @@
 -- A span that is filled from the front: i outputs stand there, and the rest is as it was.
-use mathlib.Core.Path.{◌≡◌, refl, sym, ap, ◌∙◌}
+use mathlib.Core.Path.{◌≡◌, refl, sym, ap, ap₂, ◌∙◌}
 use mathlib.Core.List.{List, [], ◌∷◌, ◌++◌, append-nil, append_assoc}
 use Prim.Native.Nat.{ℕ, zero, suc, ◌+◌, ◌-◌, ◌≤◌, ◌<◌, min}
 use native.Mathlib.Decide.{dec_le}
@@ -9,10 +9,10 @@ use native.Mathlib.Omega.{arith}
 use lib.IntN.{ℤ}
 use lib.ListN.{length, get_or, set, take, drop, replicate, length-set, length-append, length-drop, length-replicate, replicate-append-replicate, drop_of_length-le}
 use lib.Seq.{drop-cons, drop-length, drop-drop, take_at, set_at, append_snoc, take-suc, take_all, take-append-le, drop_at}
-use Rattle.refusal.specs.Outcome.{Answer}
+use borrow.Rule.Slice.PartMut.{put_mid}
 use Rattle.theory.specs.Lists.{listed}
 use Rattle.theory.proofs.Listed.{length_listed}
-use Rattle.q15.specs.Block.{written, block_answer, block_span}
+use Rattle.q15.specs.Block.{written, block_span}
 
 -- i outputs, and m after them
 pub listed_more : {A : Type 0} (g : ℕ → A) (i m : ℕ) → listed i g ++ listed m (λ k. g (i + k)) ≡ listed (i + m) g
@@ -52,22 +52,20 @@ module _ {A : Type 0} (g : ℕ → A) (d : List A) where
       let q : i ≡ count = omega (arith, f.within) in
       f.is ∙ ap (λ (n : ℕ). listed n g ++ drop n d) q
 
-  -- m outputs go into the rest of the span, after those that stand there
+  -- the whole span
+  pub whole_filled : (e : List A) (i : ℕ) → length d ≤ i → Filled (length d) e i → e ≡ listed (length d) g
+  whole_filled e i l f = all_filled (length d) e i l f ∙ ap (λ (r : List A). listed (length d) g ++ r) (drop-length d) ∙ append-nil (listed (length d) g)
+
+  -- m outputs go in behind those that stand there
   pub more_filled :
-      (count : ℕ) (e : List A) (i m : ℕ) (part : List A) → i + m ≤ count → count ≤ length d → Filled count e i
-      → part ≡ listed m (λ k. g (i + k)) ++ drop m (take (length e - i) (drop i e))
-      → Filled count (take i e ++ (part ++ drop (length e - i) (drop i e))) (i + m)
+      (count : ℕ) (e : List A) (i m : ℕ) (part : List A) → i + m ≤ count → count ≤ length d → Filled count e i → part ≡ listed m (λ k. g (i + k))
+      → Filled count (put_mid i m e part) (i + m)
   more_filled count e i m part l n f q =
       let t : take i e ≡ listed i g = ap (take i) f.is ∙ take_at (listed i g) (drop i d) i (length_listed i g) in
       let r : drop i e ≡ drop i d = ap (drop i) f.is ∙ drop_at (listed i g) (drop i d) i (length_listed i g) in
-      let all : length (drop i e) ≤ length e - i = omega (arith, length-drop i e) in
-      let p : part ≡ listed m (λ k. g (i + k)) ++ drop m (drop i d) =
-      q ∙ ap (λ (x : List A). listed m (λ k. g (i + k)) ++ drop m x) (take_all (length e - i) (drop i e) all ∙ r)
-      in
-      let whole : take i e ++ (part ++ drop (length e - i) (drop i e)) ≡ listed (i + m) g ++ drop (i + m) d =
-      ap (λ (x : List A). take i e ++ (part ++ x)) (drop_of_length-le (drop i e) all)
-      ∙ ap (λ (x : List A). take i e ++ x) (append-nil part ∙ p)
-      ∙ ap (λ (x : List A). x ++ (listed m (λ k. g (i + k)) ++ drop m (drop i d))) t
+      let whole : put_mid i m e part ≡ listed (i + m) g ++ drop (i + m) d =
+      ap₂ {C = List A} (λ (x y : List A). x ++ (y ++ drop m (drop i e))) t q
+      ∙ ap (λ (x : List A). listed i g ++ (listed m (λ k. g (i + k)) ++ drop m x)) r
       ∙ sym (append_assoc (listed i g) (listed m (λ k. g (i + k))) (drop m (drop i d)))
       ∙ ap (λ (x : List A). x ++ drop m (drop i d)) (listed_more g i m)
       ∙ ap (λ (x : List A). listed (i + m) g ++ x) (drop-drop m i d)
@@ -116,14 +114,20 @@ filled_written n g d = elim (dec_le (length d) n) [
       ∙ ap (λ (k : ℕ). take (length d) (listed n g) ++ drop k d) (sym (length_listed n g)))
 ]
 
--- the answer and the span of a block that no row turned back
+-- the span of a block that no row turned back
 pub block_filled :
-    (number n count k : ℕ) (g : ℕ → ℤ) (d e : List ℤ) → number ≡ 0 → count ≡ min (length d) n → k ≡ count → e ≡ listed k g ++ drop k d
-    → (◌≡◌ {A = Answer ℕ} (record { number = 0; value = k }) (block_answer number count)) × (e ≡ block_span number (listed n g) d)
-block_filled number n count k g d e z m h f =
+    (number n k : ℕ) (g : ℕ → ℤ) (d part : List ℤ) → number ≡ 0 → k ≡ min (length d) n → part ≡ listed k g → part ++ drop k d ≡ block_span number (listed n g) d
+block_filled number n k g d part z m h =
+    rw z (ap (λ (x : List ℤ). x ++ drop k d) h ∙ ap (λ (i : ℕ). listed i g ++ drop i d) m ∙ filled_written n g d)
+
+-- the span of a block that fills it
+pub whole_written : (number : ℕ) (g : ℕ → ℤ) (d e : List ℤ) → number ≡ 0 → e ≡ listed (length d) g → e ≡ block_span number (listed (length d) g) d
+unfolding written
+whole_written number g d e z h =
     rw z (
-      ap {B = Answer ℕ} (λ (i : ℕ). record { number = 0; value = i }) h,
-      f ∙ ap (λ (i : ℕ). listed i g ++ drop i d) (h ∙ m) ∙ filled_written n g d,
+    h ∙ sym (append-nil (listed (length d) g))
+    ∙ ap₂ {C = List ℤ} (λ (x y : List ℤ). x ++ y) (sym (take_all (length d) (listed (length d) g) (omega (arith, length_listed (length d) g))))
+    (sym (drop_of_length-le d {i = length (listed (length d) g)} (omega (arith, length_listed (length d) g))))
     )
 
 -- the first n of a list, and what is left of zeros

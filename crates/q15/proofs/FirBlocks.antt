@@ -3,7 +3,7 @@
 use mathlib.Core.Path.{◌≡◌, refl, sym, ap, ap₂, ◌∙◌, subst}
 use mathlib.Core.Bool.{Bool, true, false, cond, ◌&&◌, true≢false, false≢true}
 use mathlib.Core.List.{List, [], ◌∷◌, ◌++◌, append-nil, append_assoc, map}
-use mathlib.Core.Option.{Option, none, some}
+use Rattle.std.specs.Prelude.{Option, None, Some}
 use Prim.Native.Nat.{ℕ, suc, ◌+◌, ◌*◌, ◌/◌, ◌%◌, ◌-◌, ◌≤◌, ◌<◌}
 use native.Mathlib.Nat.{zero-mul, one-mul, add-zero, sub-zero, add-mul, mul-mod_left, div-eq_of_lt-le}
 use native.Mathlib.Numerals.{add-one}
@@ -13,8 +13,11 @@ use borrow.Author.Tests.{le-leb, lt-leb, leb-true, eq-eqb, ne_eqb, le-ltb}
 use lib.IntN.{ℤ, pos}
 use lib.Dec.{leb, eqb}
 use lib.ListN.{length, get_or, set, take, drop, replicate, length-append, length-drop, take-append-drop}
-use lib.Seq.{get_or-take, get_or-drop, length-take-le, take-length, take_all, take-suc, take_at, take-append-le, take-append-add, take-append_seam, drop-append-le, drop-append-add, drop-set-lt, drop-drop, drop_at, set_split, ext_get_or}
+use lib.Seq.{get_or-take, get_or-drop, length-take-le, take-length, take_all, take-suc, take_at, take-append-le, drop-append-le, drop-append-add, drop-set-lt, drop-drop, drop_at, set_split, ext_get_or}
 use mir.Syntax.{w16}
+use mir.Val.{bool_byte}
+use borrow.Rule.Slice.PartMut.{put_mid}
+use Rattle.std.proofs.lemmas.Slice.{take-put_mid}
 use Rattle.theory.specs.Lists.{listed}
 use Rattle.theory.specs.Sections.{onto, outs, state}
 use Rattle.theory.proofs.Sections.{onto_append, state_append, outs_append}
@@ -22,11 +25,12 @@ use Rattle.theory.proofs.Listed.{collected, made_at, length_listed, map_listed}
 use Rattle.theory.proofs.Decimation.{fir_fires}
 use Rattle.q15.specs.Fixed.{cut, is_cut, cut_one, cut_count, at}
 use Rattle.q15.specs.PolyphaseDecimate.{window_sum, filtered, decimated_count}
-use Rattle.q15.specs.FirDecimator.{most_taps, fir_state, stored, moved, fir_next, fir_out, fir_sum_out, cut_in, summing, fir}
+use Rattle.q15.specs.FirDecimator.{most_taps, fir_state, stored, moved, fir_next, fir_out, fir_sum_out, cut_in, summing, fir, made_value, made_cut}
 use Rattle.q15.specs.FirBlock.{most_fir_block, block_fits, fir_block_state, fir_block_outs, fir_block_cuts, Ran, stored_run}
+use Rattle.q15.specs.declared.fixed.Cut.{Cut}
 use Rattle.q15.specs.declared.fir_decimator.FirDecimator.{FirDecimator}
 use Rattle.q15.specs.declared.fir_block.FirBlockAt.{FirBlockAt}
-use Rattle.q15.proofs.CutFilling.{count_append}
+use Rattle.q15.proofs.CutFilling.{count_append, byte_one}
 use Rattle.q15.proofs.Windows.{length_stored}
 use Rattle.q15.proofs.FirSteps.{quiet, makes}
 use Rattle.q15.proofs.FirStream.{outs_by, length_snoc, base, Held, more, rests, held_next, held_out, opened, last_sum, summed, off, off_sums, cut_sums}
@@ -51,11 +55,8 @@ Answers s xs dst r after span =
     (after ≡ fir_block_state s xs (length dst))
     × (((r.made ≡ length (fir_block_outs s xs (length dst))) × (span ≡ fir_block_outs s xs (length dst) ++ drop r.made dst)) × (r.cuts ≡ fir_block_cuts s xs (length dst)))
 
-pub taken : (s : FirDecimator) (xs dst : List ℤ) (r : FirBlockAt) (after : FirDecimator) (span : List ℤ) → block_fits (length xs) (length dst) ≡ true → Ran s xs dst r after span → Answers s xs dst r after span
+taken : (s : FirDecimator) (xs dst : List ℤ) (r : FirBlockAt) (after : FirDecimator) (span : List ℤ) → block_fits (length xs) (length dst) ≡ true → Ran s xs dst r after span → Answers s xs dst r after span
 taken s xs dst r after span e h = rw e (h.0, ((h.1, h.2), h.3))
-
-pub not_taken : (s : FirDecimator) (xs dst : List ℤ) (w : ℕ) → block_fits (length xs) (length dst) ≡ false → Answers s xs dst (record { made = 0; cuts = 0; wait = w }) s dst
-not_taken s xs dst w e = rw e (refl, ((refl, refl), refl))
 
 -- ---- off
 off_state : (w : List ℤ) (s : FirDecimator) → s.tap_count ≡ 0 → state fir s w ≡ s
@@ -63,15 +64,16 @@ unfolding fir_next
 off_state [] s e = refl
 off_state (a ∷ w) s e = rw (eq-eqb s.tap_count 0 e) (off_state w s e)
 
-pub off_ran :
-    (s : FirDecimator) (xs dst span : List ℤ) (w : ℕ) → s.tap_count ≡ 0 → span ≡ take (length xs) xs ++ drop (length xs) dst
-    → Ran s xs dst (record { made = length xs; cuts = 0; wait = w }) s span
-off_ran s xs dst span w e h = (
-  sym (off_state xs s e),
-  sym (ap length (off xs s e)),
-  h ∙ ap (λ (x : List ℤ). x ++ drop (length xs) dst) (take-length xs ∙ sym (off xs s e)),
-  sym (ap (cut_count w16) (off_sums xs s e)),
-)
+pub off_taken :
+    (s : FirDecimator) (xs dst front : List ℤ) (w : ℕ) → true ≡ block_fits (length xs) (length dst) → s.tap_count ≡ 0 → front ≡ xs
+    → Answers s xs dst (record { made = length xs; cuts = 0; wait = w }) s (front ++ drop (length xs) dst)
+off_taken s xs dst front w fits e h =
+    taken s xs dst (record { made = length xs; cuts = 0; wait = w }) s (front ++ drop (length xs) dst) (sym fits) (
+      sym (off_state xs s e),
+      sym (ap length (off xs s e)),
+      ap (λ (x : List ℤ). x ++ drop (length xs) dst) (h ∙ sym (off xs s e)),
+      sym (ap (cut_count w16) (off_sums xs s e)),
+    )
 
 -- ---- sample by sample
 -- the sums are made by the same states
@@ -81,23 +83,23 @@ same_state s (a ∷ w) = same_state (fir_next s a) w
 
 -- what one sample makes, as a list
 one_cut : (o : Option ℤ) → cut_count w16 (onto o []) ≡ cond (cut_in o) 1 0
-one_cut none = refl
-one_cut (some z) = add-zero (cut_one w16 z)
+one_cut None = refl
+one_cut (Some z) = add-zero (cut_one w16 z)
 
 one_most : (o : Option ℤ) → length (onto o []) ≤ 1
-one_most none = omega arith
-one_most (some z) = omega arith
+one_most None = omega arith
+one_most (Some z) = omega arith
 
 flag_most : (b : Bool) → cond b 1 0 ≤ 1
 flag_most true = omega arith
 flag_most false = omega arith
 
 -- it stands at its place
-pub put_none : (d : List ℤ) (i : ℕ) (o : Option ℤ) → o ≡ none → (i ≡ i + length (onto o [])) × (d ≡ take i d ++ (onto o [] ++ drop i d))
+put_none : (d : List ℤ) (i : ℕ) (o : Option ℤ) → o ≡ None → (i ≡ i + length (onto o [])) × (d ≡ take i d ++ (onto o [] ++ drop i d))
 put_none d i o e = rw e (sym (add-zero i), sym (take-append-drop i d))
 
-pub put_value :
-    (d : List ℤ) (i : ℕ) (o : Option ℤ) (y v : ℤ) → i < length d → o ≡ some y → v ≡ y
+put_value :
+    (d : List ℤ) (i : ℕ) (o : Option ℤ) (y v : ℤ) → i < length d → o ≡ Some y → v ≡ y
     → (i + 1 ≡ i + length (onto o [])) × (set d i v ≡ take i d ++ (onto o [] ++ drop (i + 1) d))
 put_value d i o y v l e f = rw (e, f) (refl, set_split d i y l ∙ ap (λ (k : ℕ). take i d ++ (y ∷ drop k d)) (sym (add-one i)))
 
@@ -113,10 +115,7 @@ module _ (s : FirDecimator) (xs dst : List ℤ) where
     pub few_cuts : cuts ≤ i
     pub long : length span ≡ length dst
 
-  pub none_taken : Taken s dst 0 0 0
-  none_taken = record { within = omega arith; state_is = refl; made_is = refl; span_is = refl; cuts_is = refl; few = omega arith; few_cuts = omega arith; long = refl }
-
-  pub next_taken :
+  next_taken :
       (after : FirDecimator) (span : List ℤ) (i made cuts : ℕ) (x : ℤ) (o : Option ℤ) (k : Bool) (after' : FirDecimator) (span' : List ℤ) (made' cuts' : ℕ)
       → i < length xs → length xs ≤ length dst → x ≡ at xs i → o ≡ fir_out after x → after' ≡ fir_next after x → k ≡ cut_in (fir_sum_out after x)
       → made' ≡ made + length (onto o []) → span' ≡ take made span ++ (onto o [] ++ drop made' span) → cuts' ≡ cuts + cond k 1 0
@@ -175,6 +174,29 @@ module _ (s : FirDecimator) (xs dst : List ℤ) where
           ∙ sym (count_append (outs summing s front) (onto (fir_sum_out (state summing s front) y) []))
           ∙ ap (cut_count w16) (sym (outs_append summing s front (y ∷ [])) ∙ ap (outs summing s) (sym snoc))
 
+  -- a sample of which nothing comes, and one that makes an output
+  pub quiet_taken :
+      (after : FirDecimator) (span : List ℤ) (i made cuts : ℕ) (x : ℤ) (m : Option Cut) (after' : FirDecimator) (span' : List ℤ) (made' cuts' : ℕ)
+      → i < length xs → length xs ≤ length dst → x ≡ at xs i → m ≡ None
+      → made_value m ≡ fir_out after x → after' ≡ fir_next after x → made_cut m ≡ cut_in (fir_sum_out after x)
+      → made' ≡ made → span' ≡ span → cuts' ≡ cuts → Taken after span i made cuts → Taken after' span' (i + 1) made' cuts'
+  quiet_taken after span i made cuts x m after' span' made' cuts' l room e is out next cut f g k h =
+      let p = put_none span made (made_value m) (ap made_value is) in
+      next_taken after span i made cuts x (made_value m) (made_cut m) after' span' made' cuts' l room e out next cut (f ∙ p.0)
+      (g ∙ p.1 ∙ ap (λ (n : ℕ). take made span ++ (onto (made_value m) [] ++ drop n span)) (sym f))
+      (k ∙ sym (add-zero cuts) ∙ ap (λ (q : Option Cut). cuts + cond (made_cut q) 1 0) (sym is)) h
+
+  pub value_taken :
+      (after : FirDecimator) (span : List ℤ) (i made cuts : ℕ) (x : ℤ) (m : Option Cut) (y : Cut) (v : ℤ) (n : ℕ) (after' : FirDecimator) (span' : List ℤ) (made' cuts' : ℕ)
+      → i < length xs → length xs ≤ length dst → x ≡ at xs i → m ≡ Some y → v ≡ y.value.0 → n ≡ bool_byte y.cut
+      → made_value m ≡ fir_out after x → after' ≡ fir_next after x → made_cut m ≡ cut_in (fir_sum_out after x)
+      → made' ≡ made + 1 → span' ≡ set span made v → cuts' ≡ cuts + n → Taken after span i made cuts → Taken after' span' (i + 1) made' cuts'
+  value_taken after span i made cuts x m y v n after' span' made' cuts' l room e is value count out next cut f g k h =
+      let p = put_value span made (made_value m) y.value.0 v (omega (arith, h.few, h.long)) (ap made_value is) value in
+      next_taken after span i made cuts x (made_value m) (made_cut m) after' span' made' cuts' l room e out next cut (f ∙ p.0)
+      (g ∙ p.1 ∙ ap (λ (n : ℕ). take made span ++ (onto (made_value m) [] ++ drop n span)) (sym f))
+      (k ∙ ap (λ (n : ℕ). cuts + n) (count ∙ byte_one y.cut) ∙ ap (λ (q : Option Cut). cuts + cond (made_cut q) 1 0) (sym is)) h
+
   pub all_taken : (after : FirDecimator) (span : List ℤ) (i made cuts w : ℕ) → length xs ≤ i → Taken after span i made cuts → Ran s xs dst (record { made = made; cuts = cuts; wait = w }) after span
   all_taken after span i made cuts w l h =
       let e : i ≡ length xs = omega (arith, h.within) in
@@ -193,14 +215,23 @@ collected_append made u (a ∷ v) w =
     ∙ onto_append (made (u ++ (a ∷ []))) (collected made (u ++ (a ∷ [])) v) (collected made (u ++ (a ∷ v)) w)
 
 -- one sample more
-pub stored_snoc : (T w : ℕ) (xs : List ℤ) (x : ℤ) (d : List ℤ) → stored_run T w (xs ++ (x ∷ [])) d ≡ stored T (w - length xs) x (stored_run T w xs d)
+stored_snoc : (T w : ℕ) (xs : List ℤ) (x : ℤ) (d : List ℤ) → stored_run T w (xs ++ (x ∷ [])) d ≡ stored T (w - length xs) x (stored_run T w xs d)
 stored_snoc T w [] x d = ap (λ (i : ℕ). stored T i x d) (sym (sub-zero w))
 stored_snoc T w (y ∷ xs) x d =
     let e : w - 1 - length xs ≡ w - suc (length xs) = omega arith in
     stored_snoc T (w - 1) xs x (stored T w y d) ∙ ap (λ (i : ℕ). stored T i x (stored_run T (w - 1) xs (stored T w y d))) e
 
+pub stored_more :
+    (T w i : ℕ) (xs d e : List ℤ) → i < length xs → e ≡ stored_run T w (take i xs) d
+    → stored T (w - i) (at xs i) e ≡ stored_run T w (take (i + 1) xs) d
+stored_more T w i xs d e l h =
+    let n : length (take i xs) ≡ i = length-take-le i xs (omega arith) in
+    ap₂ {C = List ℤ} (λ (k : ℕ) (x : List ℤ). stored T (w - k) (at xs i) x) (sym n) h
+    ∙ sym (stored_snoc T w (take i xs) (at xs i) d)
+    ∙ ap (λ (x : List ℤ). stored_run T w x d) (sym (take-suc xs i (pos 0) l) ∙ ap (λ (k : ℕ). take k xs) (sym (add-one i)))
+
 -- no sum comes of a sample before the one that the wait is for
-no_sum : (c : List ℤ) (T D : ℕ) (d : List ℤ) (w : ℕ) (x : ℤ) → (T ≡ 0 → ⊥) → T ≤ most_taps → 1 < w → fir_sum_out (fir_state c T D d w) x ≡ none
+no_sum : (c : List ℤ) (T D : ℕ) (d : List ℤ) (w : ℕ) (x : ℤ) → (T ≡ 0 → ⊥) → T ≤ most_taps → 1 < w → fir_sum_out (fir_state c T D d w) x ≡ None
 unfolding fir_sum_out
 no_sum c T D d w x n t l = rw (ne_eqb T 0 n, le-ltb most_taps T t, lt-leb w 1 l)
 
@@ -466,15 +497,11 @@ module _ (c : List ℤ) (T D : ℕ) (pt : 0 < T) (small : T ≤ most_taps) (pd :
       g.2 ∙ ap (cut_count w16) tape_sums,
     )
 
--- the tape, when the window's first samples are put in front and the block behind them
-pub on_tape :
-    (d src tape zeros mid rest back : List ℤ) (kept : ℕ) → kept ≤ length d → tape ≡ take kept d ++ zeros → mid ≡ take (length src) src ++ rest
-    → take (kept + length src) (take kept tape ++ (mid ++ back)) ≡ take kept d ++ src
-on_tape d src tape zeros mid rest back kept l e f =
-    let A : List ℤ = take kept d in
-    let long : length (take kept d) ≡ kept = length-take-le kept d l in
-    let count : kept + length src ≡ length (take kept d) + length src = omega (arith, long) in
-    ap₂ {C = List ℤ} (λ (x y : List ℤ). take (kept + length src) (x ++ (y ++ back))) (ap (take kept) e ∙ take_at A zeros kept long) (f ∙ ap (λ (x : List ℤ). x ++ rest) (take-length src))
-    ∙ ap (λ (n : ℕ). take n (A ++ ((src ++ rest) ++ back))) count
-    ∙ take-append-add A ((src ++ rest) ++ back) (length src)
-    ∙ ap (λ (x : List ℤ). A ++ x) (ap (take (length src)) (append_assoc src rest back) ∙ take-append_seam src (rest ++ back))
+-- the tape, with the window's first samples in front and the block behind them
+pub tape_laid :
+    (d zeros front ys src : List ℤ) (kept k : ℕ) → kept ≤ length d → front ≡ take kept d → ys ≡ src
+    → take (kept + length src) (put_mid kept k (front ++ zeros) ys) ≡ take kept d ++ src
+tape_laid d zeros front ys src kept k l e f =
+    let n : length front ≡ kept = ap length e ∙ length-take-le kept d l in
+    take-put_mid kept k (front ++ zeros) ys (kept + length src) (ap (λ (m : ℕ). kept + m) (ap length (sym f))) (omega (arith, length-append front zeros, n))
+    ∙ ap₂ {C = List ℤ} (λ (x y : List ℤ). x ++ y) (take_at front zeros kept n ∙ e) f

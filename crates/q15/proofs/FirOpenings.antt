@@ -1,21 +1,19 @@
 -- An opening that is not refused is good for every stream: its state is valid and makes section 3 of any list; a refused one is all zeros.
-use mathlib.Core.Path.{◌≡◌, refl, sym, ap, ◌∙◌}
-use mathlib.Core.Bool.{true}
+use mathlib.Core.Path.{◌≡◌, refl, ap, ◌∙◌}
+use mathlib.Core.Bool.{Bool, true, false, cond}
 use mathlib.Core.List.{List}
 use Prim.Native.Nat.{ℕ, zero, suc, ◌≤◌}
 use native.Mathlib.Decide.{dec_le}
 use native.Mathlib.Omega.{arith}
 use borrow.Author.Tests.{eq-eqb, ne_eqb}
 use lib.IntN.{ℤ}
-use lib.ListN.{length}
-use Rattle.refusal.specs.declared.Refusal.{Refusal}
-use Rattle.refusal.specs.Table.{number_of}
+use lib.ListN.{length, take}
+use lib.Seq.{length-take-le}
 use Rattle.refusal.specs.Outcome.{Opened}
-use Rattle.q15.specs.FirDecimator.{fir_zeros, settings_number, settings_number_in_line, fir_valid_in_line, valid, valid_in_line, fresh, fresh_in_line, opened_by, fir_opened, Streams}
+use Rattle.q15.specs.FirDecimator.{fir_zeros, most_taps, settings_number, settings_number_in_line, fir_valid_in_line, valid, valid_in_line, fresh, fresh_in_line, opened_by, fir_opened, fir_reset, Streams}
 use Rattle.q15.specs.declared.fir_decimator.FirDecimator.{FirDecimator}
 use Rattle.q15.proofs.Rounding.{rounded}
-use Rattle.q15.proofs.Rows.{turned, not_zero}
-use Rattle.q15.proofs.FirSteps.{settings_in_lem, line_settings, on_valid, valid_in_line_lem, outs_steps, never_refused}
+use Rattle.q15.proofs.FirSteps.{settings_in_lem, valid_on, line_settings, on_valid, valid_in_line_lem, outs_steps, never_refused}
 use Rattle.q15.proofs.FirStream.{fresh_streamed, fresh_flagged}
 
 module _ (c : List ℤ) (D : ℕ) where
@@ -59,17 +57,22 @@ module _ (c : List ℤ) (D : ℕ) where
         never_refused = never_refused (fresh c D) v;
       }
 
-  -- the two ways of an opening
-  pub opening_refused :
-      (q : Refusal) (s : FirDecimator) → number_of q ≡ settings_number (length c) D → s ≡ fir_zeros
-      → (◌≡◌ {A = Opened FirDecimator} (record { number = number_of q; state = s }) (fir_opened c D)) × (number_of q ≡ 0 → Streams c D s)
-  opening_refused q s e z = (
-    ap {B = Opened FirDecimator} (λ (r : FirDecimator). record { number = number_of q; state = r }) (z ∙ sym (ap (λ (n : ℕ). opened_by n c D) (turned _ q e)))
-        ∙ ap {B = Opened FirDecimator} (λ (n : ℕ). record { number = n; state = opened_by (settings_number (length c) D) c D }) e,
-    (λ n. absurd (not_zero _ q e (sym e ∙ n))),
-  )
+  pub few_taps : settings_number (length c) D ≡ 0 → length c ≤ most_taps
+  few_taps e = (settings_in_lem (length c) D e).few
 
-  pub opening_taken :
-      (s : FirDecimator) → settings_number (length c) D ≡ 0 → s ≡ fresh c D
-      → (◌≡◌ {A = Opened FirDecimator} (record { number = 0; state = s }) (fir_opened c D)) × (◌≡◌ {A = ℕ} 0 0 → Streams c D s)
-  opening_taken s e f = rw (e, f) (refl, (λ z. fresh_streams e))
+-- row 15 that does not apply
+row_passed : (b : Bool) → ◌≡◌ {A = ℕ} 0 (cond b 0 15) → b ≡ true
+row_passed true e = refl
+row_passed false e = absurd (omega (arith, e))
+
+module _ (s : FirDecimator) (e : ◌≡◌ {A = ℕ} 0 (cond (valid s) 0 15)) where
+  pub valid_taps : s.tap_count ≤ most_taps
+  valid_taps = (valid_on _ _ _ (row_passed (valid s) e)).within.few
+
+  -- a reset of a valid state is an opening that is not refused
+  pub reset_is : length s.taps ≡ most_taps → ◌≡◌ {A = Opened FirDecimator} (record { number = 0; state = fresh (take s.tap_count s.taps) s.factor }) (fir_reset s)
+  reset_is l =
+      let v = row_passed (valid s) e in
+      let n : length (take s.tap_count s.taps) ≡ s.tap_count = length-take-le s.tap_count s.taps (omega (arith, l, valid_taps)) in
+      let z : settings_number (length (take s.tap_count s.taps)) s.factor ≡ 0 = ap (λ (k : ℕ). settings_number k s.factor) n ∙ (valid_on _ _ _ v).settings in
+      rw v (rw z)

@@ -1,8 +1,8 @@
--- One sample of the streaming FIR: the four ways it goes, and that a valid state stays valid, so that no sample after an opening is refused.
+-- One sample of the streaming FIR: what the section makes of it, and that a valid state stays valid, so that no sample after an opening is refused.
 use mathlib.Core.Path.{◌≡◌, refl, ap, ◌∙◌, subst}
 use mathlib.Core.Bool.{Bool, true, false, not, ◌&&◌, cond, true≢false, false≢true}
 use mathlib.Core.List.{List, [], ◌∷◌}
-use mathlib.Core.Option.{Option, none, some}
+use Rattle.std.specs.Prelude.{Option, None, Some}
 use Prim.Native.Nat.{ℕ, ◌-◌, ◌≤◌, ◌<◌, max}
 use native.Mathlib.Decide.{dec_le}
 use native.Mathlib.Omega.{arith}
@@ -20,29 +20,25 @@ use Rattle.q15.specs.FirDecimator.{most_taps, fir_state, stored, moved, fir_next
 use Rattle.q15.specs.declared.fir_decimator.FirDecimator.{FirDecimator}
 use Rattle.refusal.proofs.Limits.{within}
 
--- what the section makes of a sample, and whether that was cut: off, over the most taps, still waiting, and with the sample that the wait was for
+-- what the section makes of a sample, and whether that was cut: off, still waiting, and with the sample that the wait was for
 module _ (c : List ℤ) (T D : ℕ) (d : List ℤ) (w : ℕ) (x : ℤ) where
-  pub off : T ≡ 0 → (some x ≡ fir_out (fir_state c T D d w) x) × ((fir_state c T D d w ≡ fir_next (fir_state c T D d w) x) × (false ≡ cut_in (fir_sum_out (fir_state c T D d w) x)))
+  pub off : T ≡ 0 → (Some x ≡ fir_out (fir_state c T D d w) x) × ((fir_state c T D d w ≡ fir_next (fir_state c T D d w) x) × (false ≡ cut_in (fir_sum_out (fir_state c T D d w) x)))
   unfolding fir_out fir_next fir_sum_out
   off e = rw (eq-eqb T 0 e) (refl, (refl, refl))
 
-  pub over : (T ≡ 0 → ⊥) → most_taps < T → (none ≡ fir_out (fir_state c T D d w) x) × ((fir_state c T D d w ≡ fir_next (fir_state c T D d w) x) × (false ≡ cut_in (fir_sum_out (fir_state c T D d w) x)))
-  unfolding fir_out fir_next fir_sum_out
-  over n l = rw (ne_eqb T 0 n, lt-ltb most_taps T l) (refl, (refl, refl))
-
   pub quiet :
       (e : List ℤ) → e ≡ stored T w x d → (T ≡ 0 → ⊥) → T ≤ most_taps → 1 < w
-      → (none ≡ fir_out (fir_state c T D d w) x) × ((fir_state c T D e (w - 1) ≡ fir_next (fir_state c T D d w) x) × (false ≡ cut_in (fir_sum_out (fir_state c T D d w) x)))
+      → (None ≡ fir_out (fir_state c T D d w) x) × ((fir_state c T D e (w - 1) ≡ fir_next (fir_state c T D d w) x) × (false ≡ cut_in (fir_sum_out (fir_state c T D d w) x)))
   unfolding fir_out fir_next fir_sum_out
   quiet e h n t l = rw (ne_eqb T 0 n, le-ltb most_taps T t, lt-leb w 1 l) (refl, (ap (λ (p : List ℤ). fir_state c T D p (w - 1)) h, refl))
 
   pub makes :
       (e f : List ℤ) (y : ℤ) (k : Bool) → e ≡ stored T w x d → f ≡ moved T D e → (y ≡ filtered c T e 0) × (k ≡ is_cut w16 (window_sum c T e 0)) → (T ≡ 0 → ⊥) → T ≤ most_taps → w ≤ 1
-      → (some y ≡ fir_out (fir_state c T D d w) x) × ((fir_state c T D f D ≡ fir_next (fir_state c T D d w) x) × (k ≡ cut_in (fir_sum_out (fir_state c T D d w) x)))
+      → (Some y ≡ fir_out (fir_state c T D d w) x) × ((fir_state c T D f D ≡ fir_next (fir_state c T D d w) x) × (k ≡ cut_in (fir_sum_out (fir_state c T D d w) x)))
   unfolding fir_out fir_next fir_sum_out
   makes e f y k h m v n t l =
       rw (ne_eqb T 0 n, le-ltb most_taps T t, le-leb w 1 l)
-      (ap some (v.0 ∙ ap (λ (p : List ℤ). filtered c T p 0) h), (ap (λ (p : List ℤ). fir_state c T D p D) (m ∙ ap (moved T D) h), v.1 ∙ ap (λ (p : List ℤ). is_cut w16 (window_sum c T p 0)) h))
+      (ap Some (v.0 ∙ ap (λ (p : List ℤ). filtered c T p 0) h), (ap (λ (p : List ℤ). fir_state c T D p D) (m ∙ ap (moved T D) h), v.1 ∙ ap (λ (p : List ℤ). is_cut w16 (window_sum c T p 0)) h))
 
 -- settings that are not refused
 pub record SettingsIn (T D : ℕ) : Type 0 where

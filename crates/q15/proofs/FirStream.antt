@@ -3,7 +3,7 @@
 use mathlib.Core.Path.{◌≡◌, refl, sym, ap, ap₂, ◌∙◌}
 use mathlib.Core.Bool.{Bool, true, false, cond, ◌&&◌}
 use mathlib.Core.List.{List, [], ◌∷◌, ◌++◌, map}
-use mathlib.Core.Option.{Option, none, some}
+use Rattle.std.specs.Prelude.{Option, None, Some}
 use Prim.Native.Nat.{ℕ, suc, ◌+◌, ◌*◌, ◌/◌, ◌%◌, ◌-◌, ◌≤◌, ◌<◌}
 use native.Mathlib.Nat.{suc-mul, zero-mul, mul-mod_left}
 use native.Mathlib.Omega.{arith}
@@ -19,12 +19,11 @@ use Rattle.theory.specs.Sections.{Section, onto, outs}
 use Rattle.theory.proofs.Sections.{outs_off}
 use Rattle.theory.proofs.Listed.{collected, made_at, map_listed}
 use Rattle.theory.proofs.Decimation.{fir_fires, fir_one, fir_no, fir_listed}
-use Rattle.q15.specs.Fixed.{floored_product, cut, is_cut, at}
-use Rattle.q15.specs.FirSum.{fir_sum}
+use Rattle.q15.specs.Fixed.{cut, is_cut, at}
 use Rattle.q15.specs.PolyphaseDecimate.{window_sum, fir_sums, filtered, decimated_count, decimated}
 use Rattle.q15.specs.FirDecimator.{most_taps, fir_state, fir_zeros, stored, moved, fir_next, fir_out, fir_sum_out, cut_in, summing, fir, settings_number, settings_number_in_line, valid, flagged, flags, padded, fresh, fresh_in_line, fir_whole}
 use Rattle.q15.specs.declared.fir_decimator.FirDecimator.{FirDecimator}
-use Rattle.q15.proofs.Sums.{sum_ext}
+use Rattle.q15.proofs.Sums.{fir_sum_ext}
 use Rattle.q15.proofs.Filling.{listed_ext}
 use Rattle.q15.proofs.Counts.{decimated_in}
 use Rattle.q15.proofs.Windows.{length_moved, moved_at, length_stored}
@@ -39,15 +38,6 @@ module _ {S A B : Type 0} (f : Section S A B) (R : List A → S → Type 0) (mad
   outs_by v (a ∷ w) s r =
       ap (λ (o : Option B). onto o (outs f (f.next s a) w)) (out_by_lem v s a r)
       ∙ ap (onto (made (v ++ (a ∷ [])))) (outs_by (v ++ (a ∷ [])) w (f.next s a) (next_by_lem v s a r))
-
--- a sum follows from the T samples and the T taps that it is made of
-window_ext :
-    (c e : List ℤ) (T : ℕ) (s u : List ℤ) (i j : ℕ) → ((t : ℕ) → t < T → at c t ≡ at e t) → ((t : ℕ) → t < T → at s (i + t) ≡ at u (j + t))
-    → window_sum c T s i ≡ window_sum e T u j
-unfolding fir_sum
-window_ext c e T s u i j g h =
-    sum_ext T (λ t. floored_product (at s (i + t)) (at c t)) (λ t. floored_product (at u (j + t)) (at e t))
-    (λ t l. ap (λ (z : ℤ). floored_product z (at c t)) (h t l) ∙ ap (floored_product (at u (j + t))) (g t l))
 
 pub length_snoc : (v : List ℤ) (a : ℤ) → length (v ++ (a ∷ [])) ≡ suc (length v)
 length_snoc v a = let e : length (v ++ (a ∷ [])) ≡ length v + 1 = length-append v (a ∷ []) in let q : length (v ++ (a ∷ [])) ≡ suc (length v) = omega (arith, e) in q
@@ -177,18 +167,18 @@ module _ (c : List ℤ) (T D : ℕ) (pt : 0 < T) (small : T ≤ most_taps) (pd :
           let one : w ≡ 1 = omega (arith, h.places.waits) in
           let f : fir_fires T D pt pd (length u) ≡ true = ap (fir_fires T D pt pd) (length_snoc v a) ∙ fires v h.delay w h.places one in
           let e : window_sum c T (stored T w a h.delay) 0 ≡ last_sum u =
-          window_ext c c T (stored T w a h.delay) u 0 (length u - T) (λ t l. refl)
+          fir_sum_ext (λ (t : ℕ). t) c c T (stored T w a h.delay) u 0 (length u - T) (λ t l. refl)
           (λ t l.
           let z : 0 + t ≡ t = omega arith in
           let i : base (length v) + t ≡ length u - T + t = omega (arith, length_snoc v a, h.places.wait_is, one) in
           ap (at (stored T w a h.delay)) z
           ∙ more v h.delay w (base (length v)) a h.places t l (omega (arith, h.places.wait_is, one, l))
           ∙ ap (at u) i) in
-          rw (ne_eqb T 0 on, le-ltb most_taps T small, le-leb w 1 k) (ap some e ∙ sym (ap (λ (b : Bool). cond b (some (last_sum u)) none) f))
+          rw (ne_eqb T 0 on, le-ltb most_taps T small, le-leb w 1 k) (ap Some e ∙ sym (ap (λ (b : Bool). cond b (Some (last_sum u)) None) f))
       go (no k) =
           let above : 1 < w = omega arith in
           let f : fir_fires T D pt pd (length u) ≡ false = ap (fir_fires T D pt pd) (length_snoc v a) ∙ rests v h.delay w h.places above in
-          rw (ne_eqb T 0 on, le-ltb most_taps T small, lt-leb w 1 above) (sym (ap (λ (b : Bool). cond b (some (last_sum u)) none) f))
+          rw (ne_eqb T 0 on, le-ltb most_taps T small, lt-leb w 1 above) (sym (ap (λ (b : Bool). cond b (Some (last_sum u)) None) f))
 
   pub opened : Held [] (fir_state c T D (replicate most_taps (pos 0)) T)
   opened =
@@ -207,7 +197,7 @@ module _ (c : List ℤ) (T D : ℕ) (pt : 0 < T) (small : T ≤ most_taps) (pd :
       ∙ listed_ext (decimated_count T D (length w)) (λ i. last_sum (take (i * D + T) w)) (λ i. window_sum c T w (i * D))
       (λ i l.
       let n : length (take (i * D + T) w) ≡ i * D + T = length-take-le (i * D + T) w (decimated_in T D (length w) i l) in
-      window_ext c c T (take (i * D + T) w) w (length (take (i * D + T) w) - T) (i * D) (λ t h. refl)
+      fir_sum_ext (λ (t : ℕ). t) c c T (take (i * D + T) w) w (length (take (i * D + T) w) - T) (i * D) (λ t h. refl)
       (λ t h.
       let e : length (take (i * D + T) w) - T + t ≡ i * D + t = omega (arith, n) in
       ap (at (take (i * D + T) w)) e ∙ get_or-take (i * D + T) w (i * D + t) (pos 0) (omega arith)))
@@ -224,14 +214,14 @@ off_sums (a ∷ w) s e = rw (eq-eqb s.tap_count 0 e) (off_sums w s e)
 
 -- a part that is on makes the sums, cut
 abbrev cut_of : Option ℤ → Option ℤ
-cut_of none = none
-cut_of (some z) = some (cut w16 z)
+cut_of None = None
+cut_of (Some z) = Some (cut w16 z)
 
 out_cut : (s : FirDecimator) (a : ℤ) → (s.tap_count ≡ 0 → ⊥) → fir_out s a ≡ cut_of (fir_sum_out s a)
 unfolding fir_out fir_sum_out filtered
 out_cut s a n = rw (ne_eqb s.tap_count 0 n) (go (ltb most_taps s.tap_count) (leb s.wait 1) _)
   where
-    go : (many due : Bool) (z : ℤ) → cond many none (cond due (some (cut w16 z)) none) ≡ cut_of (cond many none (cond due (some z) none))
+    go : (many due : Bool) (z : ℤ) → cond many None (cond due (Some (cut w16 z)) None) ≡ cut_of (cond many None (cond due (Some z) None))
     go true due z = refl
     go false true z = refl
     go false false z = refl
@@ -254,8 +244,8 @@ cut_sums (a ∷ w) s n =
     ap₂ {C = List ℤ} (λ (o : Option ℤ) (l : List ℤ). onto o l) (out_cut s a n) (cut_sums w (fir_next s a) (λ e. n (sym (taps_kept s a) ∙ e))) ∙ go (fir_sum_out s a)
   where
     go : (o : Option ℤ) → onto (cut_of o) (map (cut w16) (outs summing (fir_next s a) w)) ≡ map (cut w16) (onto o (outs summing (fir_next s a) w))
-    go none = refl
-    go (some z) = refl
+    go None = refl
+    go (Some z) = refl
 
 pub decimated_sums : (c : List ℤ) (D : ℕ) (w : List ℤ) → map (cut w16) (fir_sums c D w) ≡ decimated c D w
 unfolding fir_sums decimated filtered
@@ -267,7 +257,7 @@ unfolding fir_sums padded
 padding c D w =
     listed_ext (decimated_count (length c) D (length w)) (λ i. window_sum (padded c) (length c) w (i * D)) (λ i. window_sum c (length c) w (i * D))
     (λ i l.
-    window_ext (padded c) c (length c) w w (i * D) (i * D) (λ t h. get_or-append c (replicate (most_taps - length c) (pos 0)) (pos 0) t h) (λ t h. refl))
+    fir_sum_ext (λ (t : ℕ). t) (padded c) c (length c) w w (i * D) (i * D) (λ t h. get_or-append c (replicate (most_taps - length c) (pos 0)) (pos 0) t h) (λ t h. refl))
 
 -- a fresh decimator has taps
 taps_some : (c : List ℤ) (D : ℕ) → settings_number (length c) D ≡ 0 → (fresh c D).tap_count ≡ 0 → ⊥
@@ -304,16 +294,16 @@ flags_are (a ∷ w) s v =
     rw v (ap₂ {C = List Bool} (λ (q : Option Bool) (l : List Bool). onto q l) o (flags_are w (fir_next s a) (valid_next s a v)) ∙ more (fir_sum_out s a))
   where
     flag_of : Option ℤ → Option Bool
-    flag_of none = none
-    flag_of (some z) = some (is_cut w16 z)
+    flag_of None = None
+    flag_of (Some z) = Some (is_cut w16 z)
 
     one : (q : Option ℤ) → flagged (cut_of q) (cut_in q) ≡ flag_of q
-    one none = refl
-    one (some z) = refl
+    one None = refl
+    one (Some z) = refl
 
     more : (q : Option ℤ) → onto (flag_of q) (map (is_cut w16) (outs summing (fir_next s a) w)) ≡ map (is_cut w16) (onto q (outs summing (fir_next s a) w))
-    more none = refl
-    more (some z) = refl
+    more None = refl
+    more (Some z) = refl
 
 pub fresh_flagged : (c : List ℤ) (D : ℕ) → settings_number (length c) D ≡ 0 → valid (fresh c D) ≡ true → (w : List ℤ) → outs flags (fresh c D) w ≡ map (is_cut w16) (fir_sums c D w)
 fresh_flagged c D e v w = flags_are w (fresh c D) v ∙ ap (map (is_cut w16)) (fresh_summed c D e w)

@@ -6,6 +6,7 @@ mod Rows
 mod Counts
 mod Between
 mod Windows
+mod Interpolating
 pub mod FirSteps
 pub mod FirStream
 pub mod FirOpenings

@@ -1,22 +1,17 @@
--- The table's rows for blocks: what holds of a block to which none applies, and that a row that applies has a number other than 0.
-use mathlib.Core.Path.{◌≡◌, refl, sym, ap, ◌∙◌}
+-- The table's rows for blocks: what holds of a block to which none applies.
+use mathlib.Core.Path.{◌≡◌, refl}
 use mathlib.Core.Bool.{Bool, true, false, cond}
-use mathlib.Core.List.{List}
-use Prim.Native.Nat.{ℕ, suc, pred, ◌%◌}
+use Prim.Native.Nat.{ℕ, suc, ◌%◌, ◌<◌}
 use native.Mathlib.Omega.{arith}
 use borrow.Author.Tests.{eqb-true}
 use lib.Dec.{eqb}
 use lib.IntN.{ℤ, pos}
 use lib.Signed.{lt_z}
-use Rattle.refusal.specs.declared.Refusal.{Refusal}
-use Rattle.refusal.specs.Table.{number_of}
-use Rattle.refusal.specs.Outcome.{Answer}
-use Rattle.refusal.proofs.Table.{number_positive}
 use Rattle.refusal.proofs.Limits.{Between, within, Lengths, lengths_fine_lem, first_none}
 use Rattle.q15.specs.PolyphaseInterpolate.{interpolate_number}
 use Rattle.q15.specs.ResampleLinear.{linear_number}
-use Rattle.refusal.specs.Rows.{outside, most_block, samples_refused, first_of}
-use Rattle.q15.specs.Block.{most_factor, samples_number, block_number, block_answer, block_span, block_cuts}
+use Rattle.refusal.specs.Rows.{outside, most_block, samples_refused}
+use Rattle.q15.specs.Block.{most_factor, samples_number, block_number}
 
 -- row q does not apply, nor do those below it
 passed : (b : Bool) (q rest : ℕ) → cond b (suc q) rest ≡ 0 → (b ≡ false) × (rest ≡ 0)
@@ -40,26 +35,8 @@ block_in D T n m e =
     let b = passed (outside T 1 most_block) 5 (samples_number n m) a.1 in
     record { factor = within D 1 most_factor a.0; taps = within T 1 most_block b.0; rest = samples_in n m b.1 }
 
--- a refusal's number
-is_suc : (q : Refusal) → number_of q ≡ suc (pred (number_of q))
-is_suc q = let h = number_positive q in omega arith
-
-module _ (number : ℕ) (q : Refusal) (e : number_of q ≡ number) where
-  pub not_zero : number ≡ 0 → ⊥
-  not_zero z = let s = is_suc q in omega (arith, e)
-
-  pub turned : number ≡ suc (pred (number_of q))
-  turned = sym e ∙ is_suc q
-
-  pub first_refused : (lower : ℕ) → first_of number lower ≡ number
-  first_refused lower = ap (λ (n : ℕ). first_of n lower) turned ∙ sym turned
-
-  pub block_refused : (count : ℕ) (outputs dst : List ℤ) → (◌≡◌ {A = Answer ℕ} (record { number = number_of q; value = 0 }) (block_answer number count)) × (dst ≡ block_span number outputs dst)
-  block_refused count outputs dst =
-      rw turned (ap {B = Answer ℕ} (λ (n : ℕ). record { number = n; value = 0 }) (is_suc q), refl)
-
-  pub refused_count : (sums dst : List ℤ) → 0 ≡ block_cuts number sums dst
-  refused_count sums dst = rw turned
+pub factor_some : (D T n m : ℕ) → block_number D T n m ≡ 0 → 0 < D
+factor_some D T n m e = let b = block_in D T n m e in b.factor.least
 
 kept : (b : Bool) (q : ℕ) → cond b 0 (suc q) ≡ 0 → b ≡ true
 kept true q e = refl

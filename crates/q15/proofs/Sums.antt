@@ -1,6 +1,7 @@
 -- A running sum of floored products, once for every loop that adds them: so many are summed, each from -32767 to 32768, so that the sum, or the sum
 -- negated, fits its accumulator.
 use mathlib.Core.Path.{◌≡◌, refl, sym, ap, ◌∙◌}
+use mathlib.Core.List.{List}
 use Prim.Native.Nat.{ℕ, zero, suc, ◌+◌, ◌*◌, ◌^◌, ◌≤◌, ◌<◌}
 use native.Mathlib.Nat.{mul-le-mul}
 use native.Mathlib.Numerals.{add-one}
@@ -11,8 +12,8 @@ use lib.Pow.{pow_pos}
 use mir.Syntax.{Width, w16}
 use mir.Val.{SFits, hbits}
 use Rattle.theory.proofs.Integers.{up, dn, ints, fits_of, fits_is, add_is, sub_is_ℤ, neg_is, mul_within, floor}
-use Rattle.q15.specs.Fixed.{floored_product}
-use Rattle.q15.specs.FirSum.{sum}
+use Rattle.q15.specs.Fixed.{floored_product, at}
+use Rattle.q15.specs.FirSum.{sum, fir_sum}
 
 -- the size of a number from its two sides
 pub both : (B : ℕ) (z : ℤ) → (up z ≤ B + dn z) × (dn z ≤ B + up z) → (up z ≤ B) × (dn z ≤ B)
@@ -42,15 +43,27 @@ sum_ext zero f g h = refl
 sum_ext (suc n) f g h =
     ap (λ (z : ℤ). z +ℤ f n) (sum_ext n f g (λ t l. h t (omega arith))) ∙ ap (λ (z : ℤ). sum n g +ℤ z) (h n (omega arith))
 
+-- a sum of products follows from the samples and the taps that it is made of
+pub fir_sum_ext :
+    (tap : ℕ → ℕ) (c e : List ℤ) (n : ℕ) (s u : List ℤ) (i j : ℕ) → ((t : ℕ) → t < n → at c (tap t) ≡ at e (tap t)) → ((t : ℕ) → t < n → at s (i + t) ≡ at u (j + t))
+    → fir_sum tap c n s i ≡ fir_sum tap e n u j
+unfolding fir_sum
+fir_sum_ext tap c e n s u i j g h =
+    sum_ext n (λ t. floored_product (at s (i + t)) (at c (tap t))) (λ t. floored_product (at u (j + t)) (at e (tap t)))
+    (λ t l. ap (λ (z : ℤ). floored_product z (at c (tap t))) (h t l) ∙ ap (floored_product (at u (j + t))) (g t l))
+
+-- of the samples from `from` on it is the sum that begins there
+pub fir_sum_at :
+    (tap : ℕ → ℕ) (c : List ℤ) (n : ℕ) (s u : List ℤ) (from : ℕ) → ((t : ℕ) → t < n → at u t ≡ at s (from + t)) → fir_sum tap c n u 0 ≡ fir_sum tap c n s from
+fir_sum_at tap c n s u from h =
+    fir_sum_ext tap c c n u s 0 from (λ t l. refl) (λ t l. let e : 0 + t ≡ t = omega arith in ap (at u) e ∙ h t l)
+
 module _ (f : ℕ → ℤ) where
   -- z is the sum of the first t
   pub record Summed (z : ℤ) (t : ℕ) : Type 0 where
     pub is : z ≡ sum t f
     pub high : up z ≤ 32768 * t + dn z
     pub low : dn z ≤ 32767 * t + up z
-
-  pub none_summed : Summed (pos 0) 0
-  none_summed = record { is = refl; high = omega arith; low = omega arith }
 
   pub one_more : (z p : ℤ) (t : ℕ) → p ≡ f t → (up p ≤ 32768 + dn p) × (dn p ≤ 32767 + up p) → Summed z t → Summed (z +ℤ p) (t + 1)
   one_more z p t i q h =

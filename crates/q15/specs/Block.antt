@@ -1,12 +1,11 @@
 -- 01, "Where each call is turned back", for a block of samples: "The first that applies, downward, is returned", as its number, and 0 where none applies.
-use Rattle.std.specs.Prelude.{cond, List, ◌++◌, ℕ, zero, suc, ℤ, length, take, drop}
+use Rattle.std.specs.Prelude.{cond, List, ◌++◌, ℕ, zero, suc, ℤ, Result, length, take, drop}
 use Rattle.std.specs.Int.{w16}
-use Rattle.refusal.specs.Table.{number_of}
-use Rattle.refusal.specs.Outcome.{Answer}
+use Rattle.refusal.specs.declared.Refusal.{Refusal}
+use Rattle.refusal.specs.Outcome.{Answer, number_in, value_in}
 use Rattle.refusal.specs.Rows.{outside, most_block, samples_refused}
 use Rattle.q15.specs.Fixed.{cut_count}
-use Rattle.q15.specs.declared.block.Rows.{Rows}
-use Rattle.q15.specs.declared.block.Rows.TheVariants.{Passed, Refused}
+use Rattle.q15.specs.declared.block.FirBlock.{FirBlock}
 
 -- the largest factor
 abbrev pub most_factor : ℕ
@@ -19,11 +18,6 @@ samples_number n m = cond (samples_refused n m) 7 0
 -- rows 5 to 7 for a factor, T taps, n samples and m places: "factor not 1..4,096", "taps empty or over 65,536"
 unfoldable pub block_number : ℕ → ℕ → ℕ → ℕ → ℕ
 block_number factor T n m = cond (outside factor 1 most_factor) 5 (cond (outside T 1 most_block) 6 (samples_number n m))
-
--- each case of Rows: its number
-abbrev pub rows_number : Rows → ℕ
-rows_number Passed = 0
-rows_number (Refused q) = number_of q
 
 -- the outputs from the front of the span, as many as it has places for, and the unwritten places as lent
 unfoldable pub written : List ℤ → List ℤ → List ℤ
@@ -43,3 +37,13 @@ block_span (suc q) outputs dst = dst
 abbrev pub block_cuts : ℕ → List ℤ → List ℤ → ℕ
 block_cuts zero sums dst = cut_count w16 (take (length dst) sums)
 block_cuts (suc q) sums dst = 0
+
+-- a FIR block's result as that answer, and how many of its outputs were cut
+abbrev pub none_written : FirBlock
+none_written = record { written = 0; cuts = 0 }
+
+abbrev pub told_block : Result FirBlock Refusal → Answer ℕ
+told_block r = record { number = number_in r; value = (value_in none_written r).written }
+
+abbrev pub told_cuts : Result FirBlock Refusal → ℕ
+told_cuts r = (value_in none_written r).cuts

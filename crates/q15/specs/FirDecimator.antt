@@ -1,11 +1,10 @@
 -- 01, section 3, the line's streaming form: "makes output i when sample iD+T−1 arrives; its wait is the number of samples up to and with the one that makes
 -- the next output, T at opening and D after each output; T is at most 64, D may exceed T. In the line no taps means off, and D is not looked at." Only there:
 -- beside the line no taps is refused by 6, as row 6 has it, and the zeros that a refused opening leaves answer 15.
-use Rattle.std.specs.Prelude.{◌≡◌, Bool, true, false, not, ◌&&◌, cond, List, ◌++◌, map, ℕ, zero, suc, ◌-◌, leb, ltb, eqb, ℤ, pos, length, set, take, drop, replicate}
-use Rattle.std.proofs.Math.Option.{Option, none, some}
+use Rattle.std.specs.Prelude.{◌≡◌, Bool, true, false, not, ◌&&◌, cond, List, ◌++◌, map, ℕ, zero, suc, ◌-◌, leb, ltb, eqb, ℤ, pos, length, set, take, drop, replicate, Option, None, Some, Result}
 use Rattle.std.specs.Int.{w16}
-use Rattle.refusal.specs.Table.{number_of}
-use Rattle.refusal.specs.Outcome.{Outcome, Opened, opening_number}
+use Rattle.refusal.specs.declared.Refusal.{Refusal}
+use Rattle.refusal.specs.Outcome.{Outcome, Opened, number_in, value_in}
 use Rattle.theory.specs.Sections.{Section, outs, state}
 use Rattle.refusal.specs.Rows.{outside}
 use Rattle.q15.specs.Fixed.{is_cut}
@@ -13,12 +12,7 @@ use Rattle.q15.specs.Block.{most_factor}
 use Rattle.q15.specs.PolyphaseDecimate.{window_sum, fir_sums, filtered, decimated}
 use Rattle.q15.specs.Rounding.{Rounded}
 use Rattle.q15.specs.declared.fir_decimator.FirDecimator.{FirDecimator}
-use Rattle.q15.specs.declared.fir_decimator.FirMade.{FirMade}
-use Rattle.q15.specs.declared.fir_decimator.FirMade.TheVariants as made
-use Rattle.q15.specs.declared.fir_decimator.FirOutput.{FirOutput}
-use Rattle.q15.specs.declared.fir_decimator.FirOutput.TheVariants as output
-use Rattle.q15.specs.declared.fir_decimator.FirStep.{FirStep}
-use Rattle.q15.specs.declared.fir_decimator.FirOpening.{FirOpening}
+use Rattle.q15.specs.declared.fixed.Cut.{Cut}
 
 -- 02, request 7: "The line's FIR limit goes from 64 to 128, so refusal 6 moves there."
 abbrev pub most_taps : ℕ
@@ -55,22 +49,22 @@ fir_next s x =
 
 unfoldable pub fir_out : FirDecimator → ℤ → Option ℤ
 fir_out s x =
-    cond (eqb s.tap_count 0) (some x)
-    (cond (ltb most_taps s.tap_count) none (cond (leb s.wait 1) (some (filtered s.taps s.tap_count (taking s x) 0)) none))
+    cond (eqb s.tap_count 0) (Some x)
+    (cond (ltb most_taps s.tap_count) None (cond (leb s.wait 1) (Some (filtered s.taps s.tap_count (taking s x) 0)) None))
 
 -- 02, §4: the sum that a sample makes, before it is cut; off, there is none
 unfoldable pub fir_sum_out : FirDecimator → ℤ → Option ℤ
 fir_sum_out s x =
-    cond (eqb s.tap_count 0) none
-    (cond (ltb most_taps s.tap_count) none (cond (leb s.wait 1) (some (window_sum s.taps s.tap_count (taking s x) 0)) none))
+    cond (eqb s.tap_count 0) None
+    (cond (ltb most_taps s.tap_count) None (cond (leb s.wait 1) (Some (window_sum s.taps s.tap_count (taking s x) 0)) None))
 
 abbrev pub summing : Section FirDecimator ℤ ℤ
 summing = record { next = fir_next; out = fir_sum_out }
 
 -- whether a sum was cut, where there is one
 abbrev pub cut_in : Option ℤ → Bool
-cut_in none = false
-cut_in (some z) = is_cut w16 z
+cut_in None = false
+cut_in (Some z) = is_cut w16 z
 
 abbrev pub fir : Section FirDecimator ℤ ℤ
 fir = record { next = fir_next; out = fir_out }
@@ -110,7 +104,7 @@ pub record Filtered : Type 0 where
 abbrev pub fir_step : FirDecimator → ℤ → Outcome Filtered FirDecimator
 fir_step s x =
     cond (valid s) (record { number = 0; value = record { made = fir_out s x; cut = cut_in (fir_sum_out s x) }; state = fir_next s x })
-    (record { number = 15; value = record { made = none; cut = false }; state = s })
+    (record { number = 15; value = record { made = None; cut = false }; state = s })
 
 -- the taps, and zeros behind them
 unfoldable pub padded : List ℤ → List ℤ
@@ -136,27 +130,18 @@ fir_opened c D = record { number = settings_number (length c) D; state = opened_
 abbrev pub fir_reset : FirDecimator → Opened FirDecimator
 fir_reset s = cond (valid s) (fir_opened (take s.tap_count s.taps) s.factor) (record { number = 15; state = s })
 
--- each case of FirMade: what came of the sample
-abbrev pub made_value : FirMade → Option ℤ
-made_value made.Nothing = none
-made_value (made.Value q) = some q.0
+-- what came of a sample in the code's terms, and whether that was cut
+abbrev pub made_value : Option Cut → Option ℤ
+made_value None = None
+made_value (Some y) = Some y.value.0
 
--- each case of FirOutput: its number, and what came of the sample
-abbrev pub output_number : FirOutput → ℕ
-output_number output.Nothing = 0
-output_number (output.Value q) = 0
-output_number (output.Refused q) = number_of q
+abbrev pub made_cut : Option Cut → Bool
+made_cut None = false
+made_cut (Some y) = y.cut
 
-abbrev pub output_value : FirOutput → Option ℤ
-output_value output.Nothing = none
-output_value (output.Value q) = some q.0
-output_value (output.Refused q) = none
-
-abbrev pub told : FirStep → Outcome Filtered FirDecimator
-told r = record { number = output_number r.output; value = record { made = output_value r.output; cut = r.cut }; state = r.state }
-
-abbrev pub told_opening : FirOpening → Opened FirDecimator
-told_opening r = record { number = opening_number r.answer; state = r.state }
+-- a sample's result, and the state that it leaves
+abbrev pub told_step : Result (Option Cut) Refusal → FirDecimator → Outcome Filtered FirDecimator
+told_step r s = record { number = number_in r; value = record { made = made_value (value_in None r); cut = made_cut (value_in None r) }; state = s }
 
 -- the steps as a caller sees them, one after the other
 abbrev pub steps : Section FirDecimator ℤ ℤ
@@ -164,8 +149,8 @@ steps = record { next = λ s x. (fir_step s x).state; out = λ s x. (fir_step s 
 
 -- whether each output was cut, likewise
 abbrev pub flagged : Option ℤ → Bool → Option Bool
-flagged none b = none
-flagged (some y) b = some b
+flagged None b = None
+flagged (Some y) b = Some b
 
 abbrev pub flags : Section FirDecimator ℤ Bool
 flags = record { next = λ s x. (fir_step s x).state; out = λ s x. flagged (fir_step s x).value.made (fir_step s x).value.cut }

@@ -1,46 +1,42 @@
 // 01, "Where each call is turned back": the rows that the Q15 blocks share.
 ghost use Rattle.std.specs.Prelude.{◌≡◌};
-ghost use Rattle.q15.specs.Block.{samples_number, block_number, rows_number};
+ghost use Rattle.refusal.specs.Outcome.{number_in};
+ghost use Rattle.q15.specs.Block.{samples_number, block_number};
 
+use refusal::Refusal;
 use refusal::rows::{MOST_BLOCK, outside, samples_refused};
-use refusal::{Count, Refusal};
 
 // The largest factor.
 pub const MOST_FACTOR: usize = 4096;
 
-// What the table's rows say of a block: none applies, or the first that does.
-#[derive(Drop)]
-pub(crate) enum Rows {
-    Passed,
-    Refused(Refusal),
-}
-
-// A FIR block's answer: how many outputs stand in front of the span, and how many of them were cut, none where it is refused.
-#[derive(Drop)]
+// How many outputs of a FIR block stand in front of the span, and how many of them were cut.
+#[derive(Clone, Copy, PartialEq, Eq, Debug)]
 pub struct FirBlock {
-    pub answer: Count,
+    pub written: usize,
     pub cuts: usize,
 }
 
 // Row 7, for n samples and a span of m places.
-pub(crate) fn samples_row(n: usize, m: usize) -> Rows
-    ensures { rows_number result ≡ samples_number n m }
+#[tactic(auto, unfolding(crate::specs::Block::samples_number))]
+pub(crate) fn samples_row(n: usize, m: usize) -> Result<(), Refusal>
+    ensures { number_in result ≡ samples_number n m }
 {
     if samples_refused(n, m) {
-        return Rows::Refused(Refusal::Samples);
+        return Err(Refusal::Samples);
     }
-    Rows::Passed
+    Ok(())
 }
 
 // Rows 5, 6 and 7, for t taps.
-pub(crate) fn block_rows(factor: usize, t: usize, n: usize, m: usize) -> Rows
-    ensures { rows_number result ≡ block_number factor t n m }
+#[tactic(auto, unfolding(crate::specs::Block::block_number))]
+pub(crate) fn block_rows(factor: usize, t: usize, n: usize, m: usize) -> Result<(), Refusal>
+    ensures { number_in result ≡ block_number factor t n m }
 {
     if outside(factor, 1, MOST_FACTOR) {
-        return Rows::Refused(Refusal::FirFactor);
+        return Err(Refusal::FirFactor);
     }
     if outside(t, 1, MOST_BLOCK) {
-        return Rows::Refused(Refusal::Taps);
+        return Err(Refusal::Taps);
     }
     samples_row(n, m)
 }

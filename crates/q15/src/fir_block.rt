@@ -1,18 +1,16 @@
 // 01, section 3: FIR decimation of a stream by blocks, for the line. The window's samples so far stand on a tape with the block behind them, so that its windows
 // are read where they stand, and only the last is moved.
-ghost use Rattle.std.specs.Prelude.{◌≡◌, true, [], ◌++◌, ◌+◌, ◌*◌, ◌≤◌, ◌<◌, length, take, drop};
+ghost use Rattle.std.specs.Prelude.{◌≡◌, true, ◌++◌, ◌+◌, ◌*◌, ◌≤◌, ◌<◌, length, take, drop};
 ghost use Rattle.std.specs.Int.{w16};
 ghost use Rattle.theory.specs.Lists.{listed};
-ghost use Rattle.theory.specs.Sections.{onto};
 ghost use Rattle.q15.specs.Fixed.{cut_count};
 ghost use Rattle.q15.specs.PolyphaseDecimate.{window_sum, filtered};
-ghost use Rattle.q15.specs.FirDecimator.{most_taps, fir_state, moved, made_value};
+ghost use Rattle.q15.specs.FirDecimator.{most_taps, fir_state, moved};
 ghost use Rattle.q15.specs.FirBlock.{most_fir_block, block_fits, fir_block_state, fir_block_outs, fir_block_cuts, Ran, OnTape, stored_run};
 
-use crate::fir_decimator::{FirMade, MOST_TAPS, array_length, fir_at, move_down, store};
-use crate::fixed::{Q15, one_more};
+use crate::fir_decimator::{MOST_TAPS, fir_at, move_down, store};
+use crate::fixed::Q15;
 use crate::polyphase_decimate::decimate;
-use refusal::rows::outside;
 
 // The most samples of a block.
 pub const MOST_FIR_BLOCK: usize = 128;
@@ -21,7 +19,7 @@ pub const MOST_FIR_BLOCK: usize = 128;
 const TAPE: usize = MOST_TAPS + MOST_FIR_BLOCK;
 
 // How many outputs a block made, how many of them were cut, and the next wait.
-#[derive(Drop)]
+#[derive(Clone, Copy, PartialEq, Eq, Debug)]
 pub struct FirBlockAt {
     pub made: usize,
     pub cuts: usize,
@@ -29,38 +27,18 @@ pub struct FirBlockAt {
 }
 
 // Whether the tape takes n samples, and there is a place for each.
+#[tactic(auto, unfolding(crate::specs::FirBlock::block_fits))]
 fn block_fits(n: usize, places: usize) -> bool
     ensures { result ≡ block_fits n places }
 {
-    if MOST_FIR_BLOCK < n {
-        return false;
-    }
-    n <= places
+    n <= MOST_FIR_BLOCK && n <= places
 }
 
 // Whether the windows stand on a tape without gaps.
 fn on_tape(t: usize, factor: usize, wait: usize) -> bool
     ensures { result ≡ true → OnTape t factor wait }
 {
-    if MOST_TAPS < t {
-        return false;
-    }
-    if outside(factor, 1, t) {
-        return false;
-    }
-    !outside(wait, 1, t)
-}
-
-// The first n samples stand in front of the span.
-fn put_in_front(span: &mut [i16], src: &[i16], n: usize)
-    requires { (n ≤ length src.now) × (n ≤ length span.old) }
-    ensures { span.new ≡ take n src.now ++ drop n span.old }
-{
-    let mut i = 0;
-    while i < n {
-        span[i] = src[i];
-        i += 1;
-    }
+    t <= MOST_TAPS && 1 <= factor && factor <= t && 1 <= wait && wait <= t
 }
 
 // A tape with the window's first samples in front, and the block behind them.
@@ -68,10 +46,9 @@ fn laid(delay: &[i16; MOST_TAPS], kept: usize, src: &[i16]) -> [i16; TAPE]
     requires { (kept ≤ most_taps) × (length src.now ≤ most_fir_block) }
     ensures { take (kept + length src.now) result ≡ take kept delay.now ++ src.now }
 {
-    array_length(*delay);
     let mut tape = [0i16; TAPE];
-    put_in_front(&mut tape, delay, kept);
-    put_in_front(&mut tape[kept..], src, src.len());
+    tape[..kept].copy_from_slice(&delay[..kept]);
+    tape[kept..kept + src.len()].copy_from_slice(src);
     tape
 }
 
@@ -80,10 +57,8 @@ fn store_run(delay: &mut [i16; MOST_TAPS], t: usize, wait: usize, src: &[i16])
     requires { length src.now ≤ wait }
     ensures { delay.new ≡ stored_run t wait src.now delay.old }
 {
-    let mut i = 0;
-    while i < src.len() {
-        store(delay, t, wait - i, src[i]);
-        i += 1;
+    for (i, x) in src.iter().enumerate() {
+        store(delay, t, wait - i, *x);
     }
 }
 
@@ -107,9 +82,8 @@ fn after_last(
     ensures { (delay.new ≡ stored_run t factor (drop (last + t) tape.now) (moved t factor (take t (drop last tape.now) ++ drop t delay.old)))
         × (result + length tape.now ≡ last + t + factor) }
 {
-    array_length(*delay);
     let end = last + t;
-    put_in_front(delay, &tape[last..], t);
+    delay[..t].copy_from_slice(&tape[last..end]);
     move_down(delay, t, factor);
     store_run(delay, t, factor, &tape[end..]);
     factor - (tape.len() - end)
@@ -132,9 +106,8 @@ fn windows_of(
     ensures outputs { (result.made ≡ more + 1) × (dst.new ≡ listed (more + 1) (λ i. filtered taps.now t tape.now (i * factor)) ++ drop (more + 1) dst.old)
         × (result.cuts ≡ cut_count w16 (listed (more + 1) (λ i. window_sum taps.now t tape.now (i * factor)))) }
 {
-    array_length(*taps);
     let made = more + 1;
-    let cuts = decimate(tape, taps, t, factor, made, dst) as usize;
+    let cuts = decimate(tape, &taps[..t], factor, &mut dst[..made]) as usize;
     let wait = after_last(delay, t, factor, tape, more * factor);
     FirBlockAt { made, cuts, wait }
 }
@@ -152,15 +125,13 @@ fn by_tape(
     requires { OnTape t factor wait × ((length src.now ≤ most_fir_block) × (length src.now ≤ length dst.old)) }
     ensures { Ran (fir_state taps.now t factor delay.old wait) src.now dst.old result (fir_state taps.now t factor delay.new result.wait) dst.new }
 {
-    array_length(*delay);
     let n = src.len();
     if n < wait {
         store_run(delay, t, wait, src);
-        let left = wait - n;
         return FirBlockAt {
             made: 0,
             cuts: 0,
-            wait: left,
+            wait: wait - n,
         };
     }
     let kept = t - wait;
@@ -168,21 +139,6 @@ fn by_tape(
     let past = kept + n;
     let more = windows_behind(n, wait, factor);
     windows_of(delay, taps, t, factor, &tape[..past], more, dst)
-}
-
-// What comes of a sample stands at the place `at`. Answers the next place.
-fn put_made(dst: &mut [i16], at: usize, made: FirMade) -> usize
-    requires { at < length dst.old }
-    ensures { (result ≡ at + length (onto (made_value made) [])) × (dst.new ≡ take at dst.old ++ (onto (made_value made) [] ++ drop result dst.old)) }
-{
-    match made {
-        FirMade::Nothing => at,
-        FirMade::Value(y) => {
-            let bits = y.0;
-            dst[at] = bits;
-            at + 1
-        }
-    }
 }
 
 // A block sample by sample, for every state.
@@ -198,30 +154,27 @@ fn one_by_one(
     requires { (length src.now ≤ most_fir_block) × (length src.now ≤ length dst.old) }
     ensures { Ran (fir_state taps.now t factor delay.old wait) src.now dst.old result (fir_state taps.now t factor delay.new result.wait) dst.new }
 {
-    let mut i = 0;
     let mut made = 0;
     let mut cuts = 0;
     let mut next = wait;
-    while i < src.len() {
-        let x = src[i];
-        let sample = Q15(x);
-        let step = fir_at(delay, taps, t, factor, next, sample);
-        let value = step.made;
-        made = put_made(dst, made, value);
-        cuts = one_more(cuts, step.cut);
+    for i in 0..src.len() {
+        let step = fir_at(delay, taps, t, factor, next, Q15(src[i]));
+        if let Some(y) = step.made {
+            dst[made] = y.value.0;
+            made += 1;
+            cuts += usize::from(y.cut);
+        }
         next = step.wait;
-        i += 1;
     }
-    let total = cuts as usize;
     FirBlockAt {
         made,
-        cuts: total,
+        cuts,
         wait: next,
     }
 }
 
 // A block of samples, with the arrays lent: its outputs stand in front of dst. Of more than MOST_FIR_BLOCK samples, or with fewer places than samples, nothing is
-// done. A leaf for the line, which has looked at the numbers: it refuses nothing.
+// done. A leaf for the line, as fir_at: it refuses nothing, and takes apart what a state holds.
 pub fn fir_block_at(
     delay: &mut [i16; MOST_TAPS],
     taps: &[i16; MOST_TAPS],
@@ -245,7 +198,7 @@ pub fn fir_block_at(
         };
     }
     if t == 0 {
-        put_in_front(dst, src, n);
+        dst[..n].copy_from_slice(src);
         return FirBlockAt {
             made: n,
             cuts: 0,

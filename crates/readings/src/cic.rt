@@ -1,80 +1,104 @@
 // The readings of section 1.
-use crate::print::{number, signed, words};
+use crate::print::{spaced, words};
 use integer::CicDecimator;
-use integer::cic_decimator::{CicOutput, CicStep};
-use integer::gain::GainBits;
+use refusal::Refusal;
 use std::io;
 use std::io::Write;
 
-fn shown<W: Write>(out: &mut W, output: CicOutput) -> io::Result<()> {
-    match output {
-        CicOutput::Nothing => Ok(()),
-        CicOutput::Sample(y) => signed(out, y),
-        CicOutput::Refused(q) => {
+fn shown<W: Write>(out: &mut W, answer: Result<Option<i32>, Refusal>) -> io::Result<()> {
+    match answer {
+        Ok(None) => Ok(()),
+        Ok(Some(y)) => spaced(out, y),
+        Err(q) => {
             words(out, " refused")?;
-            number(out, u64::from(q.number()))
+            spaced(out, q.number())
         }
     }
 }
 
-fn step(d: CicDecimator, x: i32, scaled: bool) -> CicStep {
-    if scaled {
-        return d.process_sample_scaled(x);
-    }
-    d.process_sample(x)
-}
-
-// The sums of the samples, from a fresh decimator.
-fn sums<W: Write>(
+// The sums of the samples, from a fresh decimator, which makes them by `step`.
+fn sums<W: Write, F>(
     out: &mut W,
     name: &str,
-    stages: usize,
-    r: usize,
-    scaled: bool,
+    opened: Result<CicDecimator, Refusal>,
     samples: &[i32],
-) -> io::Result<()> {
+    step: F,
+) -> io::Result<()>
+where
+    F: Fn(&mut CicDecimator, i32) -> Result<Option<i32>, Refusal>,
+    requires { F.IsAlwaysCallable step }
+{
     words(out, name)?;
-    let mut d = CicDecimator::new(stages, r).state;
+    let Ok(mut d) = opened else {
+        return words(out, " refused\n");
+    };
     for x in samples {
-        let made = step(d, *x, scaled);
-        d = made.state;
-        shown(out, made.output)?;
+        shown(out, step(&mut d, *x))?;
     }
     words(out, "\n")
 }
 
-fn bits<W: Write>(out: &mut W, name: &str, stages: usize, r: usize) -> io::Result<()> {
+fn bits<W: Write>(
+    out: &mut W,
+    name: &str,
+    opened: Result<CicDecimator, Refusal>,
+) -> io::Result<()> {
     words(out, name)?;
-    let d = CicDecimator::new(stages, r).state;
-    match d.gain_bits() {
-        GainBits::Value(g) => number(out, u64::from(g))?,
-        GainBits::Refused(_) => words(out, " refused")?,
+    match opened.and_then(|d| d.gain_bits()) {
+        Ok(g) => spaced(out, g)?,
+        Err(_) => words(out, " refused")?,
     }
     words(out, "\n")
 }
 
 pub(crate) fn readings<W: Write>(out: &mut W) -> io::Result<()> {
+    let unscaled = CicDecimator::process_sample;
+    let scaled = CicDecimator::process_sample_scaled;
+    let counting = [1, 2, 3, 4, 5, 6, 7, 8];
     sums(
         out,
         "N=1 r=4, 1 to 8:",
-        1,
-        4,
-        false,
-        &[1, 2, 3, 4, 5, 6, 7, 8],
+        CicDecimator::new(1, 4),
+        &counting,
+        unscaled,
     )?;
-    sums(out, "N=2 r=2, 1 to 4:", 2, 2, false, &[1, 2, 3, 4])?;
+    sums(
+        out,
+        "N=2 r=2, 1 to 4:",
+        CicDecimator::new(2, 2),
+        &counting[..4],
+        unscaled,
+    )?;
+    let past_the_end = [i32::MAX, 1, 0, 0];
     sums(
         out,
         "N=1 r=2, past the end of the range:",
-        1,
-        2,
-        false,
-        &[2147483647, 1, 0, 0],
+        CicDecimator::new(1, 2),
+        &past_the_end,
+        unscaled,
     )?;
-    bits(out, "N=3 r=5, gain bits:", 3, 5)?;
-    bits(out, "N=8 r=14, gain bits:", 8, 14)?;
-    bits(out, "N=8 r=15, gain bits:", 8, 15)?;
-    sums(out, "N=8 r=15, scaled:", 8, 15, true, &[1])?;
-    sums(out, "N=1 r=3, scaled 3, 3, 3:", 1, 3, true, &[3, 3, 3])?;
-    sums(out, "N=1 r=2, scaled -1, 0:", 1, 2, true, &[-1, 0])
+    bits(out, "N=3 r=5, gain bits:", CicDecimator::new(3, 5))?;
+    bits(out, "N=8 r=14, gain bits:", CicDecimator::new(8, 14))?;
+    bits(out, "N=8 r=15, gain bits:", CicDecimator::new(8, 15))?;
+    sums(
+        out,
+        "N=8 r=15, scaled:",
+        CicDecimator::new(8, 15),
+        &[1],
+        scaled,
+    )?;
+    sums(
+        out,
+        "N=1 r=3, scaled 3, 3, 3:",
+        CicDecimator::new(1, 3),
+        &[3, 3, 3],
+        scaled,
+    )?;
+    sums(
+        out,
+        "N=1 r=2, scaled -1, 0:",
+        CicDecimator::new(1, 2),
+        &[-1, 0],
+        scaled,
+    )
 }

@@ -1,9 +1,9 @@
 // Words and numbers, onto a writer.
-ghost use Rattle.std.specs.Prelude.{◌/◌, ◌%◌, ◌++◌, OnOk, codes, decimal};
-ghost use Rattle.std.specs.Fmt.{signed_decimal};
+ghost use Rattle.std.specs.Prelude.{◌/◌, ◌%◌, ◌++◌, IfSome, OnOk, codes, decimal};
 ghost use Rattle.std.specs.Io.KnownBytes.{Appends};
 
 use float::f32_to_usize_saturating;
+use std::fmt::Display;
 use std::io;
 use std::io::Write;
 
@@ -13,18 +13,11 @@ pub(crate) fn words<W: Write>(out: &mut W, text: &str) -> io::Result<()>
     out.write_all(text.as_bytes())
 }
 
-// A space and a signed number.
-pub(crate) fn signed<W: Write>(out: &mut W, x: i32) -> io::Result<()>
-    ensures { OnOk result (Appends (W.contents out.old) (W.contents out.new) (codes " " ++ signed_decimal x)) }
+// A space and a value.
+pub(crate) fn spaced<W: Write, T: Display + Drop>(out: &mut W, x: T) -> io::Result<()>
+    ensures { IfSome (T.output x) (λ text. OnOk result (Appends (W.contents out.old) (W.contents out.new) (codes " " ++ text))) }
 {
     write!(out, " {x}")
-}
-
-// A space and a number.
-pub(crate) fn number<W: Write>(out: &mut W, n: u64) -> io::Result<()>
-    ensures { OnOk result (Appends (W.contents out.old) (W.contents out.new) (codes " " ++ decimal n)) }
-{
-    write!(out, " {n}")
 }
 
 // A number of hundredths, to two places.
@@ -40,11 +33,6 @@ fn places<W: Write>(out: &mut W, n: u64) -> io::Result<()>
 
 // A space and a level to two places.
 pub(crate) fn hundredths<W: Write>(out: &mut W, x: f32) -> io::Result<()> {
-    words(out, " ")?;
-    let mut size = x;
-    if x < 0.0 {
-        words(out, "-")?;
-        size = 0.0 - x;
-    }
-    places(out, f32_to_usize_saturating(size * 100.0) as u64)
+    words(out, if x < 0.0 { " -" } else { " " })?;
+    places(out, f32_to_usize_saturating(x.abs() * 100.0) as u64)
 }

@@ -1,5 +1,5 @@
 -- What a comparison of answers with a record's words comes to. A comparison stands at a place; the record agrees where it ends at the last word.
-use Rattle.std.specs.Prelude.{ℕ, ◌+◌, ◌/◌, ◌%◌, Bool, cond, List, length, ℤ, ◌==◌, from_bits, nat_lt, slice_index, to_bits, Float}
+use Rattle.std.specs.Prelude.{ℕ, ◌≡◌, ◌≤◌, ◌<◌, ◌+◌, ◌/◌, ◌%◌, Bool, cond, drop, IsFalse, IsTrue, List, length, ℤ, ◌==◌, from_bits, nat_lt, slice_index, to_bits, Float}
 use Rattle.std.specs.Int.{Width}
 use Rattle.std.proofs.Common.{of_z}
 use Rattle.std.specs.Float.{binary32, nan}
@@ -36,3 +36,10 @@ after_if passed w at = cond passed (after w at (word_at w at)) lost
 -- after a number of 64 bits: the low word, then the high one
 abbrev pub after_long : List ℕ → ℕ → ℕ → ℕ
 after_long w at x = after w (after w at (x % 4294967296)) (x / 4294967296)
+
+-- a comparison of the words that are left, whose place is to be `place`: it says whether they agree, and where they do goes on from there
+pub record Compares (agrees : Bool) (old new : List ℕ) (place : ℕ) : Type 0 where
+  pub past : length old < lost
+  pub differs : IsFalse agrees → place ≡ lost
+  pub within : IsTrue agrees → place ≤ length old
+  pub left : IsTrue agrees → new ≡ drop place old

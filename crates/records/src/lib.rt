@@ -2,5 +2,10 @@
 #![tactic(auto)]
 
 pub mod answers;
-pub mod slices;
+pub mod element;
+pub mod lent;
+pub mod reset;
+pub mod span;
+pub mod state;
+pub mod value;
 pub mod words;

@@ -1,168 +1,149 @@
-// A record's words, and the comparison of answers with them. tests/oracle/README.md has the format.
-ghost use Rattle.std.specs.Prelude.{◌≡◌, ◌+◌, ◌*◌, ◌%◌, take, drop, if◌then◌else◌};
-ghost use Rattle.std.specs.Int.{w16, w32, w64};
-ghost use Rattle.std.proofs.Common.{to_z};
-ghost use Rattle.records.specs.Comparison.{word_at, float_of, bits_of, same_bits, after, after_if, after_long};
+// The words of a record that are left, read from the front, and the comparison of answers with them. tests/oracle/README.md has the format.
+ghost use Rattle.std.specs.Prelude.{◌≡◌, ◌+◌, ◌*◌, ◌^◌, ◌<◌, [], take, drop, length, IsTrue, ◌↔◌, if◌then◌else◌};
+ghost use Rattle.records.specs.Comparison.{Compares, after, after_if, after_long, word_at};
 
-// Where a comparison stands once a word differed: past the end of every record.
-pub const LOST: usize = usize::MAX;
+use crate::element::Element;
+use crate::lent::Lent;
 
-// The word at a place, 0 past the end.
-pub fn word(w: &[u32], at: usize) -> u32
-    ensures { result ≡ word_at w.now at }
-{
-    if at < w.len() { w[at] } else { 0 }
+#[derive(Clone, Copy)]
+pub struct Words<'a> {
+    pub left: &'a [u32],
 }
 
-// The first `count` words.
-pub fn first(w: &[u32], count: usize) -> &[u32]
-    ensures { result.now ≡ take count w.now }
-{
-    if count <= w.len() {
-        return &w[0..count];
+impl<'a> Words<'a> {
+    // No words, which read as zeros.
+    pub fn none() -> Words<'a>
+        ensures { result.left.now ≡ [] }
+    {
+        Words { left: &[] }
     }
-    w
-}
 
-// What follows the first `count` words.
-pub fn rest(w: &[u32], count: usize) -> &[u32]
-    ensures { result.now ≡ drop count w.now }
-{
-    if count <= w.len() {
-        return &w[count..];
+    // The next word, 0 past the end.
+    pub fn word(&mut self) -> u32
+        ensures value { result ≡ word_at self.old.left.now 0 }
+        ensures left { self.new.left.now ≡ drop 1 self.old.left.now }
+    {
+        let Some((word, left)) = self.left.split_first() else {
+            return 0;
+        };
+        self.left = left;
+        *word
     }
-    &w[..0]
-}
 
-// The i32 whose two's complement x is.
-pub(crate) fn signed(x: u32) -> i32
-    ensures { result ≡ to_z w32 x }
-{
-    if x < 2147483648 {
-        return x as i32;
+    // What the next word stands for.
+    pub fn value<T: Element>(&mut self) -> T
+        ensures value { result ≡ T.meant (word_at self.old.left.now 0) }
+        ensures left { self.new.left.now ≡ drop 1 self.old.left.now }
+    {
+        T::from_word(self.word())
     }
-    !((4294967295 - x) as i32)
-}
 
-// The i64 whose two's complement x is.
-pub fn signed_long(x: usize) -> i64
-    ensures { result ≡ to_z w64 x }
-{
-    if x < 9223372036854775808 {
-        return x as i64;
+    // What the next words stand for, one for each place of an array.
+    pub fn values<T: Element, const N: usize>(&mut self) -> [T; N]
+        ensures { self.new.left.now ≡ drop N self.old.left.now }
+    {
+        let words = self.first(N);
+        std::array::from_fn(|i| T::from_word(words.get(i).copied().unwrap_or(0)))
     }
-    !((18446744073709551615 - x) as i64)
-}
 
-// The i16 whose two's complement the low 16 bits are.
-pub fn short(x: u32) -> i16
-    ensures { result ≡ to_z w16 (x % 65536) }
-{
-    let low = x % 65536;
-    if low < 32768 {
-        return low as i16;
+    // A usize or a u64: the low word, then the high one.
+    pub fn long(&mut self) -> usize
+        ensures value { result ≡ word_at self.old.left.now 0 + word_at self.old.left.now 1 * 4294967296 }
+        ensures left { self.new.left.now ≡ drop 2 self.old.left.now }
+    {
+        let low = self.word() as usize;
+        let high = self.word() as usize;
+        low + high * HIGH
     }
-    !((65535 - low) as i16)
-}
 
-// The low 8 bits.
-pub(crate) fn byte(x: u32) -> u8 {
-    (x % 256) as u8
-}
-
-// The usize whose two's complement x is, of 64 bits where x is of 32.
-pub(crate) fn widened(x: u32) -> usize {
-    if x < 2147483648 {
-        return x as usize;
+    pub fn longs<const N: usize>(&mut self) -> [usize; N] {
+        std::array::from_fn(|_| self.long())
     }
-    18446744069414584320 + (x as usize)
-}
 
-// The f32 whose bits x is; a NaN's bits all give one NaN.
-pub fn float(x: u32) -> f32
-    ensures { result ≡ float_of x }
-{
-    if 2139095040 < x % 2147483648 {
-        return 0.0 / 0.0;
+    // The next `count` words, or all that are left.
+    pub fn first(&mut self, count: usize) -> &'a [u32]
+        ensures value { result.now ≡ take count self.old.left.now }
+        ensures left { self.new.left.now ≡ drop count self.old.left.now }
+        ensures fits { length self.old.left.now < 2 ^ 63 }
+    {
+        let (first, left) = self.left.split_at(count.min(self.left.len()));
+        self.left = left;
+        first
     }
-    f32::from_bits(x)
-}
 
-// An f32's bits, those of every NaN being one.
-pub(crate) fn bits(x: f32) -> u32
-    ensures { result ≡ bits_of x }
-{
-    if x == x {
-        return f32::to_bits(x);
-    }
-    2143289344
-}
-
-pub fn number(w: &[u32], at: usize) -> i32
-    ensures { result ≡ to_z w32 (word_at w.now at) }
-{
-    signed(word(w, at))
-}
-
-// A usize or a u64: the low word, then the high one.
-pub fn long(w: &[u32], at: usize) -> usize
-    ensures { result ≡ word_at w.now at + word_at w.now (at + 1) * 4294967296 }
-{
-    if w.len() <= at {
-        return 0;
-    }
-    (word(w, at) as usize) + (word(w, at + 1) as usize) * 4294967296
-}
-
-// Where the comparison stands after x: at the next word, or lost. A record agrees where it ends at the last word.
-pub fn same(w: &[u32], at: usize, x: u32) -> usize
-    ensures { result ≡ after w.now at x }
-{
-    if at < w.len() {
-        if w[at] == x {
-            return at + 1;
+    // A slice that the record lends.
+    pub fn slice(&mut self) -> Lent<'a>
+        ensures length { result.length ≡ word_at self.old.left.now 0 }
+        ensures left { self.new.left.now ≡ drop (4 + word_at self.old.left.now 3) self.old.left.now }
+    {
+        let length = self.word() as usize;
+        let pattern = self.word();
+        let stride = self.word();
+        let count = self.word() as usize;
+        Lent {
+            length,
+            pattern,
+            stride,
+            listed: self.first(count),
         }
     }
-    LOST
-}
 
-pub fn same_number(w: &[u32], at: usize, x: i32) -> usize
-    ensures { result ≡ after_if (same_bits w32 (to_z w32 (word_at w.now at)) x) w.now at }
-{
-    if number(w, at) == x {
-        return same(w, at, word(w, at));
+    // A record agrees where no word is left in the end.
+    pub fn is_empty(&self) -> bool
+        ensures { IsTrue result ↔ (self.now.left.now ≡ []) }
+    {
+        self.left.is_empty()
     }
-    LOST
-}
 
-pub fn same_short(w: &[u32], at: usize, x: i16) -> usize
-    ensures { result ≡ after_if (same_bits w16 (to_z w16 (word_at w.now at % 65536)) x) w.now at }
-{
-    if short(word(w, at)) == x {
-        return same(w, at, word(w, at));
+    // Whether the next word is x, which is then behind.
+    pub fn same<T: Element>(&mut self, x: T) -> bool
+        ensures { Compares result self.old.left.now self.new.left.now
+            (after_if (T.recorded x (word_at self.old.left.now 0)) self.old.left.now 0) }
+    {
+        match self.first(1) {
+            [word] => x.is_recorded_as(*word),
+            _ => false,
+        }
     }
-    LOST
-}
 
-// Whether something is so, 1 or 0.
-pub fn same_flag(w: &[u32], at: usize, x: bool) -> usize
-    ensures { result ≡ after w.now at (if x then 1 else 0) }
-{
-    if x {
-        return same(w, at, 1);
+    // Whether something is so, 1 or 0.
+    pub fn same_flag(&mut self, x: bool) -> bool
+        ensures { Compares result self.old.left.now self.new.left.now
+            (after self.old.left.now 0 (if x then 1 else 0)) }
+    {
+        self.same(u32::from(x))
     }
-    same(w, at, 0)
+
+    pub fn same_long(&mut self, x: usize) -> bool
+        ensures { Compares result self.old.left.now self.new.left.now (after_long self.old.left.now 0 x) }
+    {
+        self.same((x % HIGH) as u32) && self.same((x / HIGH) as u32)
+    }
+
+    pub fn same_values<T: Element>(&mut self, values: &[T]) -> bool {
+        values.iter().all(|x| self.same(*x))
+    }
+
+    pub fn same_longs(&mut self, longs: &[usize]) -> bool {
+        longs.iter().all(|x| self.same_long(*x))
+    }
+
+    // A span or an array after the call: a count, so many places, and those behind them as they were before.
+    pub fn same_places<T: Element>(&mut self, places: &[T], before: &[T]) -> bool {
+        if self.is_empty() || before.len() != places.len() {
+            return false;
+        }
+        let listed = self.word() as usize;
+        if places.len() < listed {
+            return false;
+        }
+        self.same_values(&places[..listed])
+            && places[listed..]
+                .iter()
+                .zip(&before[listed..])
+                .all(|(x, y)| x.is_same(*y))
+    }
 }
 
-pub fn same_float(w: &[u32], at: usize, x: f32) -> usize
-    ensures { result ≡ after w.now at (bits_of x) }
-{
-    same(w, at, bits(x))
-}
-
-pub fn same_long(w: &[u32], at: usize, x: usize) -> usize
-    ensures { result ≡ after_long w.now at x }
-{
-    let next = same(w, at, (x % 4294967296) as u32);
-    same(w, next, (x / 4294967296) as u32)
-}
+// The weight of the high word.
+const HIGH: usize = 4294967296;

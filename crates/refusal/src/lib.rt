@@ -1,4 +1,4 @@
-// The refusals of 01's table, and the answers that carry no more than a refusal or a count.
+// The refusals of 01's table, and how far a feed moves. What a call answers is a `Result`: what it hands over, or why it is turned back.
 #![tactic(auto)]
 
 ghost use Rattle.std.specs.Prelude.{◌≡◌};
@@ -7,52 +7,38 @@ ghost use Rattle.refusal.specs.Table.{number_of};
 pub mod rows;
 
 // Why a call is turned back: one case for each number of 01's table, and of 02's requests that join it.
-#[derive(Clone, Copy)]
+#[derive(Clone, Copy, PartialEq, Eq, Debug)]
 pub enum Refusal {
-    Stages,
-    Factor,
-    GainBits,
-    Span,
-    FirFactor,
-    Taps,
-    Samples,
-    TapsMultiple,
-    Ratio,
-    HalfBandTaps,
-    Depth,
-    Phases,
-    Prototype,
-    Step,
-    State,
-    Directory,
-    Entries,
-    EntryNumber,
-    PhaseTaps,
-    Lengths,
-    Parked,
-    Plan,
-    PowerOfTwo,
+    Stages = 1,
+    Factor = 2,
+    GainBits = 3,
+    Span = 4,
+    FirFactor = 5,
+    Taps = 6,
+    Samples = 7,
+    TapsMultiple = 8,
+    Ratio = 9,
+    HalfBandTaps = 10,
+    Depth = 11,
+    Phases = 12,
+    Prototype = 13,
+    Step = 14,
+    State = 15,
+    Directory = 16,
+    Entries = 17,
+    EntryNumber = 18,
+    PhaseTaps = 19,
+    Lengths = 20,
+    Parked = 21,
+    Plan = 22,
+    PowerOfTwo = 23,
 }
 
-// What an opening or a reset answers.
-#[derive(Clone, Copy)]
-pub enum Opening {
-    Opened,
-    Refused(Refusal),
-}
-
-// What a block answers: how many outputs stand in front of the span.
-#[derive(Clone, Copy)]
-pub enum Count {
-    Written(usize),
-    Refused(Refusal),
-}
-
-// What a feed or a feeding block answers: how many samples it took and how many outputs it wrote.
-#[derive(Clone, Copy)]
-pub enum Counts {
-    Moved { taken: usize, written: usize },
-    Refused(Refusal),
+// How many samples a feed or a feeding block took, and how many outputs it wrote.
+#[derive(Clone, Copy, PartialEq, Eq, Debug)]
+pub struct Moved {
+    pub taken: usize,
+    pub written: usize,
 }
 
 impl Refusal {
@@ -60,30 +46,6 @@ impl Refusal {
     pub fn number(self) -> u8
         ensures { result ≡ number_of self }
     {
-        match self {
-            Refusal::Stages => 1,
-            Refusal::Factor => 2,
-            Refusal::GainBits => 3,
-            Refusal::Span => 4,
-            Refusal::FirFactor => 5,
-            Refusal::Taps => 6,
-            Refusal::Samples => 7,
-            Refusal::TapsMultiple => 8,
-            Refusal::Ratio => 9,
-            Refusal::HalfBandTaps => 10,
-            Refusal::Depth => 11,
-            Refusal::Phases => 12,
-            Refusal::Prototype => 13,
-            Refusal::Step => 14,
-            Refusal::State => 15,
-            Refusal::Directory => 16,
-            Refusal::Entries => 17,
-            Refusal::EntryNumber => 18,
-            Refusal::PhaseTaps => 19,
-            Refusal::Lengths => 20,
-            Refusal::Parked => 21,
-            Refusal::Plan => 22,
-            Refusal::PowerOfTwo => 23,
-        }
+        self as u8
     }
 }

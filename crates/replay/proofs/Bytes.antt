@@ -6,7 +6,6 @@ use Rattle.std.proofs.lemmas.List.{take-append-le, take_all}
 use Rattle.std.specs.Prelude.{OnOk, Option, None, Some, Result, Ok, Err}
 use Rattle.std.specs.Io.KnownBytes.{Appends, Consumes}
 use Rattle.replay.specs.Text.{word_text, words_text, record_text}
-use Rattle.replay.proofs.Words.{words_front}
 use borrow.Rule.Slice.PartMut.{put_mid, post_of}
 
 pub front : (us ys zs : List ℕ) (d n : ℕ) → length us ≡ d → n ≤ length ys → take (d + n) (us ++ (ys ++ zs)) ≡ us ++ take n ys
@@ -30,21 +29,19 @@ both (Some us) (Some vs) None xs ys p q = absurd q
 both (Some us) (Some vs) (Some ws) xs ys p q = p ∙ ap (λ w. xs ++ w) q ∙ sym (append_assoc xs ys ws)
 
 -- a header and the words behind it
-pub record_of : (a b c : Option (List ℕ)) (header : List ℕ) (got n : ℕ) (text : List ℕ) (words post : List ℕ) (most : ℕ)
+pub record_of : (a b c : Option (List ℕ)) (header : List ℕ) (got n : ℕ) (text words : List ℕ)
     → length (take got header) ≤ 9 → Consumes a b (take got header) → take 9 (take got header) ≡ word_text n 32
-    → Consumes b c (take most text) → length text ≤ most → length text ≡ n * 9 → length words ≡ n
+    → Consumes b c text → length text ≡ n * 9 → length words ≡ length text / 9
     → take (length words * 9) text ≡ words_text (length text / 9) (length words) words
-    → Consumes a c (record_text n (words ++ post))
-record_of a b c header got n text words post most hg p h q hm ht hw s =
+    → Consumes a c (record_text (length words) words)
+record_of a b c header got n text words hg p h q ht hw s =
     let front : take got header ≡ word_text n 32 = sym (take_all 9 (take got header) hg) ∙ h in
     let count : length text / 9 ≡ n = ap (λ m. m / 9) ht ∙ mul-div_cancel n (omega arith) in
-    let spelled : text ≡ words_text n n words =
-    sym (take_all (n * 9) text (omega arith)) ∙ ap (λ m. take (m * 9) text) (sym hw) ∙ s
-    ∙ ap (λ m. words_text m (length words) words) count ∙ ap (λ m. words_text n m words) hw in
-    let rest : take most text ≡ words_text n n (words ++ post) =
-    take_all most text hm ∙ spelled ∙ sym (words_front n n words post (omega arith)) in
-    both a b c (word_text n 32) (words_text n n (words ++ post))
-    (subst (λ w. Consumes a b w) front p) (subst (λ w. Consumes b c w) rest q)
+    let all : length words ≡ n = hw ∙ count in
+    let spelled : text ≡ words_text (length words) (length words) words =
+    sym (take_all (length words * 9) text (omega arith)) ∙ s ∙ ap (λ m. words_text m (length words) words) (sym hw) in
+    both a b c (word_text (length words) 32) (words_text (length words) (length words) words)
+    (subst (λ w. Consumes a b w) (front ∙ ap (λ m. word_text m 32) (sym all)) p) (subst (λ w. Consumes b c w) spelled q)
 
 -- what two writes appended
 pub appended : (a b c : Option (List ℕ)) (xs ys : List ℕ) → Appends a b xs → Appends b c ys → Appends a c (xs ++ ys)

@@ -1,10 +1,6 @@
 -- The text of a record.
-use Rattle.std.specs.Prelude.{ℕ, zero, suc, ◌+◌, ◌/◌, ◌%◌, List, [], ◌∷◌, ◌++◌, false, slice_index, ⊤, ◌==◌, if◌then◌else◌}
+use Rattle.std.specs.Prelude.{ℕ, zero, suc, ◌+◌, ◌/◌, ◌%◌, List, [], ◌∷◌, ◌++◌, false, slice_index, ◌==◌, if◌then◌else◌}
 use Rattle.std.specs.Fmt.{digit_glyph}
-use Rattle.replay.specs.declared.text.Read.{Read}
-use Rattle.replay.specs.declared.text.Read.TheVariants.{Record}
-use Rattle.replay.specs.declared.text.Word.{Word}
-use Rattle.replay.specs.declared.text.Word.TheVariants.{Of, Broken}
 
 -- the last k hexadecimal digits of x, in lower case
 abbrev pub hex_digits : ℕ → ℕ → List ℕ
@@ -27,13 +23,3 @@ words_text count (suc i) words = words_text count i words ++ word_text (slice_in
 -- a record: how many words it has, and the words
 abbrev pub record_text : ℕ → List ℕ → List ℕ
 record_text count words = word_text count 32 ++ words_text count count words
-
--- what holds of a word that was read
-abbrev pub IfOf : Word → (ℕ → Type 0) → Type 0
-IfOf (Of x) p = p x
-IfOf Broken p = ⊤
-
--- what holds of a record that was read, of so many words
-abbrev pub IfRecord : Read → (ℕ → Type 0) → Type 0
-IfRecord (Record count) p = p count
-IfRecord _ p = ⊤

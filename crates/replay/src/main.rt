@@ -4,18 +4,14 @@
 mod tally;
 mod text;
 
-ghost use Rattle.std.specs.Prelude.{◌≡◌, ◌+◌, ◌%◌, ◌^◌, length};
+ghost use Rattle.std.specs.Prelude.{◌≡◌, ◌+◌, ◌%◌, ◌^◌, IsOkAnd};
 
 use crate::tally::Tally;
-use crate::text::{Read, read_record};
-use records::words::{first, rest, word};
+use crate::text::{ReadError, read_record};
+use records::words::Words;
+use std::alloc::{AllocError, Global};
 use std::io;
 use std::io::BufReader;
-
-// The most words of a record, with the bytes that these take. 8 MiB of stack have room for both.
-const MOST_WORDS: usize = 200000;
-
-const MOST_BYTES: usize = MOST_WORDS * 9;
 
 // Bytes that one read of the list may take ahead.
 const AHEAD: usize = 65536;
@@ -23,64 +19,50 @@ const AHEAD: usize = 65536;
 // No list has so many records: the loop over them is proved to end by it.
 const MOST_RECORDS: u64 = 1099511627776;
 
-// Whether the crates answer as a record says; `w` is what follows the operation's code.
-fn agrees(operation: u32, w: &[u32]) -> bool {
+// Whether the crates answer as a record says; `words` is what follows the operation's code.
+fn agrees(operation: u32, words: Words<'_>, alloc: Global) -> Result<bool, AllocError> {
     match operation {
-        0x10..=0x2f => replay_integer::agrees(operation, w),
-        0x30..=0x4f => replay_q15::agrees(operation, w),
-        0x50..=0xbf => replay_float::agrees(operation, w),
-        0xc0..=0xcf => replay_line::agrees(operation, w),
-        0xd0..=0xdf => replay_sheet::agrees(operation, w),
-        0xe0..=0xef => replay_phase::agrees(operation, w),
-        _ => false,
+        0x10..=0x2f => replay_integer::agrees(operation, words, alloc),
+        0x30..=0x4f => replay_q15::agrees(operation, words, alloc),
+        0x50..=0xbf => replay_float::agrees(operation, words, alloc),
+        0xc0..=0xcf => replay_line::agrees(operation, words, alloc),
+        0xd0..=0xdf => replay_sheet::agrees(operation, words, alloc),
+        0xe0..=0xef => replay_phase::agrees(operation, words, alloc),
+        _ => Ok(false),
     }
 }
 
-fn replayed(tally: Tally, w: &[u32]) -> Tally {
-    let operation = word(w, 0);
-    tally.counted(operation, agrees(operation, rest(w, 1)))
+fn replayed(tally: Tally, record: &[u32], alloc: Global) -> Result<Tally, AllocError> {
+    let mut words = Words { left: record };
+    let operation = words.word();
+    let same = agrees(operation, words, alloc)?;
+    Ok(tally.counted(operation, same))
 }
 
 // A list that breaks off or is no list counts as one more difference, with no operation.
-fn ended(tally: Tally, read: Read) -> Tally
-    ensures end { read ≡ Read.End → result ≡ tally }
-    ensures broken { read ≡ Read.Broken → result.differences ≡ (tally.differences + 1) % 2 ^ 64 }
+fn ended(tally: Tally, error: ReadError) -> io::Result<Tally>
+    ensures { error ≡ ReadError.Broken → IsOkAnd result (λ ended. ended.differences ≡ (tally.differences + 1) % 2 ^ 64) }
 {
-    match read {
-        Read::End => tally,
-        _ => tally.counted(0, false),
+    match error {
+        ReadError::Broken => Ok(tally.counted(0, false)),
+        ReadError::Io(error) => Err(error),
     }
 }
 
-fn replay<R: io::Read>(source: &mut R, bytes: &mut [u8], words: &mut [u32]) -> io::Result<Tally> {
-    let mut tally = Tally::none();
+fn replay<R: io::Read>(source: &mut R, alloc: Global) -> io::Result<Tally> {
+    let mut tally = Tally::default();
     for _ in 0..MOST_RECORDS {
-        let read = read_record(source, bytes, words)?;
-        let Read::Record(count) = read else {
-            return Ok(ended(tally, read));
-        };
-        tally = replayed(tally, first(words, count));
+        match read_record(source, alloc) {
+            Ok(Some(record)) => tally = replayed(tally, &record, alloc)?,
+            Ok(None) => return Ok(tally),
+            Err(error) => return ended(tally, error),
+        }
     }
     Ok(tally)
 }
 
-// The `ensures` says the length, which lending the array as a slice needs.
-fn no_bytes() -> [u8; MOST_BYTES]
-    ensures { 1800000 ≡ length result }
-{
-    [0; MOST_BYTES]
-}
-
-fn no_words() -> [u32; MOST_WORDS]
-    ensures { 200000 ≡ length result }
-{
-    [0; MOST_WORDS]
-}
-
 fn main(rt: HostRuntime) -> io::Result<()> {
     let mut source = BufReader::with_capacity(rt.alloc(), AHEAD, rt.reader())?;
-    let mut bytes = no_bytes();
-    let mut words = no_words();
-    let tally = replay(&mut source, &mut bytes, &mut words)?;
+    let tally = replay(&mut source, rt.alloc())?;
     tally.report(&mut io::writer(&rt))
 }

@@ -6,28 +6,16 @@ ghost use Rattle.replay.specs.Report.{eight_digits, count_text, difference_text}
 use std::io;
 use std::io::Write;
 
-#[derive(Drop)]
+#[derive(Default, Drop)]
 pub(crate) struct Tally {
     pub records: u64,
     pub differences: u64,
-    // The record, counted from 1, and the operation of the first difference.
+    // The record, counted from 1, and the operation of the first difference, 0 where there is none. An Option would say a second time whether there is one.
     pub first: u64,
     pub operation: u32,
 }
 
 impl Tally {
-    pub(crate) fn none() -> Tally
-        ensures records { result.records ≡ 0 }
-        ensures differences { result.differences ≡ 0 }
-    {
-        Tally {
-            records: 0,
-            differences: 0,
-            first: 0,
-            operation: 0,
-        }
-    }
-
     pub(crate) fn counted(mut self, operation: u32, same: bool) -> Tally
         ensures records { result.records ≡ (self.records + 1) % 2 ^ 64 }
         ensures agrees { IsTrue same → result.differences ≡ self.differences }

@@ -1,67 +1,68 @@
 // Reading a record: each word is eight hexadecimal digits and one byte, a blank or, after the last, the line's end.
-ghost use Rattle.std.specs.Prelude.{◌≡◌, ℕ, ◌*◌, ◌/◌, ◌<◌, ◌≤◌, false, length, take, IfOk, IsTrue};
+ghost use Rattle.std.specs.Prelude.{◌≡◌, ℕ, ◌*◌, ◌/◌, ◌<◌, ◌≤◌, Some, None, Ok, false, length, take, IfOk, IfSome};
 ghost use Rattle.std.specs.Fmt.{digit_glyph};
 ghost use Rattle.std.specs.Io.{ReadsAtMost};
 ghost use Rattle.std.specs.Io.KnownBytes.{Consumes, IsAtEnd, ReadConsumes};
-ghost use Rattle.replay.specs.Text.{IfOf, IfRecord, record_text, separator_of, word_text, words_text};
+ghost use Rattle.replay.specs.Text.{record_text, separator_of, word_text, words_text};
 
+use std::alloc::{AllocError, Global};
 use std::io;
 use std::io::ErrorKind;
 
 // Bytes of a word.
 const WIDTH: usize = 9;
 
+// The most words of a record.
+const MOST_WORDS: u32 = 200000;
+
 const BLANK: u8 = 32;
 
 const LINE_END: u8 = 10;
 
-// What reading a record finds.
-#[derive(Drop)]
-pub(crate) enum Read {
-    End,
-    // So many words.
-    Record(usize),
+// Why no record was read.
+#[derive(Debug, Drop)]
+pub(crate) enum ReadError {
     // Text that is no record, or one that is cut short or has too many words.
     Broken,
+    Io(io::Error),
 }
 
-#[derive(Drop)]
-enum Word {
-    Of(u32),
-    Broken,
+impl From<io::Error> for ReadError {
+    fn from(error: io::Error) -> ReadError {
+        ReadError::Io(error)
+    }
 }
 
-// The value of a digit, 16 for another byte.
-fn digit(b: u8) -> u32
-    ensures spelled { result < 16 → b ≡ digit_glyph false result }
-    ensures value { (d : ℕ) → d < 16 → b ≡ digit_glyph false d → result ≡ d }
+impl From<AllocError> for ReadError {
+    fn from(error: AllocError) -> ReadError {
+        ReadError::Io(io::Error::from(error))
+    }
+}
+
+// The value of a digit.
+fn digit(b: u8) -> Option<u32>
+    ensures spelled { IfSome result (λ d. (d < 16) × (b ≡ digit_glyph false d)) }
+    ensures value { (d : ℕ) → d < 16 → b ≡ digit_glyph false d → result ≡ Some d }
 {
     match b {
-        48..=57 => u32::from(b - 48),
-        97..=102 => u32::from(b - 87),
-        _ => 16,
+        48..=57 => Some(u32::from(b - 48)),
+        97..=102 => Some(u32::from(b - 87)),
+        _ => None,
     }
 }
 
 // The word at the front, if the byte behind it is `separator`.
-fn parse_word(text: &[u8], separator: u8) -> Word
-    ensures { IfOf result (λ x. take 9 text.now ≡ word_text x separator) }
+fn parse_word(text: &[u8], separator: u8) -> Option<u32>
+    ensures { IfSome result (λ x. take 9 text.now ≡ word_text x separator) }
 {
-    if text.len() < WIDTH {
-        return Word::Broken;
-    }
-    if text[8] != separator {
-        return Word::Broken;
+    if text.len() < WIDTH || text[8] != separator {
+        return None;
     }
     let mut value: u32 = 0;
     for i in 0..8 {
-        let d = digit(text[i]);
-        if d > 15 {
-            return Word::Broken;
-        }
-        value = value % 268435456 * 16 + d;
+        value = value * 16 + digit(text[i])?;
     }
-    Word::Of(value)
+    Some(value)
 }
 
 fn separator(i: usize, count: usize) -> u8
@@ -71,22 +72,20 @@ fn separator(i: usize, count: usize) -> u8
     if i + 1 < count { BLANK } else { LINE_END }
 }
 
-// Fills `words` from a text that has exactly so many.
-fn parse(text: &[u8], words: &mut [u32]) -> bool
-    ensures { IsTrue result → take (length words.new * 9) text.now ≡ words_text (length text.now / 9) (length words.new) words.new }
+// The words of a text, as many as fit it.
+fn parse(text: &[u8], alloc: Global) -> Result<Option<Vec<u32>>, AllocError>
+    ensures { IfOk result (λ found. IfSome found (λ words. (length words.items ≡ length text.now / 9)
+        × (take (length words.items * 9) text.now ≡ words_text (length text.now / 9) (length words.items) words.items))) }
 {
     let count = text.len() / WIDTH;
-    for i in 0..words.len() {
-        if count <= i {
-            return false;
-        }
-        let from = i * WIDTH;
-        let Word::Of(x) = parse_word(&text[from..], separator(i, count)) else {
-            return false;
+    let mut words = Vec::new(alloc);
+    for i in 0..count {
+        let Some(x) = parse_word(&text[i * WIDTH..], separator(i, count)) else {
+            return Ok(None);
         };
-        words[i] = x;
+        words.push(x)?;
     }
-    true
+    Ok(Some(words))
 }
 
 // One read, tried again where a signal interrupts it.
@@ -123,37 +122,43 @@ fn read_full<R: io::Read>(source: &mut R, buf: &mut [u8]) -> io::Result<usize>
     Ok(done)
 }
 
-// The next record's words, by way of `bytes`.
+// The next `size` bytes, or nothing where the list ends before.
+fn read_text<R: io::Read>(source: &mut R, size: usize, alloc: Global) -> io::Result<Option<Vec<u8>>>
+    ensures { IfOk result (λ found. IfSome found (λ text. (length text.items ≡ size)
+        × Consumes (R.remaining source.old) (R.remaining source.new) text.items)) }
+{
+    let mut text = vec![in alloc; 0u8; size]?;
+    let got = read_full(source, &mut text)?;
+    if got < size {
+        return Ok(None);
+    }
+    Ok(Some(text))
+}
+
+// The next record's words, or nothing at the list's end.
 pub(crate) fn read_record<R: io::Read>(
     source: &mut R,
-    bytes: &mut [u8],
-    words: &mut [u32],
-) -> io::Result<Read>
-    ensures room { IfOk result (λ found. IfRecord found (λ count. count ≤ length words.new)) }
-    ensures spelled { IfOk result (λ found. IfRecord found (λ count. Consumes (R.remaining source.old) (R.remaining source.new) (record_text count words.new))) }
-    ensures end { IfOk result (λ found. found ≡ Read.End → IsAtEnd (R.remaining source.old)) }
+    alloc: Global,
+) -> Result<Option<Vec<u32>>, ReadError>
+    ensures spelled { IfOk result (λ found. IfSome found (λ words. Consumes (R.remaining source.old) (R.remaining source.new) (record_text (length words.items) words.items))) }
+    ensures end { result ≡ Ok None → IsAtEnd (R.remaining source.old) }
 {
     let mut header = [0u8; WIDTH];
     let got = read_full(source, &mut header)?;
     if got == 0 {
-        return Ok(Read::End);
+        return Ok(None);
     }
-    let Word::Of(n) = parse_word(&header[..got], BLANK) else {
-        return Ok(Read::Broken);
+    let Some(count) = parse_word(&header[..got], BLANK) else {
+        return Err(ReadError::Broken);
     };
-    let count = n as usize;
-    if words.len() < count {
-        return Ok(Read::Broken);
+    if count > MOST_WORDS {
+        return Err(ReadError::Broken);
     }
-    if bytes.len() / WIDTH < count {
-        return Ok(Read::Broken);
-    }
-    let text = &mut bytes[0..count * WIDTH];
-    if read_full(source, text)? < text.len() {
-        return Ok(Read::Broken);
-    }
-    if parse(text, &mut words[0..count]) {
-        return Ok(Read::Record(count));
-    }
-    Ok(Read::Broken)
+    let Some(text) = read_text(source, count as usize * WIDTH, alloc)? else {
+        return Err(ReadError::Broken);
+    };
+    let Some(words) = parse(&text, alloc)? else {
+        return Err(ReadError::Broken);
+    };
+    Ok(Some(words))
 }

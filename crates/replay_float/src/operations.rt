@@ -1,33 +1,52 @@
 // The operations by their codes. tests/oracle/README.md has them.
-ghost use Rattle.std.specs.Prelude.{false, ◌≡◌, ◌<◌};
+ghost use Rattle.std.specs.Prelude.{Ok, false, ◌≡◌, ◌<◌};
 
-use crate::{
-    blocks, hbf_dec, hbf_dec_cascade, hbf_int, hbf_int_cascade, hbf_stream, polyphase_resamp,
-    values,
-};
+use crate::block::process;
+use crate::cascade::{self, DecCascade, IntCascade};
+use crate::hbf::{self, Dec, Int};
+use crate::hbf_stream::{self, Stream};
+use crate::polyphase_resamp::{self, Resampler};
+use crate::values;
+use float::PolyphaseResampF32;
+use half_band::{hbf_dec_response_length, hbf_int_response_length};
+use records::reset::replay_reset;
+use records::words::Words;
+use std::alloc::{AllocError, Global};
 
-// Whether the converters answer as a record says; `w` is what follows the operation's code. A code that is none of this layer's agrees with nothing.
-pub fn agrees(operation: u32, w: &[u32]) -> bool
-    ensures below { operation < 81 → result ≡ false }
-    ensures above { 181 < operation → result ≡ false }
+// Whether the converters answer as a record says; `words` is what follows the operation's code. A code that is none of this layer's agrees with nothing.
+// A code stands here alone, beside what it does: an enum of the operations would list them a second time.
+pub fn agrees(operation: u32, words: Words<'_>, alloc: Global) -> Result<bool, AllocError>
+    ensures below { operation < 81 → result ≡ Ok false }
+    ensures above { 181 < operation → result ≡ Ok false }
 {
     match operation {
-        0x52 => values::to_f32(w),
-        0x53 => values::dec_response_length(w),
-        0x54 => values::int_response_length(w),
-        0x55 => values::tap_table(w),
-        0x62 => hbf_dec::process_pair(w),
-        0x64 => hbf_dec::reset(w),
-        0x72 => hbf_int::process_sample(w),
-        0x74 => hbf_int::reset(w),
-        0x81 => hbf_dec_cascade::new(w),
-        0x83 => hbf_dec_cascade::reset(w),
-        0x91 => hbf_int_cascade::new(w),
-        0x93 => hbf_int_cascade::reset(w),
-        0xa1 => hbf_stream::new(w),
-        0xa2 => hbf_stream::process_sample(w),
-        0xa3 => hbf_stream::reset(w),
-        0xb4 => polyphase_resamp::reset(w),
-        _ => blocks::agrees(operation, w),
+        0x51 => values::linear(words, alloc),
+        0x52 => Ok(values::to_f32(words)),
+        0x53 => Ok(values::response_length(words, hbf_dec_response_length)),
+        0x54 => Ok(values::response_length(words, hbf_int_response_length)),
+        0x55 => Ok(values::tap_table(words)),
+        0x61 => hbf::new::<Dec>(words, alloc),
+        0x62 => Ok(hbf::process_pair(words)),
+        0x63 => process::<Dec>(words, alloc),
+        0x64 => Ok(replay_reset::<Dec>(words)),
+        0x71 => hbf::new::<Int>(words, alloc),
+        0x72 => Ok(hbf::process_sample(words)),
+        0x73 => process::<Int>(words, alloc),
+        0x74 => Ok(replay_reset::<Int>(words)),
+        0x81 => Ok(cascade::new::<DecCascade>(words)),
+        0x82 => process::<DecCascade>(words, alloc),
+        0x83 => Ok(replay_reset::<DecCascade>(words)),
+        0x91 => Ok(cascade::new::<IntCascade>(words)),
+        0x92 => process::<IntCascade>(words, alloc),
+        0x93 => Ok(replay_reset::<IntCascade>(words)),
+        0xa1 => Ok(cascade::new::<Stream>(words)),
+        0xa2 => Ok(hbf_stream::process_sample(words)),
+        0xa3 => Ok(replay_reset::<Stream>(words)),
+        0xb1 => polyphase_resamp::new(words, alloc, PolyphaseResampF32::from_taps),
+        0xb2 => polyphase_resamp::process_block(words, alloc),
+        0xb3 => polyphase_resamp::push(words, alloc),
+        0xb4 => Ok(replay_reset::<Resampler>(words)),
+        0xb5 => polyphase_resamp::new(words, alloc, PolyphaseResampF32::from_taps_straight),
+        _ => Ok(false),
     }
 }

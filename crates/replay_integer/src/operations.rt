@@ -1,25 +1,31 @@
 // The operations by their codes. tests/oracle/README.md has them.
-ghost use Rattle.std.specs.Prelude.{false, ◌≡◌, ◌<◌};
+ghost use Rattle.std.specs.Prelude.{Ok, false, ◌≡◌, ◌<◌};
 
-use crate::{cic_decimator, cic_interpolator};
+use crate::cic;
+use crate::cic_decimator::{self, Decimator};
+use crate::cic_interpolator::{self, Interpolator};
+use integer::CicDecimator;
+use records::words::Words;
+use std::alloc::{AllocError, Global};
 
-// Whether the converters answer as a record says; `w` is what follows the operation's code. A code that is none of this layer's agrees with nothing.
-pub fn agrees(operation: u32, w: &[u32]) -> bool
-    ensures below { operation < 17 → result ≡ false }
-    ensures above { 36 < operation → result ≡ false }
+// Whether the converters answer as a record says; `words` is what follows the operation's code. A code that is none of this layer's agrees with nothing.
+// A code stands here alone, beside what it does: an enum of the operations would list them a second time.
+pub fn agrees(operation: u32, words: Words<'_>, alloc: Global) -> Result<bool, AllocError>
+    ensures below { operation < 17 → result ≡ Ok false }
+    ensures above { 36 < operation → result ≡ Ok false }
 {
     match operation {
-        0x11 => cic_decimator::new(w),
-        0x12 => cic_decimator::process_sample(w),
-        0x13 => cic_decimator::process_sample_scaled(w),
-        0x14 => cic_decimator::gain(w),
-        0x15 => cic_decimator::gain_bits(w),
-        0x16 => cic_decimator::process_block(w),
-        0x17 => cic_decimator::fresh_block(w),
-        0x21 => cic_interpolator::new(w),
-        0x22 => cic_interpolator::process_sample(w),
-        0x23 => cic_interpolator::gain(w),
-        0x24 => cic_interpolator::gain_bits(w),
-        _ => false,
+        0x11 => Ok(cic::new::<Decimator>(words)),
+        0x12 => Ok(cic_decimator::sample(words, CicDecimator::process_sample)),
+        0x13 => Ok(cic_decimator::sample(words, CicDecimator::process_sample_scaled)),
+        0x14 => Ok(cic::gain::<Decimator>(words)),
+        0x15 => Ok(cic::gain_bits::<Decimator>(words)),
+        0x16 => cic_decimator::process_block(words, alloc),
+        0x17 => cic_decimator::fresh_block(words, alloc),
+        0x21 => Ok(cic::new::<Interpolator>(words)),
+        0x22 => cic_interpolator::process_sample(words, alloc),
+        0x23 => Ok(cic::gain::<Interpolator>(words)),
+        0x24 => Ok(cic::gain_bits::<Interpolator>(words)),
+        _ => Ok(false),
     }
 }

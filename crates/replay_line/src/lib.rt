@@ -2,6 +2,7 @@
 #![tactic(auto)]
 
 mod gauge_line;
+mod numbers;
 pub mod operations;
 
 pub use crate::operations::agrees;

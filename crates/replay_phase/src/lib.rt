@@ -1,7 +1,6 @@
 // Linear-phase filters, compared with records of what the Rust answered.
 #![tactic(auto)]
 
-mod blocks;
 mod linear_phase_fir;
 pub mod operations;
 

@@ -1,116 +1,77 @@
-// The operations of LinearPhaseFir. `w` is the words behind an operation's code: its inputs, then the answers. Slices that it lends are read before.
-use half_band::ResponseLength;
-use linear_phase::{
-    LINEAR_PHASE_DELAYS, LinearPhaseBlock, LinearPhaseFir, LinearPhaseOpening, LinearPhaseOut,
-    LinearPhaseStep, MOST_LINEAR_PHASE_TAPS,
-};
-use records::answers::{same_count, same_opening, same_refusal};
-use records::slices::{behind, lend_floats, same_floats};
-use records::words::{first, float, long, rest, same, same_float, same_long, word};
+// The operations of LinearPhaseFir. Each takes the words behind its code: its inputs, then the answers.
+use linear_phase::LinearPhaseFir;
+use records::reset::Reset;
+use records::span::Span;
+use records::state::{State, same_opened};
+use records::words::Words;
+use refusal::Refusal;
+use std::alloc::{AllocError, Global};
 
-// Where a state's taps begin, behind their number and the kind; its delay follows them.
-const TAPS: usize = 6;
+#[derive(Drop)]
+pub(crate) struct Filter(LinearPhaseFir);
 
-fn state_of(w: &[u32]) -> LinearPhaseFir {
-    let mut taps = [0.0f32; MOST_LINEAR_PHASE_TAPS];
-    let mut delay = [0.0f32; LINEAR_PHASE_DELAYS];
-    let lent = rest(w, TAPS);
-    lend_floats(lent, &mut taps);
-    lend_floats(behind(lent), &mut delay);
-    LinearPhaseFir {
-        m: long(w, 0),
-        odd: long(w, 2) != 0,
-        antisymmetric: long(w, 4) != 0,
-        taps,
-        delay,
+impl State for Filter {
+    fn from_words(words: &mut Words<'_>) -> Filter {
+        Filter(LinearPhaseFir {
+            m: words.long(),
+            odd: words.long() != 0,
+            antisymmetric: words.long() != 0,
+            taps: words.slice().array(),
+            delay: words.slice().array(),
+        })
+    }
+
+    fn is_same(&self, answers: &mut Words<'_>, before: &Filter) -> bool {
+        let state = &self.0;
+        answers.same_long(state.m)
+            && answers.same_long(usize::from(state.odd))
+            && answers.same_long(usize::from(state.antisymmetric))
+            && answers.same_places(&state.taps, &before.0.taps)
+            && answers.same_places(&state.delay, &before.0.delay)
     }
 }
 
-// The words behind a state.
-pub(crate) fn behind_state(w: &[u32]) -> &[u32] {
-    behind(behind(rest(w, TAPS)))
-}
-
-// A yes is 1 in a record, a no 0.
-fn same_yes(w: &[u32], at: usize, yes: bool) -> usize {
-    same_long(w, at, if yes { 1 } else { 0 })
-}
-
-// The state after a call on the one that `lent` begins with; on none, that is of zeros, after an opening.
-fn same_state(w: &[u32], at: usize, lent: &[u32], state: LinearPhaseFir) -> usize {
-    let taps = state.taps;
-    let delay = state.delay;
-    let lent_taps = rest(lent, TAPS);
-    let mut next = same_long(w, at, state.m);
-    next = same_yes(w, next, state.odd);
-    next = same_yes(w, next, state.antisymmetric);
-    next = same_floats(w, next, lent_taps, &taps);
-    same_floats(w, next, behind(lent_taps), &delay)
-}
-
-fn same_opened(w: &[u32], lent: &[u32], opened: LinearPhaseOpening) -> bool {
-    let answer = opened.answer;
-    let state = opened.state;
-    same_state(w, same_opening(w, 0, answer), lent, state) == w.len()
-}
-
-pub(crate) fn new(w: &[u32], taps: &[f32]) -> bool {
-    let opened = LinearPhaseFir::new(long(w, 0) != 0, long(w, 2) != 0, taps);
-    same_opened(behind(rest(w, 4)), first(w, 0), opened)
-}
-
-pub(crate) fn reset(w: &[u32]) -> bool {
-    let opened = state_of(w).reset();
-    same_opened(behind_state(w), w, opened)
-}
-
-fn same_length(w: &[u32], answer: ResponseLength) -> usize {
-    match answer {
-        ResponseLength::Samples(n) => same_long(w, same(w, 0, 0), n),
-        ResponseLength::Refused(refusal) => same_long(w, same_refusal(w, 0, refusal), 0),
+impl Reset for Filter {
+    fn reset(&mut self) -> Result<(), Refusal> {
+        self.0.reset()
     }
 }
 
-pub(crate) fn response_length(w: &[u32]) -> bool {
-    let answers = behind_state(w);
-    let next = same_length(answers, state_of(w).response_length());
-    same_state(answers, next, w, state_of(w)) == answers.len()
+pub(crate) fn new(mut words: Words<'_>, alloc: Global) -> Result<bool, AllocError> {
+    let odd = words.long() != 0;
+    let antisymmetric = words.long() != 0;
+    let taps: Vec<f32> = words.slice().elements(alloc)?;
+    let opened = LinearPhaseFir::new(odd, antisymmetric, &taps);
+    Ok(same_opened(words, opened.map(Filter)))
 }
 
-fn same_output(w: &[u32], output: LinearPhaseOut) -> usize {
-    match output {
-        LinearPhaseOut::Value(y) => same_float(w, same(w, 0, 0), y),
-        LinearPhaseOut::Refused(refusal) => same(w, same_refusal(w, 0, refusal), 0),
-    }
+pub(crate) fn response_length(words: Words<'_>) -> bool {
+    let mut answers = words;
+    let state = Filter::from_words(&mut answers);
+    answers.same_answer(state.0.response_length()) && state.is_last(answers, words)
 }
 
-fn same_step(w: &[u32], lent: &[u32], step: LinearPhaseStep) -> bool {
-    let output = step.out;
-    let state = step.state;
-    same_state(w, same_output(w, output), lent, state) == w.len()
+pub(crate) fn process(words: Words<'_>) -> bool {
+    let mut answers = words;
+    let mut state = Filter::from_words(&mut answers);
+    let sample = answers.value();
+    answers.same_answer(state.0.process(sample)) && state.is_last(answers, words)
 }
 
-pub(crate) fn process(w: &[u32]) -> bool {
-    let given = behind_state(w);
-    let step = state_of(w).process(float(word(given, 0)));
-    same_step(rest(given, 1), w, step)
+pub(crate) fn block(words: Words<'_>, alloc: Global) -> Result<bool, AllocError> {
+    let mut answers = words;
+    let mut state = Filter::from_words(&mut answers);
+    let samples: Vec<f32> = answers.slice().elements(alloc)?;
+    let mut span = Span::of(answers.slice(), alloc)?;
+    let written = state.0.block(&samples, &mut span.places);
+    Ok(answers.same_answer(written) && span.is_same(&mut answers) && state.is_last(answers, words))
 }
 
-// 01's number, the count, the span and the state.
-fn same_block(w: &[u32], lent_span: &[u32], span: &[f32], block: LinearPhaseBlock) -> bool {
-    let answer = block.answer;
-    let state = block.state;
-    let expected = behind(lent_span);
-    let next = same_floats(expected, same_count(expected, 0, answer), lent_span, span);
-    same_state(expected, next, w, state) == expected.len()
-}
-
-pub(crate) fn block(w: &[u32], lent_span: &[u32], samples: &[f32], span: &mut [f32]) -> bool {
-    let done = state_of(w).block(samples, span);
-    same_block(w, lent_span, span, done)
-}
-
-pub(crate) fn inplace(w: &[u32], lent_span: &[u32], span: &mut [f32]) -> bool {
-    let done = state_of(w).inplace(span);
-    same_block(w, lent_span, span, done)
+// A block whose samples stand in its span.
+pub(crate) fn inplace(words: Words<'_>, alloc: Global) -> Result<bool, AllocError> {
+    let mut answers = words;
+    let mut state = Filter::from_words(&mut answers);
+    let mut span = Span::of(answers.slice(), alloc)?;
+    let written = state.0.inplace(&mut span.places);
+    Ok(answers.same_answer(written) && span.is_same(&mut answers) && state.is_last(answers, words))
 }

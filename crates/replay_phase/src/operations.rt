@@ -1,17 +1,24 @@
 // The operations by their codes. tests/oracle/README.md has them.
-ghost use Rattle.std.specs.Prelude.{false, ◌≡◌, ◌<◌};
+ghost use Rattle.std.specs.Prelude.{Ok, false, ◌≡◌, ◌<◌};
 
-use crate::{blocks, linear_phase_fir};
+use crate::linear_phase_fir::{self, Filter};
+use records::reset::replay_reset;
+use records::words::Words;
+use std::alloc::{AllocError, Global};
 
-// Whether a filter answers as a record says; `w` is what follows the operation's code. A code that is none of its own agrees with nothing.
-pub fn agrees(operation: u32, w: &[u32]) -> bool
-    ensures below { operation < 225 → result ≡ false }
-    ensures above { 230 < operation → result ≡ false }
+// Whether a filter answers as a record says; `words` is what follows the operation's code. A code that is none of its own agrees with nothing. A code stands
+// here alone, beside what it does: an enum of the operations would list them a second time.
+pub fn agrees(operation: u32, words: Words<'_>, alloc: Global) -> Result<bool, AllocError>
+    ensures below { operation < 225 → result ≡ Ok false }
+    ensures above { 230 < operation → result ≡ Ok false }
 {
     match operation {
-        0xe2 => linear_phase_fir::process(w),
-        0xe5 => linear_phase_fir::response_length(w),
-        0xe6 => linear_phase_fir::reset(w),
-        _ => blocks::agrees(operation, w),
+        0xe1 => linear_phase_fir::new(words, alloc),
+        0xe2 => Ok(linear_phase_fir::process(words)),
+        0xe3 => linear_phase_fir::block(words, alloc),
+        0xe4 => linear_phase_fir::inplace(words, alloc),
+        0xe5 => Ok(linear_phase_fir::response_length(words)),
+        0xe6 => Ok(replay_reset::<Filter>(words)),
+        _ => Ok(false),
     }
 }

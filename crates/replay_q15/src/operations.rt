@@ -1,21 +1,27 @@
 // The operations by their codes. tests/oracle/README.md has them.
-ghost use Rattle.std.specs.Prelude.{false, ◌≡◌, ◌<◌};
+ghost use Rattle.std.specs.Prelude.{Ok, false, ◌≡◌, ◌<◌};
 
-use crate::{fir_decimator, q15_blocks};
+use crate::fir_decimator::{self, Decimator};
+use crate::q15_blocks;
+use q15::{polyphase_decimate_q15, polyphase_interpolate_q15};
+use records::reset::replay_reset;
+use records::words::Words;
+use std::alloc::{AllocError, Global};
 
-// Whether the converters answer as a record says; `w` is what follows the operation's code. A code that is none of this layer's agrees with nothing.
-pub fn agrees(operation: u32, w: &[u32]) -> bool
-    ensures below { operation < 49 → result ≡ false }
-    ensures above { 67 < operation → result ≡ false }
+// Whether the converters answer as a record says; `words` is what follows the operation's code. A code that is none of this layer's agrees with nothing.
+// A code stands here alone, beside what it does: an enum of the operations would list them a second time.
+pub fn agrees(operation: u32, words: Words<'_>, alloc: Global) -> Result<bool, AllocError>
+    ensures below { operation < 49 → result ≡ Ok false }
+    ensures above { 67 < operation → result ≡ Ok false }
 {
     match operation {
-        0x31 => q15_blocks::decimate(w),
-        0x32 => q15_blocks::interpolate(w),
-        0x33 => q15_blocks::linear(w),
-        0x34 => q15_blocks::cut(w),
-        0x41 => fir_decimator::new(w),
-        0x42 => fir_decimator::process_sample(w),
-        0x43 => fir_decimator::reset(w),
-        _ => false,
+        0x31 => q15_blocks::fir(words, alloc, polyphase_decimate_q15),
+        0x32 => q15_blocks::fir(words, alloc, polyphase_interpolate_q15),
+        0x33 => q15_blocks::linear(words, alloc),
+        0x34 => Ok(q15_blocks::cut(words)),
+        0x41 => fir_decimator::new(words, alloc),
+        0x42 => Ok(fir_decimator::process_sample(words)),
+        0x43 => Ok(replay_reset::<Decimator>(words)),
+        _ => Ok(false),
     }
 }

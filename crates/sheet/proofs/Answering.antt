@@ -1,18 +1,21 @@
 -- What a number says of the sheet, and which number the tests on the way give: by cases of the tests.
-use mathlib.Core.Path.{◌≡◌, refl, sym, ◌∙◌}
+use mathlib.Core.Path.{◌≡◌, refl, sym, ap, ◌∙◌}
 use mathlib.Core.Bool.{Bool, true, false, cond, true≢false}
 use mathlib.Core.List.{List, []}
 use Prim.Native.Nat.{ℕ, ◌+◌, ◌≤◌, ◌<◌}
 use native.Mathlib.Omega.{arith}
-use borrow.Author.Tests.{le-ltb, lt-ltb, ltb-true, ltb-false, eqb-true, eqb-false, eq-eqb, ne_eqb}
+use borrow.Author.Tests.{lt-ltb, ltb-true, ltb-false, eqb-true, eq-eqb, ne_eqb}
 use lib.Dec.{ltb, eqb}
 use lib.ListN.{length, take, drop, length-drop}
 use lib.Seq.{length-take-le}
+use Rattle.std.specs.Prelude.{Ok, Err}
+use Rattle.refusal.specs.Outcome.{Answer, told}
 use Rattle.refusal.specs.Table.{number_of}
 use Rattle.refusal.specs.declared.Refusal.{Refusal}
-use Rattle.refusal.proofs.Limits.{first_none, first_kept}
+use Rattle.refusal.proofs.Limits.{first_none}
 use Rattle.refusal.proofs.Table.{number_positive}
-use Rattle.sheet.specs.Sheet.{Rule, count_of, empty_first, most_entries, data_from, offset, size, directory_broken, entries_fine, reader_number, sheet_number, entry_number, part_at, entry, entry_offset, kept_bytes, kept_count, sheet_answer, entry_answer}
+use Rattle.sheet.specs.Sheet.{Rule, count_of, empty_first, most_entries, data_from, offset, size, directory_broken, entries_fine, reader_number, entry_number, part_at, entry, entry_offset, no_place, place_answer}
+use Rattle.sheet.specs.declared.directory.Place.{Place}
 use Rattle.sheet.proofs.Passing.{entry_inside}
 
 neither : (s t : Bool) → cond s true t ≡ false → (s ≡ false) × (t ≡ false)
@@ -84,45 +87,14 @@ module _ (rule : Rule) (b : List ℕ) (kept : ℕ) where
   unfolding reader_number
   number_broken e = rw e
 
-  pub number_other : directory_broken rule b ≡ false → (n : ℕ) → n ≡ count_of rule b → (n ≡ kept → ⊥) → 16 ≡ reader_number rule b kept
-  unfolding reader_number
-  number_other e n q h = let f : kept ≡ count_of rule b → ⊥ = λ r. h (q ∙ sym r) in rw (e, ne_eqb kept (count_of rule b) f)
-
   pub number_fine : directory_broken rule b ≡ false → (n : ℕ) → n ≡ count_of rule b → n ≡ kept → entries_fine (empty_first rule b) b kept ≡ true → 0 ≡ reader_number rule b kept
   unfolding reader_number
   number_fine e n q h f = rw (e, eq-eqb kept (count_of rule b) (sym h ∙ q), f)
 
-  pub number_unfit : directory_broken rule b ≡ false → (n : ℕ) → n ≡ count_of rule b → n ≡ kept → entries_fine (empty_first rule b) b kept ≡ false → 17 ≡ reader_number rule b kept
-  unfolding reader_number
-  number_unfit e n q h f = rw (e, eq-eqb kept (count_of rule b) (sym h ∙ q), f)
-
-pub number_short : (rule : Rule) (b : List ℕ) → length b < 2 → 16 ≡ sheet_number rule b
-unfolding sheet_number directory_broken
-number_short rule b h = number_broken rule b (count_of rule b) (rw (lt-ltb (length b) 2 h))
-
--- ---- an answer's Bool: whether its number is 0
-
-pub zero_of : {m n : ℕ} {t : Bool} → t ≡ eqb m 0 → m ≡ n → t ≡ true → n ≡ 0
-zero_of {m} {n} {t} e q h = sym q ∙ eqb-true m 0 (sym e ∙ h)
-
-pub not_zero : {m n : ℕ} {t : Bool} → t ≡ eqb m 0 → m ≡ n → t ≡ false → eqb n 0 ≡ false
-not_zero {m} {n} {t} e q h = rw q at (sym e ∙ h)
-
-positive : (n : ℕ) → eqb n 0 ≡ false → 0 < n
-positive n e = let f : n ≡ 0 → ⊥ = eqb-false n 0 e in omega arith
-
 module _ (rule : Rule) (b : List ℕ) (kept k : ℕ) where
-  pub entry_refused : (m : ℕ) → m ≡ reader_number rule b kept → eqb (reader_number rule b kept) 0 ≡ false → m ≡ entry_number rule b kept k
-  unfolding entry_number
-  entry_refused m e z = e ∙ sym (first_kept (reader_number rule b kept) (cond (ltb k kept) 0 18) (positive (reader_number rule b kept) z))
-
   pub entry_handed : reader_number rule b kept ≡ 0 → k < kept → 0 ≡ entry_number rule b kept k
   unfolding entry_number
   entry_handed e h = rw (e, lt-ltb k kept h)
-
-  pub entry_past : reader_number rule b kept ≡ 0 → kept ≤ k → 18 ≡ entry_number rule b kept k
-  unfolding entry_number
-  entry_past e h = rw (e, le-ltb k kept h)
 
   pub entry_none : eqb (entry_number rule b kept k) 0 ≡ false → entry rule b kept k ≡ []
   unfolding entry
@@ -156,45 +128,36 @@ module _ (rule : Rule) (b : List ℕ) (kept k : ℕ) where
   pub entry_at : take (length (entry rule b kept k)) (drop (entry_offset rule b kept k) b) ≡ entry rule b kept k
   entry_at = at_cases (eqb (entry_number rule b kept k) 0) refl
 
-module _ (rule : Rule) (b : List ℕ) where
-  pub bytes_kept : sheet_number rule b ≡ 0 → kept_bytes rule b ≡ b
-  unfolding kept_bytes
-  bytes_kept e = rw e
-
-  pub bytes_none : eqb (sheet_number rule b) 0 ≡ false → kept_bytes rule b ≡ []
-  unfolding kept_bytes
-  bytes_none e = rw e
-
-  pub count_kept : sheet_number rule b ≡ 0 → kept_count rule b ≡ count_of rule b
-  unfolding kept_count
-  count_kept e = rw e
-
-  pub count_none : eqb (sheet_number rule b) 0 ≡ false → kept_count rule b ≡ 0
-  unfolding kept_count
-  count_none e = rw e
-
-  pub sheet_two : sheet_number rule b ≡ 0 → 2 ≤ length b
-  unfolding sheet_number
-  sheet_two e = (whole rule b (good rule b (count_of rule b) e).unbroken).two
-
--- ---- answers that are enums
+-- ---- answers with a value
 
 pub refused_number : (q : Refusal) → eqb (number_of q) 0 ≡ false
 refused_number q = let p = number_positive q in let f : number_of q ≡ 0 → ⊥ = omega arith in ne_eqb (number_of q) 0 f
 
-module _ (rule : Rule) (b : List ℕ) where
-  pub sheet_turned : (q : Refusal) → number_of q ≡ sheet_number rule b → record { number = number_of q; value = 0 } ≡ sheet_answer rule b
-  unfolding sheet_answer
-  sheet_turned q e = rw (e, count_none rule b (rw e at (refused_number q)))
+module _ (rule : Rule) (b : List ℕ) (kept k : ℕ) where
+  pub place_given : (p : Place) → p.offset ≡ offset b k → p.size ≡ size b k → entry_number rule b kept k ≡ 0 → told no_place (Ok p) ≡ place_answer rule b kept k
+  unfolding place_answer
+  place_given p e f z = rw (z, offset_kept rule b kept k z, entry_length rule b kept k z, ← e, ← f)
 
-  pub sheet_counted : (n : ℕ) → n ≡ count_of rule b → sheet_number rule b ≡ 0 → record { number = 0; value = n } ≡ sheet_answer rule b
-  unfolding sheet_answer
-  sheet_counted n e z = rw (z, count_kept rule b z, e)
+  -- a place that is given
+  pub record Given (p : Place) : Type 0 where
+    pub number : 0 ≡ entry_number rule b kept k
+    pub room : p.offset + p.size ≤ length b
+    pub part : take p.size (drop p.offset b) ≡ entry rule b kept k
 
-  pub entry_turned : (kept k : ℕ) (q : Refusal) → number_of q ≡ entry_number rule b kept k → record { number = number_of q; value = 0 } ≡ entry_answer rule b kept k
-  unfolding entry_answer
-  entry_turned kept k q e = rw (e, entry_none rule b kept k (rw e at (refused_number q)))
+  pub place_in : (p : Place) → told no_place (Ok p) ≡ place_answer rule b kept k → Given p
+  unfolding place_answer
+  place_in p e =
+      let z : 0 ≡ entry_number rule b kept k = ap (λ (a : Answer Place). a.number) e in
+      let o : p.offset ≡ entry_offset rule b kept k = ap (λ (a : Answer Place). a.value.offset) e in
+      let s : p.size ≡ length (entry rule b kept k) = ap (λ (a : Answer Place). a.value.size) e in
+      let f = found rule b kept k (sym z) in
+      let l = entry_length rule b kept k (sym z) in
+      let o' = offset_kept rule b kept k (sym z) in
+      record { number = z; room = omega (arith, f.before); part = rw (o, s) (entry_at rule b kept k) }
 
-  pub entry_sized : (kept k n : ℕ) → n ≡ size b k → entry_number rule b kept k ≡ 0 → record { number = 0; value = n } ≡ entry_answer rule b kept k
-  unfolding entry_answer
-  entry_sized kept k n e z = rw (z, entry_length rule b kept k z, e)
+  -- and one that is not
+  pub none_in : (q : Refusal) → told no_place (Err q) ≡ place_answer rule b kept k → (number_of q ≡ entry_number rule b kept k) × (entry rule b kept k ≡ [])
+  unfolding place_answer
+  none_in q e =
+      let z : number_of q ≡ entry_number rule b kept k = ap (λ (a : Answer Place). a.number) e in
+      (z, entry_none rule b kept k (rw z at (refused_number q)))

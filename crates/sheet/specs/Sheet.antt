@@ -2,12 +2,8 @@
 use Rattle.std.specs.Prelude.{Bool, true, false, cond, ◌&&◌, List, [], ◌∷◌, ◌++◌, ◌≡◌, ℕ, zero, suc, ◌+◌, ◌*◌, ◌/◌, ◌%◌, ◌^◌, ◌-◌, ◌<◌, leb, ltb, eqb, length, get_or, set, take, drop}
 use Rattle.refusal.specs.Rows.{first_of}
 use Rattle.refusal.specs.Outcome.{Answer}
-use Rattle.refusal.specs.Table.{number_of}
 use Rattle.sheet.specs.Laid.{laid_in}
-use Rattle.sheet.specs.declared.check.SheetCount.{SheetCount}
-use Rattle.sheet.specs.declared.check.SheetCount.TheVariants as counted
-use Rattle.sheet.specs.declared.check.EntrySize.{EntrySize}
-use Rattle.sheet.specs.declared.check.EntrySize.TheVariants as sized
+use Rattle.sheet.specs.declared.directory.Place.{Place}
 
 -- the rule that a panel knows: that of request 1, or that of request 9, which took its place
 pub data Rule : Type 0 where
@@ -110,20 +106,18 @@ kept_bytes rule b = cond (eqb (sheet_number rule b) 0) b []
 unfoldable pub kept_count : Rule → List ℕ → ℕ
 kept_count rule b = cond (eqb (sheet_number rule b) 0) (count_of rule b) 0
 
--- each case of an answer: its number and its value, 0 where it is refused
-abbrev pub sheet_count_answer : SheetCount → Answer ℕ
-sheet_count_answer (counted.Entries n) = record { number = 0; value = n }
-sheet_count_answer (counted.Refused q) = record { number = number_of q; value = 0 }
-
-abbrev pub size_answer : EntrySize → Answer ℕ
-size_answer (sized.Bytes n) = record { number = 0; value = n }
-size_answer (sized.Refused q) = record { number = number_of q; value = 0 }
-
 unfoldable pub sheet_answer : Rule → List ℕ → Answer ℕ
 sheet_answer rule b = record { number = sheet_number rule b; value = kept_count rule b }
 
 unfoldable pub entry_answer : Rule → List ℕ → ℕ → ℕ → Answer ℕ
 entry_answer rule b kept k = record { number = entry_number rule b kept k; value = length (entry rule b kept k) }
+
+-- both, for a caller who takes the part itself
+abbrev pub no_place : Place
+no_place = record { offset = 0; size = 0 }
+
+unfoldable pub place_answer : Rule → List ℕ → ℕ → ℕ → Answer Place
+place_answer rule b kept k = record { number = entry_number rule b kept k; value = record { offset = entry_offset rule b kept k; size = length (entry rule b kept k) } }
 
 -- ---- the writer: "is lent the entries' bytes joined and the list of their lengths; it lays the entries without gaps"
 
@@ -170,10 +164,6 @@ writer_number joined lengths places =
     (cond (eqb (sum lengths) (length joined))
     (cond (leb (data_from (length lengths) + length joined) (2 ^ 32 - 1)) (cond (leb (data_from (length lengths) + length joined) places) 0 17) 17)
     17)
-
--- a refusal: its number, and no value
-abbrev pub refused_with : ℕ → Answer ℕ
-refused_with n = record { number = n; value = 0 }
 
 -- the sheet's length, and the span that the writer leaves: the sheet in front, and the places behind it as they were
 unfoldable pub writer_answer : List ℕ → List ℕ → ℕ → Answer ℕ

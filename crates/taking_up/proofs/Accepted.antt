@@ -21,11 +21,11 @@ use Rattle.refusal.specs.Outcome.{Opened}
 use Rattle.line.specs.declared.gauge_line.Line.{Line}
 use Rattle.sheet.specs.Sheet.{present, le16, le32, count_of, sheet_number, offset, size, part_at}
 use Rattle.sheet.proofs.Laying.{laid_none}
-use Rattle.parking.specs.Fields.{is_float, floats_at, values_at, All}
+use Rattle.words.specs.Fields.{is_float, floats_at, values_at, All}
 use Rattle.parking.specs.Parked.{Settings, panel, settings_of, sizes, thin_sizes, neighbour_count, same, lengths_of, half_band_bytes, entries_of, shaped, take_up_number}
 use Rattle.parking.specs.Entries.{fir_on, resampler_on, settings_in, stages_bytes, entries_of as entries_in, thin_entries, entries_by, line_entries, cic_from, place_from, fir_from, half_band_from, resampler_from, stages_written, fir_written, resampler_written, written, fine, line_with, line_from}
 use Rattle.parking.specs.Parking.{taken_up, taken_up_number}
-use Rattle.parking.proofs.Fields.{all_take, all_drop, all_append}
+use Rattle.words.proofs.Fields.{all_take, all_drop, all_append}
 use Rattle.parking.proofs.WholeLine.{half_depth}
 use Rattle.taking_up.specs.AsParked.{AsParked}
 use Rattle.taking_up.proofs.Again.{Byte, settings_again, cic_again, neighbours_again, taps_again, delay_again, stages_again, prototype_again, resampler_again}

@@ -19,10 +19,10 @@ use Rattle.line.proofs.Flags.{and_left, and_right}
 use Rattle.sheet.specs.Sheet.{le16, le32, bytes16, bytes32, every}
 use Rattle.sheet.specs.Laid.{laid}
 use Rattle.sheet.proofs.Laying.{laid_front, laid_length}
-use Rattle.parking.specs.Fields.{i16_bytes, i32_bytes, f32_bytes, joined, i16_at, i32_at, f32_at, values_at, is_float, floats_at, All}
+use Rattle.words.specs.Fields.{i16_bytes, i32_bytes, f32_bytes, joined, i16_at, i32_at, f32_at, values_at, is_float, floats_at, All}
 use Rattle.parking.specs.Parked.{Settings, settings_bytes, settings_of, half_band_bytes, neighbour_count}
 use Rattle.parking.specs.Entries.{cic_bytes, neighbours_bytes, tap_bytes, delay_bytes, window_of, stage_bytes, stages_bytes, prototype_bytes, resampler_bytes, cic_from, place_from, neighbours_from, fir_from, counts_from, held_from, delays_from, resampler_from, stages_written}
-use Rattle.parking.proofs.Fields.{all_get_d, values_length}
+use Rattle.words.proofs.Fields.{all_get_d, values_length}
 use Rattle.parking.proofs.Back.{bytes_more}
 use Rattle.parking.proofs.WholeFloats.{window_most}
 use Rattle.half_band.specs.declared.hbf_stream.HbfStream.{HbfStream}

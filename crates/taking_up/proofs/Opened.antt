@@ -16,17 +16,21 @@ use Rattle.line.specs.Line as L
 use Rattle.line.specs.declared.gauge_line.Line.{Line}
 use Rattle.line.proofs.Flags.{and_left, and_right}
 use Rattle.line.proofs.Lawful.{to_parts}
-use Rattle.sheet.specs.Sheet.{present, le32, count_of, sheet_number, reader_number, part_at}
-use Rattle.sheet.proofs.Answering.{entry_part, entry_handed}
-use Rattle.parking.specs.Fields.{is_float}
+use Rattle.sheet.specs.Sheet.{present, le32, count_of, sheet_number, reader_number, part_at, kept_bytes, kept_count}
+use Rattle.refusal.specs.Table.{number_of}
+use Rattle.refusal.specs.declared.Refusal.{Refusal}
+use Rattle.sheet.proofs.Answering.{entry_part, entry_handed, refused_number}
+use Rattle.words.specs.Fields.{is_float}
 use Rattle.parking.specs.Parked.{Settings, half_band_bytes, neighbour_count, panel, settings_of, sizes, thin_sizes, same, lengths_of, entries_of, shaped, take_up_number}
 use Rattle.parking.specs.Entries.{cic_from, place_from, half_band_from, resampler_from, fir_written, resampler_written, written, fine, line_with, line_from}
 use Rattle.parking.specs.Parking.{taken_up, taken_up_number}
+use Rattle.parking.specs.Told.{count_by}
 use Rattle.parking.specs.Limits.{InLimits}
-use Rattle.nonrecursive.specs.NonrecursiveDecimator.{halvings}
-use Rattle.taking_up.specs.Long.{Long, ThinLong}
-use Rattle.taking_up.proofs.Rooms.{and-true, and_last}
-use Rattle.taking_up.specs.Taking.{in_limits, line_of, thin_line_of, written_of, floats_written, line_fine, fine_in, long_as, thin_long_as, refused_line, opened_in, opened_of, thin_opened_of, opened_from, thin_opened_from, entry_in, thin_entry_in}
+use Rattle.nonrecursive.specs.declared.thinning.Thinning.{Thinning}
+use Rattle.nonrecursive.specs.declared.thinning.Thinning.TheVariants as thinning
+use Rattle.taking_up.specs.ByKind.{Parts, Long, first_by, rest_by, long_by, line_by, opened_in_by, opened_by, parts_in}
+use Rattle.taking_up.proofs.Rooms.{and-true}
+use Rattle.taking_up.specs.Taking.{in_limits, line_of, thin_line_of, written_of, floats_written, line_fine, fine_in, long_as, thin_long_as, refused_line, opened_in, opened_from, thin_opened_from, entry_in, thin_entry_in}
 use Rattle.parking.proofs.Whole.{thin_numbers}
 use Rattle.parking.proofs.WholeLine.{half_depth, resampler_taps}
 
@@ -134,96 +138,91 @@ module _ (l : Line) (q : Settings) (delay half_band cells resampler : List ℕ) 
   unfolding opened_in
   in_fine m e = rw (fine_in_lem m, e)
 
--- of seven entries, and of eight
-module _ (q : Settings) (cic taps delay half_band cells resampler : List ℕ) where
-  seven_with : With q (line_of q cic taps delay half_band cells resampler)
-  unfolding line_of cic_from half_band_from resampler_from
-  seven_with = record { stages = refl; r = refl; depth = refl; phases = refl; cells = refl }
-
-  pub opened_outside : in_limits q ≡ false → refused_line 15 ≡ opened_of q cic taps delay half_band cells resampler
-  opened_outside n = in_outside (line_of q cic taps delay half_band cells resampler) q delay half_band cells resampler seven_with n
-
-  pub opened_unfit : InLimits q → line_fine (line_of q cic taps delay half_band cells resampler) q delay half_band cells resampler ≡ false → refused_line 15 ≡ opened_of q cic taps delay half_band cells resampler
-  opened_unfit m e = in_unfit (line_of q cic taps delay half_band cells resampler) q delay half_band cells resampler seven_with m e
-
-  pub opened_fine : InLimits q → line_fine (line_of q cic taps delay half_band cells resampler) q delay half_band cells resampler ≡ true → record { number = 0; state = line_of q cic taps delay half_band cells resampler } ≡ opened_of q cic taps delay half_band cells resampler
-  opened_fine m e = in_fine (line_of q cic taps delay half_band cells resampler) q delay half_band cells resampler seven_with m e
-
-module _ (q : Settings) (taps delay half_band cells resampler last : List ℕ) where
-  eight_with : With q (thin_line_of q taps delay half_band cells resampler last)
-  unfolding thin_line_of place_from half_band_from resampler_from
-  eight_with = record { stages = refl; r = refl; depth = refl; phases = refl; cells = refl }
-
-  pub thin_opened_outside : in_limits q ≡ false → refused_line 15 ≡ thin_opened_of q taps delay half_band cells resampler last
-  thin_opened_outside n = in_outside (thin_line_of q taps delay half_band cells resampler last) q delay half_band cells resampler eight_with n
-
-  pub thin_opened_unfit : InLimits q → line_fine (thin_line_of q taps delay half_band cells resampler last) q delay half_band cells resampler ≡ false → refused_line 15 ≡ thin_opened_of q taps delay half_band cells resampler last
-  thin_opened_unfit m e = in_unfit (thin_line_of q taps delay half_band cells resampler last) q delay half_band cells resampler eight_with m e
-
-  pub thin_opened_fine : InLimits q → line_fine (thin_line_of q taps delay half_band cells resampler last) q delay half_band cells resampler ≡ true → record { number = 0; state = thin_line_of q taps delay half_band cells resampler last } ≡ thin_opened_of q taps delay half_band cells resampler last
-  thin_opened_fine m e = in_fine (thin_line_of q taps delay half_band cells resampler last) q delay half_band cells resampler eight_with m e
-
 -- ---- lengths
 
-pub long_told : (q : Settings) (c t d h x y : ℕ) → long_as q c t d h x y ≡ true → Long q c t d h x y
-unfolding long_as same sizes
-long_told q c t d h x y e =
-    let m₁ : Bool = eqb c (2 + 8 * q.stages) in
-    let m₂ : Bool = eqb t (2 * q.taps) in
-    let m₃ : Bool = eqb d (2 + 2 * q.taps) in
-    let m₄ : Bool = eqb h (half_band_bytes q.depth) in
-    let m₅ : Bool = eqb x (4 * (q.phases * q.cells)) in
-    let m₆ : Bool = eqb y (4 + 4 * q.cells) in
-    let e₁ = and_right m₁ (m₂ && (m₃ && (m₄ && (m₅ && (m₆ && true))))) e in
-    let e₂ = and_right m₂ (m₃ && (m₄ && (m₅ && (m₆ && true)))) e₁ in
-    let e₃ = and_right m₃ (m₄ && (m₅ && (m₆ && true))) e₂ in
-    let e₄ = and_right m₄ (m₅ && (m₆ && true)) e₃ in
-    let e₅ = and_right m₅ (m₆ && true) e₄ in
+last_out : (a b c d e f g : Bool) → (a && g) && (b && (c && (d && (e && f)))) ≡ a && (b && (c && (d && (e && (f && (g && true))))))
+last_out true b c d e f true = ap (λ (x : Bool). b && (c && (d && (e && x)))) (sym (and-true f))
+last_out true b c d e f false = sym (none b c d e f)
+  where
+    none : (b c d e f : Bool) → b && (c && (d && (e && (f && false)))) ≡ false
+    none true true true true true = refl
+    none true true true true false = refl
+    none true true true false f = refl
+    none true true false e f = refl
+    none true false d e f = refl
+    none false c d e f = refl
+last_out false b c d e f g = refl
+
+-- what only one kind has, and then what both have
+pub long_is : (k : Thinning) (q : Settings) (e : Parts) → first_by k q (length e.cic) (length e.last) && rest_by q e ≡ long_by k q e
+unfolding long_as thin_long_as same sizes thin_sizes
+long_is thinning.Integrators q e = ap (λ (x : Bool). eqb (length e.cic) (2 + 8 * q.stages) && (eqb (length e.taps) (2 * q.taps) && (eqb (length e.delay) (2 + 2 * q.taps) && (eqb (length e.half_band) (half_band_bytes q.depth) && (eqb (length e.cells) (4 * (q.phases * q.cells)) && x))))) (sym (and-true (eqb (length e.resampler) (4 + 4 * q.cells))))
+long_is thinning.Neighbours q e = last_out (eqb (length e.cic) 0) (eqb (length e.taps) (2 * q.taps)) (eqb (length e.delay) (2 + 2 * q.taps)) (eqb (length e.half_band) (half_band_bytes q.depth)) (eqb (length e.cells) (4 * (q.phases * q.cells))) (eqb (length e.resampler) (4 + 4 * q.cells)) (eqb (length e.last) (2 + 4 * neighbour_count q.stages q.r))
+
+first_cic : (k : Thinning) (q : Settings) (c l : ℕ) → first_by k q c l ≡ true → k ≡ thinning.Integrators → c ≡ 2 + 8 * q.stages
+first_cic thinning.Integrators q c l h z = eqb-true c (2 + 8 * q.stages) h
+first_cic thinning.Neighbours q c l h z = absurd (cc)
+
+first_last : (k : Thinning) (q : Settings) (c l : ℕ) → first_by k q c l ≡ true → k ≡ thinning.Neighbours → l ≡ 2 + 4 * neighbour_count q.stages q.r
+first_last thinning.Integrators q c l h z = absurd (cc)
+first_last thinning.Neighbours q c l h z = eqb-true l (2 + 4 * neighbour_count q.stages q.r) (and_right (eqb c 0) (eqb l (2 + 4 * neighbour_count q.stages q.r)) h)
+
+pub long_fits : (k : Thinning) (q : Settings) (e : Parts) → long_by k q e ≡ true → Long k q e
+long_fits k q e h =
+    let a : Bool = first_by k q (length e.cic) (length e.last) in
+    let m₂ : Bool = eqb (length e.taps) (2 * q.taps) in
+    let m₃ : Bool = eqb (length e.delay) (2 + 2 * q.taps) in
+    let m₄ : Bool = eqb (length e.half_band) (half_band_bytes q.depth) in
+    let m₅ : Bool = eqb (length e.cells) (4 * (q.phases * q.cells)) in
+    let m₆ : Bool = eqb (length e.resampler) (4 + 4 * q.cells) in
+    let g : a && (m₂ && (m₃ && (m₄ && (m₅ && m₆)))) ≡ true = long_is k q e ∙ h in
+    let f = and_left a (m₂ && (m₃ && (m₄ && (m₅ && m₆)))) g in
+    let e₂ = and_right a (m₂ && (m₃ && (m₄ && (m₅ && m₆)))) g in
+    let e₃ = and_right m₂ (m₃ && (m₄ && (m₅ && m₆))) e₂ in
+    let e₄ = and_right m₃ (m₄ && (m₅ && m₆)) e₃ in
+    let e₅ = and_right m₄ (m₅ && m₆) e₄ in
     record {
-      cic = eqb-true c (2 + 8 * q.stages) (and_left m₁ (m₂ && (m₃ && (m₄ && (m₅ && (m₆ && true))))) e);
-      taps = eqb-true t (2 * q.taps) (and_left m₂ (m₃ && (m₄ && (m₅ && (m₆ && true)))) e₁);
-      delay = eqb-true d (2 + 2 * q.taps) (and_left m₃ (m₄ && (m₅ && (m₆ && true))) e₂);
-      half_band = eqb-true h (half_band_bytes q.depth) (and_left m₄ (m₅ && (m₆ && true)) e₃);
-      cells = eqb-true x (4 * (q.phases * q.cells)) (and_left m₅ (m₆ && true) e₄);
-      resampler = eqb-true y (4 + 4 * q.cells) (and_left m₆ true e₅);
+      cic = first_cic k q (length e.cic) (length e.last) f;
+      last = first_last k q (length e.cic) (length e.last) f;
+      taps = eqb-true (length e.taps) (2 * q.taps) (and_left m₂ (m₃ && (m₄ && (m₅ && m₆))) e₂);
+      delay = eqb-true (length e.delay) (2 + 2 * q.taps) (and_left m₃ (m₄ && (m₅ && m₆)) e₃);
+      half_band = eqb-true (length e.half_band) (half_band_bytes q.depth) (and_left m₄ (m₅ && m₆) e₄);
+      cells = eqb-true (length e.cells) (4 * (q.phases * q.cells)) (and_left m₅ m₆ e₅);
+      resampler = eqb-true (length e.resampler) (4 + 4 * q.cells) (and_right m₅ m₆ e₅);
     }
 
-pub thin_long_told : (q : Settings) (c t d h x y z : ℕ) → thin_long_as q c t d h x y z ≡ true → ThinLong q t d h x y z
-unfolding thin_long_as same thin_sizes
-thin_long_told q c t d h x y z e =
-    let m₁ : Bool = eqb c 0 in
-    let m₂ : Bool = eqb t (2 * q.taps) in
-    let m₃ : Bool = eqb d (2 + 2 * q.taps) in
-    let m₄ : Bool = eqb h (half_band_bytes q.depth) in
-    let m₅ : Bool = eqb x (4 * (q.phases * q.cells)) in
-    let m₆ : Bool = eqb y (4 + 4 * q.cells) in
-    let m₇ : Bool = eqb z (2 + 4 * neighbour_count q.stages q.r) in
-    let e₁ = and_right m₁ (m₂ && (m₃ && (m₄ && (m₅ && (m₆ && (m₇ && true)))))) e in
-    let e₂ = and_right m₂ (m₃ && (m₄ && (m₅ && (m₆ && (m₇ && true))))) e₁ in
-    let e₃ = and_right m₃ (m₄ && (m₅ && (m₆ && (m₇ && true)))) e₂ in
-    let e₄ = and_right m₄ (m₅ && (m₆ && (m₇ && true))) e₃ in
-    let e₅ = and_right m₅ (m₆ && (m₇ && true)) e₄ in
-    let e₆ = and_right m₆ (m₇ && true) e₅ in
-    record {
-      taps = eqb-true t (2 * q.taps) (and_left m₂ (m₃ && (m₄ && (m₅ && (m₆ && (m₇ && true))))) e₁);
-      delay = eqb-true d (2 + 2 * q.taps) (and_left m₃ (m₄ && (m₅ && (m₆ && (m₇ && true)))) e₂);
-      half_band = eqb-true h (half_band_bytes q.depth) (and_left m₄ (m₅ && (m₆ && (m₇ && true))) e₃);
-      cells = eqb-true x (4 * (q.phases * q.cells)) (and_left m₅ (m₆ && (m₇ && true)) e₄);
-      resampler = eqb-true y (4 + 4 * q.cells) (and_left m₆ (m₇ && true) e₅);
-      last = eqb-true z (2 + 4 * neighbour_count q.stages q.r) (and_left m₇ true e₆);
-    }
+-- ---- of either kind
 
--- the lengths of eight by those of seven
-pub thin_as : (q : Settings) (c t d h x y z : ℕ) → eqb c 0 && (long_as q (2 + 8 * q.stages) t d h x y && eqb z (2 + 4 * (q.stages * halvings q.r))) ≡ thin_long_as q c t d h x y z
-unfolding long_as thin_long_as same sizes thin_sizes neighbour_count
-thin_as q c t d h x y z =
-    let m₂ : Bool = eqb t (2 * q.taps) in
-    let m₃ : Bool = eqb d (2 + 2 * q.taps) in
-    let m₄ : Bool = eqb h (half_band_bytes q.depth) in
-    let m₅ : Bool = eqb x (4 * (q.phases * q.cells)) in
-    let m₆ : Bool = eqb y (4 + 4 * q.cells) in
-    let m₇ : Bool = eqb z (2 + 4 * (q.stages * halvings q.r)) in
-    rw (eq-eqb (2 + 8 * q.stages) (2 + 8 * q.stages) refl, and-true m₆, and-true m₇) (ap (λ (b : Bool). eqb c 0 && b) (and_last m₂ m₃ m₄ m₅ m₆ m₇))
+line_with_by : (k : Thinning) (q : Settings) (e : Parts) → With q (line_by k q e)
+unfolding line_of thin_line_of cic_from place_from half_band_from resampler_from
+line_with_by thinning.Integrators q e = record { stages = refl; r = refl; depth = refl; phases = refl; cells = refl }
+line_with_by thinning.Neighbours q e = record { stages = refl; r = refl; depth = refl; phases = refl; cells = refl }
+
+module _ (k : Thinning) (q : Settings) (e : Parts) where
+  pub outside_by : in_limits q ≡ false → refused_line 15 ≡ opened_in_by k q e
+  outside_by n = in_outside (line_by k q e) q e.delay e.half_band e.cells e.resampler (line_with_by k q e) n
+
+  pub unfit_by : InLimits q → line_fine (line_by k q e) q e.delay e.half_band e.cells e.resampler ≡ false → refused_line 15 ≡ opened_in_by k q e
+  unfit_by m h = in_unfit (line_by k q e) q e.delay e.half_band e.cells e.resampler (line_with_by k q e) m h
+
+  pub fine_by : InLimits q → line_fine (line_by k q e) q e.delay e.half_band e.cells e.resampler ≡ true → record { number = 0; state = line_by k q e } ≡ opened_in_by k q e
+  fine_by m h = in_fine (line_by k q e) q e.delay e.half_band e.cells e.resampler (line_with_by k q e) m h
+
+module _ (e : Parts) where
+  pub short_by : (k : Thinning) → (length e.settings ≡ 24 → ⊥) → refused_line 21 ≡ opened_by k e
+  unfolding opened_from thin_opened_from
+  short_by thinning.Integrators h = rw (ne_eqb (length e.settings) 24 h)
+  short_by thinning.Neighbours h = rw (ne_eqb (length e.settings) 24 h)
+
+  pub other_by : (k : Thinning) → length e.settings ≡ 24 → long_by k (settings_of e.settings) e ≡ false → refused_line 21 ≡ opened_by k e
+  unfolding opened_from thin_opened_from
+  other_by thinning.Integrators h f = rw (eq-eqb (length e.settings) 24 h, f)
+  other_by thinning.Neighbours h f = rw (eq-eqb (length e.settings) 24 h, f)
+
+  pub long_opened : (k : Thinning) → length e.settings ≡ 24 → long_by k (settings_of e.settings) e ≡ true → opened_in_by k (settings_of e.settings) e ≡ opened_by k e
+  unfolding opened_from thin_opened_from
+  long_opened thinning.Integrators h f = rw (eq-eqb (length e.settings) 24 h, f)
+  long_opened thinning.Neighbours h f = rw (eq-eqb (length e.settings) 24 h, f)
 
 -- ---- the sheet
 
@@ -311,7 +310,17 @@ module _ (b : List ℕ) where
   pub taken_seven : sheet_number present b ≡ 0 → count_of present b ≡ 7 → opened_from (entry_in b 0) (entry_in b 1) (entry_in b 2) (entry_in b 3) (entry_in b 4) (entry_in b 5) (entry_in b 6) ≡ taken_up panel b
   taken_seven z n = seven_taken (entry_in b 0) (entry_in b 1) (entry_in b 2) (entry_in b 3) (entry_in b 4) (entry_in b 5) (entry_in b 6) b z (entries_are z n)
 
-  pub taken_other : sheet_number present b ≡ 0 → (count_of present b ≡ 7 → ⊥) → (count_of present b ≡ 8 → ⊥) → refused_line 21 ≡ taken_up panel b
+  -- what a reader keeps of a sheet that is not refused
+  pub all_kept : 0 ≡ sheet_number present b → (kept_bytes present b ≡ b) × (kept_count present b ≡ count_of present b)
+  unfolding kept_bytes kept_count
+  all_kept z = (rw (← z), rw (← z))
+
+  -- as the code has them: the sheet's own count says which
+  pub taken_by : (k : Thinning) (bytes : List ℕ) (n : ℕ) → 0 ≡ sheet_number present b → bytes ≡ kept_bytes present b → n ≡ kept_count present b → n ≡ count_by k → opened_by k (parts_in bytes n) ≡ taken_up panel b
+  taken_by thinning.Integrators bytes n z e f h = let a = all_kept z in rw (e, a.0, h) (taken_seven (sym z) (sym a.1 ∙ sym f ∙ h))
+  taken_by thinning.Neighbours bytes n z e f h = let a = all_kept z in rw (e, a.0, h) (taken_eight (sym z) (sym a.1 ∙ sym f ∙ h))
+
+  taken_other : sheet_number present b ≡ 0 → (count_of present b ≡ 7 → ⊥) → (count_of present b ≡ 8 → ⊥) → refused_line 21 ≡ taken_up panel b
   unfolding refused_line taken_up taken_up_number take_up_number shaped entries_of
   taken_other z n m =
       let l : length (listed (count_of present b) (part_at b)) ≡ count_of present b = length_listed (count_of present b) (part_at b) in
@@ -319,6 +328,12 @@ module _ (b : List ℕ) where
       let g : eqb (length (listed (count_of present b) (part_at b))) 8 ≡ false = ne_eqb _ 8 (λ e. m (sym l ∙ e)) in
       rw (z, f, g)
 
-  pub taken_refused : (n : ℕ) → n ≡ sheet_number present b → eqb (sheet_number present b) 0 ≡ false → refused_line n ≡ taken_up panel b
+  pub taken_by_none : (n : ℕ) → 0 ≡ sheet_number present b → n ≡ kept_count present b → (n ≡ 7 → ⊥) → (n ≡ 8 → ⊥) → refused_line 21 ≡ taken_up panel b
+  taken_by_none n z f g h = let a = all_kept z in taken_other (sym z) (λ e. g (f ∙ a.1 ∙ e)) (λ e. h (f ∙ a.1 ∙ e))
+
+  taken_refused : (n : ℕ) → n ≡ sheet_number present b → eqb (sheet_number present b) 0 ≡ false → refused_line n ≡ taken_up panel b
   unfolding refused_line taken_up taken_up_number take_up_number
   taken_refused n e z = rw (e, z, z)
+
+  pub taken_err : (q : Refusal) → number_of q ≡ sheet_number present b → refused_line (number_of q) ≡ taken_up panel b
+  taken_err q e = taken_refused (number_of q) e (rw e at (refused_number q))

@@ -4,7 +4,7 @@ use Rattle.refusal.specs.Outcome.{Opened}
 use Rattle.line.specs.Line as L
 use Rattle.line.specs.declared.gauge_line.Line.{Line}
 use Rattle.sheet.specs.Sheet.{present}
-use Rattle.parking.specs.Fields.{All}
+use Rattle.words.specs.Fields.{All}
 use Rattle.parking.specs.Parked.{entries_of}
 use Rattle.parking.specs.Entries.{line_entries}
 

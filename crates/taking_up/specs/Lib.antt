@@ -1,4 +1,4 @@
 pub mod Taking
-pub mod Long
+pub mod ByKind
 pub mod TakenBack
 pub mod AsParked

@@ -7,7 +7,7 @@ use Rattle.q15.specs.FirDecimator.{most_taps}
 use Rattle.line.specs.Line as L
 use Rattle.sheet.specs.Sheet.{present, entry}
 use Rattle.line.specs.declared.gauge_line.Line.{Line}
-use Rattle.parking.specs.Fields.{is_float, floats_at}
+use Rattle.words.specs.Fields.{is_float, floats_at}
 use Rattle.parking.specs.Parked.{Settings, settings_of, sizes, thin_sizes, same}
 use Rattle.parking.specs.Entries.{cic_from, place_from, neighbours_from, fir_from, half_band_from, resampler_from, fir_written, resampler_written, stages_written}
 

@@ -1,8 +1,9 @@
 // 02, request 6: a parked line taken up again.
 #![tactic(auto)]
 
-mod get;
+mod entries;
 mod reading;
+mod rows;
 mod taking;
 
 pub use crate::taking::take_up;

@@ -3,7 +3,7 @@
 use mathlib.Core.Path.{◌≡◌, refl, sym, ap, ap₂, ◌∙◌, subst, subst⁻¹}
 use mathlib.Core.Bool.{Bool, true, false}
 use mathlib.Core.List.{List, [], ◌∷◌, ◌++◌, append_assoc}
-use mathlib.Core.Option.{Option, none, some}
+use Rattle.std.specs.Prelude.{Option, None, Some}
 use Prim.Native.Nat.{ℕ, zero, suc, ◌+◌, ◌-◌, ◌≤◌, ◌<◌}
 use native.Mathlib.Nat.{zero-add, sub-zero, le_of_suc-le-suc}
 use native.Mathlib.Omega.{arith}
@@ -23,20 +23,20 @@ module _ {S A C : Type 0} (m : Machine S A C) where
   pub feed_takes :
       (s : S) (a : A) (xs : List A) (n : ℕ) → m.due s ≡ false
       → feed m s (a ∷ xs) (suc n) ≡ took_then (m.now s a) (feed m (m.next s a) xs (less (m.now s a) (suc n)))
-  feed_takes s a xs n d = feed_follow m s (a ∷ xs) (suc n) _ (sym (step_not m s (some a) d)) ∙ go (m.now s a)
+  feed_takes s a xs n d = feed_follow m s (a ∷ xs) (suc n) _ (sym (step_not m s (Some a) d)) ∙ go (m.now s a)
     where
       go :
           (o : Option C)
           → follow m (feed m) (a ∷ xs) (suc n) (m.next s a) (taking o) ≡ took_then o (feed m (m.next s a) xs (less o (suc n)))
-      go none = refl
-      go (some c) = refl
+      go None = refl
+      go (Some c) = refl
 
   join_none : (f : Fed S C) → join 0 [] f ≡ f
   join_none f = ap {B = Fed S C} (λ (k : ℕ). record { taken = k; written = f.written; line = f.line }) (zero-add f.taken)
 
   join_took : (o : Option C) (j : ℕ) (w : List C) (f : Fed S C) → took_then o (join j w f) ≡ join (suc j) (onto o w) f
-  join_took none j w f = let e : suc (j + f.taken) ≡ suc j + f.taken = omega arith in ap {B = Fed S C} (λ (k : ℕ). record { taken = k; written = w ++ f.written; line = f.line }) e
-  join_took (some c) j w f =
+  join_took None j w f = let e : suc (j + f.taken) ≡ suc j + f.taken = omega arith in ap {B = Fed S C} (λ (k : ℕ). record { taken = k; written = w ++ f.written; line = f.line }) e
+  join_took (Some c) j w f =
       let e : suc (j + f.taken) ≡ suc j + f.taken = omega arith in ap {B = Fed S C} (λ (k : ℕ). record { taken = k; written = c ∷ (w ++ f.written); line = f.line }) e
 
   -- ---- a list taken whole, and then the rest
@@ -74,12 +74,12 @@ module _ {S A C : Type 0} (m : Machine S A C) where
           of :
               (o : Option C)
               → Goes (a ∷ ys) zs (suc n) (took_then o (feed m (m.next s a) ys (less o (suc n)))) (took_then o (feed m (m.next s a) (ys ++ zs) (less o (suc n))))
-          of none t =
+          of None t =
               let f : Fed S C = feed m (m.next s a) ys (suc n) in
-              ap (took_then none) (ih (m.next s a) ys (suc n) (omega arith) (omega (arith, t))) ∙ join_took none (length ys) f.written (feed m f.line zs (suc n - length f.written))
-          of (some c) t =
+              ap (took_then None) (ih (m.next s a) ys (suc n) (omega arith) (omega (arith, t))) ∙ join_took None (length ys) f.written (feed m f.line zs (suc n - length f.written))
+          of (Some c) t =
               let f : Fed S C = feed m (m.next s a) ys n in
-              ap (took_then (some c)) (ih (m.next s a) ys n (omega arith) (omega (arith, t))) ∙ join_took (some c) (length ys) f.written (feed m f.line zs (n - length f.written))
+              ap (took_then (Some c)) (ih (m.next s a) ys n (omega arith) (omega (arith, t))) ∙ join_took (Some c) (length ys) f.written (feed m f.line zs (n - length f.written))
               ∙ fewer (suc (length ys)) c f
 
   -- Where the values xs are taken whole, a feed of them and of more is a feed of them, and then a feed of the others with the places that are left
@@ -136,8 +136,8 @@ module _ {S A C : Type 0} (m : Machine S A C) where
           of :
               (o : Option C)
               → Front (a ∷ ys) zs (took_then o (feed m (m.next s a) (ys ++ zs) (less o (suc n)))) (took_then o (feed m (m.next s a) ys (less o (suc n))))
-          of none t = ap suc (ih (m.next s a) ys (suc n) (omega arith) (omega (arith, t)))
-          of (some c) t = ap suc (ih (m.next s a) ys n (omega arith) (omega (arith, t)))
+          of None t = ap suc (ih (m.next s a) ys (suc n) (omega arith) (omega (arith, t)))
+          of (Some c) t = ap suc (ih (m.next s a) ys n (omega arith) (omega (arith, t)))
 
   pub feed_front : (s : S) (xs zs : List A) (n : ℕ) → (feed m s (xs ++ zs) n).taken ≡ length (xs ++ zs) → (feed m s xs n).taken ≡ length xs
   feed_front s xs zs n = front (length xs + n) s xs zs n (omega arith)
@@ -202,8 +202,8 @@ module _ {S R A B C : Type 0} (f : Section S A B) (m : Machine R B C) where
               → ((feed m r (onto o (outs f s₁ ys)) (suc n)).taken ≡ length (onto o (outs f s₁ ys)))
               × (took_then (now_for f m r o) (feed (before f m) (s₁, next_for f m r o) ys (less (now_for f m r o) (suc n)))
               ≡ record { taken = suc (length ys); written = (feed m r (onto o (outs f s₁ ys)) (suc n)).written; line = (state f s₁ ys, (feed m r (onto o (outs f s₁ ys)) (suc n)).line) })
-          of none t = let i = ih s₁ r ys (suc n) (omega arith) (omega (arith, t)) in (i.0, ap (took_then none) i.1)
-          of (some b) t = rw (feed_takes m r b (outs f s₁ ys) n e) (now (m.now r b) t)
+          of None t = let i = ih s₁ r ys (suc n) (omega arith) (omega (arith, t)) in (i.0, ap (took_then None) i.1)
+          of (Some b) t = rw (feed_takes m r b (outs f s₁ ys) n e) (now (m.now r b) t)
             where
               now :
                   (c : Option C)
@@ -211,8 +211,8 @@ module _ {S R A B C : Type 0} (f : Section S A B) (m : Machine R B C) where
                   → (suc (feed m (m.next r b) (outs f s₁ ys) (less c (suc n))).taken ≡ suc (length (outs f s₁ ys)))
                   × (took_then c (feed (before f m) (s₁, m.next r b) ys (less c (suc n)))
                   ≡ record { taken = suc (length ys); written = onto c (feed m (m.next r b) (outs f s₁ ys) (less c (suc n))).written; line = (state f s₁ ys, (feed m (m.next r b) (outs f s₁ ys) (less c (suc n))).line) })
-              now none t' = let i = ih s₁ (m.next r b) ys (suc n) (omega arith) (omega (arith, t')) in (ap suc i.0, ap (took_then none) i.1)
-              now (some c) t' = let i = ih s₁ (m.next r b) ys n (omega arith) (omega (arith, t')) in (ap suc i.0, ap (took_then (some c)) i.1)
+              now None t' = let i = ih s₁ (m.next r b) ys (suc n) (omega arith) (omega (arith, t')) in (ap suc i.0, ap (took_then None) i.1)
+              now (Some c) t' = let i = ih s₁ (m.next r b) ys n (omega arith) (omega (arith, t')) in (ap suc i.0, ap (took_then (Some c)) i.1)
 
   -- THE BATCH. Where the two take all of xs, they have done what the section does with the block xs, and the machine with what comes of it: taken, written, and both states
   pub feed_before :
@@ -256,15 +256,15 @@ module _ {S R A B C : Type 0} (f : Section S A B) (m : Machine R B C) where
               (o : Option B)
               → length (feed m r (onto o (outs f s₁ ys)) (suc n)).written < suc n
               → suc (feed (before f m) (s₁, next_for f m r o) ys (less (now_for f m r o) (suc n))).taken ≡ suc (length ys)
-          of none = λ p. ap suc (ih s₁ r ys (suc n) (omega arith) p)
-          of (some b) = rw (feed_takes m r b (outs f s₁ ys) n e) (now (m.now r b))
+          of None = λ p. ap suc (ih s₁ r ys (suc n) (omega arith) p)
+          of (Some b) = rw (feed_takes m r b (outs f s₁ ys) n e) (now (m.now r b))
             where
               now :
                   (c : Option C)
                   → length (onto c (feed m (m.next r b) (outs f s₁ ys) (less c (suc n))).written) < suc n
                   → suc (feed (before f m) (s₁, m.next r b) ys (less c (suc n))).taken ≡ suc (length ys)
-              now none p = ap suc (ih s₁ (m.next r b) ys (suc n) (omega arith) p)
-              now (some c) p = ap suc (ih s₁ (m.next r b) ys n (omega arith) (le_of_suc-le-suc p))
+              now None p = ap suc (ih s₁ (m.next r b) ys (suc n) (omega arith) p)
+              now (Some c) p = ap suc (ih s₁ (m.next r b) ys n (omega arith) (le_of_suc-le-suc p))
 
   pub whole_by_place : (s : S) (r : R) (xs : List A) (n : ℕ) → length (feed m r (outs f s xs) n).written < n → (feed (before f m) (s, r) xs n).taken ≡ length xs
   whole_by_place s r xs n = whole (length xs + n) s r xs n (omega arith)
@@ -417,8 +417,8 @@ module _ {S A C : Type 0} (z : C) (f : Section S A C) where
           (o : Option C) → ((n' : ℕ) → length xs + n' ≤ k → Blocked (f.next s a) xs (feed (alone z f) (f.next s a) xs n'))
           → (onto o (feed (alone z f) (f.next s a) xs (less o (suc n))).written ≡ onto o (outs f (f.next s a) (take (feed (alone z f) (f.next s a) xs (less o (suc n))).taken xs)))
           × ((feed (alone z f) (f.next s a) xs (less o (suc n))).line ≡ state f (f.next s a) (take (feed (alone z f) (f.next s a) xs (less o (suc n))).taken xs))
-      of none ih = ih (suc n) (omega arith)
-      of (some c) ih = let i = ih n (omega arith) in (ap (λ (l : List C). c ∷ l) i.0, i.1)
+      of None ih = ih (suc n) (omega arith)
+      of (Some c) ih = let i = ih n (omega arith) in (ap (λ (l : List C). c ∷ l) i.0, i.1)
 
   pub feed_alone :
       (s : S) (xs : List A) (n : ℕ)

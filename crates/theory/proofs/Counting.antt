@@ -2,7 +2,7 @@
 use mathlib.Core.Path.{◌≡◌, refl, ap, ◌∙◌}
 use mathlib.Core.Bool.{Bool, true, false, cond, true≢false, false≢true}
 use mathlib.Core.List.{List, [], ◌∷◌}
-use mathlib.Core.Option.{Option, none, some}
+use Rattle.std.specs.Prelude.{Option, None, Some}
 use Prim.Native.Nat.{ℕ, zero, suc, ◌+◌, ◌-◌, ◌*◌, ◌≤◌, ◌<◌}
 use native.Mathlib.Nat.{suc-mul, zero-mul}
 use native.Mathlib.Omega.{arith}
@@ -13,8 +13,8 @@ use Rattle.theory.specs.Sections.{Section, onto, outs}
 
 -- whether there is a value
 abbrev pub came : {A : Type 0} → Option A → Bool
-came none = false
-came (some a) = true
+came None = false
+came (Some a) = true
 
 -- the section makes a value of every `period s`-th, and its next is `left s` values away
 pub record CountsDown {S A B : Type 0} (f : Section S A B) (left period : S → ℕ) (Good : S → Type 0) : Type 0 where
@@ -35,8 +35,8 @@ module _ {S A B : Type 0} (f : Section S A B) (left period : S → ℕ) (Good : 
           (b : Bool) → leb (left s) 1 ≡ b → (o : Option B) → came o ≡ leb (left s) 1
           → ((j : ℕ) → length xs < left (f.next s a) + j * period (f.next s a) → length (outs f (f.next s a) xs) ≤ j)
           → length (onto o (outs f (f.next s a) xs)) ≤ k
-      go true e none q ih = absurd (false≢true (q ∙ e))
-      go true e (some y) q ih = by k h
+      go true e None q ih = absurd (false≢true (q ∙ e))
+      go true e (Some y) q ih = by k h
         where
           by : (j : ℕ) → suc (length xs) < left s + j * period s → suc (length (outs f (f.next s a) xs)) ≤ j
           by zero l =
@@ -50,9 +50,9 @@ module _ {S A B : Type 0} (f : Section S A B) (left period : S → ℕ) (Good : 
               let p : j * period (f.next s a) ≡ j * period s = ap (λ (z : ℕ). j * z) (c.period_kept s a g) in
               let i : length (outs f (f.next s a) xs) ≤ j = ih j (omega (arith, l, t, m, n, p)) in
               omega (arith, i)
-      go false e none q ih =
+      go false e None q ih =
           let t = leb-false (left s) 1 e in
           let n : left (f.next s a) ≡ left s - 1 = c.left_next s a g ∙ ap (λ (d : Bool). cond d (period s) (left s - 1)) e in
           let p : k * period (f.next s a) ≡ k * period s = ap (λ (z : ℕ). k * z) (c.period_kept s a g) in
           ih k (omega (arith, h, t, n, p))
-      go false e (some y) q ih = absurd (true≢false (q ∙ e))
+      go false e (Some y) q ih = absurd (true≢false (q ∙ e))

@@ -3,7 +3,7 @@
 use mathlib.Core.Path.{◌≡◌, refl, sym, ap, ap₂, ◌∙◌}
 use mathlib.Core.Bool.{Bool, true, false}
 use mathlib.Core.List.{List, [], ◌∷◌}
-use mathlib.Core.Option.{Option, none, some}
+use Rattle.std.specs.Prelude.{Option, None, Some}
 use Prim.Native.Nat.{ℕ, zero, suc, ◌+◌, ◌≤◌}
 use native.Mathlib.Omega.{arith}
 use lib.ListN.{length}
@@ -41,8 +41,8 @@ module _ {S T A C : Type 0} (m : Machine S A C) (n : Machine T A C) (view : S �
           rw (feed_takes m s a ys p e, feed_takes n (view s) a ys p (sym (seen.due_same s g) ∙ e), ← seen.now_same s a g e, ← seen.next_same s a g e) (of (m.now s a))
         where
           of : (o : Option C) → seen_as (took_then o (feed m (m.next s a) ys (less o (suc p)))) ≡ took_then o (feed n (view (m.next s a)) ys (less o (suc p)))
-          of none = ap (took_then none) (ih (m.next s a) ys (suc p) (omega arith) (next s a g e))
-          of (some c) = ap (took_then (some c)) (ih (m.next s a) ys p (omega arith) (next s a g e))
+          of None = ap (took_then None) (ih (m.next s a) ys (suc p) (omega arith) (next s a g e))
+          of (Some c) = ap (took_then (Some c)) (ih (m.next s a) ys p (omega arith) (next s a g e))
 
   pub feed_seen :
       (s : S) (xs : List A) (p : ℕ) → Good s
@@ -74,15 +74,15 @@ module _ {S A C : Type 0} (most : ℕ) (adds : S → A → ℕ) (m : Machine S A
       (λ q g d. tt) (λ q a g d. tt) (s, c) xs p tt
 
 -- a machine that hands each value on, at a state that stays
-module _ {S A : Type 0} (m : Machine S A A) (s : S) (nothing : m.due s ≡ false) (stays : (a : A) → m.next s a ≡ s) (hands : (a : A) → m.now s a ≡ some a) where
+module _ {S A : Type 0} (m : Machine S A A) (s : S) (nothing : m.due s ≡ false) (stays : (a : A) → m.next s a ≡ s) (hands : (a : A) → m.now s a ≡ Some a) where
   pub feed_hands : (xs : List A) (p : ℕ) → (feed m s xs p).taken ≡ length xs → feed m s xs p ≡ record { taken = length xs; written = xs; line = s }
   feed_hands [] p t = feed_end m s p nothing
   feed_hands (a ∷ xs) zero t =
       let z : 0 ≡ suc (length xs) = sym (ap (λ (f : Fed S A). f.taken) (feed_full m s (a ∷ xs))) ∙ t in absurd (omega arith)
   feed_hands (a ∷ xs) (suc p) t =
-      let e : feed m s (a ∷ xs) (suc p) ≡ took_then (some a) (feed m s xs p) =
+      let e : feed m s (a ∷ xs) (suc p) ≡ took_then (Some a) (feed m s xs p) =
       feed_takes m s a xs p nothing ∙ ap₂ {C = Fed S A} (λ (o : Option A) (r : S). took_then o (feed m r xs (less o (suc p)))) (hands a) (stays a)
       in
       let k : suc (feed m s xs p).taken ≡ suc (length xs) = sym (ap (λ (f : Fed S A). f.taken) e) ∙ t in
       let i : (feed m s xs p).taken ≡ length xs = omega (arith, k) in
-      e ∙ ap (took_then (some a)) (feed_hands xs p i)
+      e ∙ ap (took_then (Some a)) (feed_hands xs p i)

@@ -25,8 +25,8 @@ pub struct Refusals {
 
 impl Refusals {
     pub fn read(root: &Path, limits: &Limits) -> Result<Refusals, String> {
-        let names = numbered(&root.join(CODE), "Refusal::", "=>")?;
-        let table = numbered(&root.join(TABLE), "number_of ", "=")?;
+        let names = numbered(&text::read(&root.join(CODE))?, "");
+        let table = numbered(&text::read(&root.join(TABLE))?, "number_of ");
         if names != table {
             return Err(format!(
                 "{CODE} and {TABLE} number the refusals differently"
@@ -47,21 +47,17 @@ impl Refusals {
     }
 }
 
-// The lines `PREFIX Name SIGN number`, by number.
-fn numbered(path: &Path, prefix: &str, sign: &str) -> Result<Vec<(u64, String)>, String> {
-    let mut rows = Vec::new();
-    for line in text::read(path)?.lines() {
-        let row = line
-            .trim()
-            .strip_prefix(prefix)
-            .and_then(|row| row.split_once(sign));
-        let Some((name, number)) = row else { continue };
-        if let Ok(number) = number.trim().trim_end_matches(',').parse() {
-            rows.push((number, name.trim().to_string()));
-        }
-    }
+// The lines `PREFIX Name = number`, by number: of the enum each behind no prefix and with a comma, of the table behind the definition's name.
+fn numbered(source: &str, prefix: &str) -> Vec<(u64, String)> {
+    let rows = source.lines().filter_map(|line| {
+        let row = line.trim().trim_end_matches(',').strip_prefix(prefix)?;
+        let (name, number) = row.split_once(" = ")?;
+        let number = number.parse().ok()?;
+        text::is_name(name).then(|| (number, name.to_string()))
+    });
+    let mut rows: Vec<(u64, String)> = rows.collect();
     rows.sort();
-    Ok(rows)
+    rows
 }
 
 // `Name: reason`, and behind it the sentence, indented, where that says more.

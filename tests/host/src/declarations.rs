@@ -276,8 +276,8 @@ const MISSING: [(&str, &str, &str, &str); 9] = [
     ),
     (
         "crates/refusal/src/lib.rt",
-        "Refusal::Step => 14",
-        "Refusal::Step => 16",
+        "Step = 14",
+        "Step = 16",
         "differently",
     ),
     (
@@ -326,8 +326,8 @@ fn a_new_refusal_is_printed() {
     );
     let words = "host/bindings/refusals.txt";
     let number = read(table).matches("\nnumber_of ").count() + 1;
-    let arm = format!("Refusal::NewRow => {number},\nRefusal::State => ");
-    edit(&tree, code, "Refusal::State => ", &arm);
+    let case = format!("NewRow = {number},\n    State = ");
+    edit(&tree, code, "State = ", &case);
     let row = format!("number_of NewRow = {number}\nnumber_of State = ");
     edit(&tree, table, "number_of State = ", &row);
     edit(

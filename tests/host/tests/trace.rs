@@ -27,7 +27,7 @@ const LAYERS: [&str; 12] = [
 ];
 
 /// Words of the contract column that are no clause.
-const KEYWORDS: [&str; 3] = ["requires", "ensures", "mut self"];
+const KEYWORDS: [&str; 2] = ["requires", "ensures"];
 
 /// The top of the repository. Asked when the test runs: a copy of the tree may come with the binary
 /// of another.
@@ -178,9 +178,13 @@ fn head(lines: &[&str]) -> String {
     lines[..=end.unwrap_or(lines.len() - 1)].join("\n")
 }
 
-/// The type in what follows `impl`: ` Line {`, or `<'a> TapSheet<'a> {`.
+/// The type in what follows `impl`: ` Line {`, `<'a> TapSheet<'a> {` or `<T: StageTable> DecCascade<T> {`.
+/// Of a trait's `impl` it is the trait.
 fn type_named(behind: &str) -> Option<&str> {
-    let (_, name) = behind.split_once(' ')?;
+    let name = match behind.strip_prefix('<') {
+        Some(bounds) => bounds.split_once("> ")?.1,
+        None => behind.strip_prefix(' ')?,
+    };
     name.split(['<', ' ']).next()
 }
 

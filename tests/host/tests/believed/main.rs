@@ -32,10 +32,12 @@ const REACHED: [(&str, &str, &str); 3] = [
 
 /// Where the page's tables of files are not what the line rests on.
 fn wrong_files(top: &Path, page: &str) -> Vec<String> {
-    let (mut specs, mut declared, mut kit) = (BTreeSet::new(), BTreeSet::new(), BTreeSet::new());
+    let (mut specs, mut proofs) = (BTreeSet::new(), BTreeSet::new());
+    let (mut declared, mut kit) = (BTreeSet::new(), BTreeSet::new());
     for each in closure(top, begin(top)) {
         match each {
             Module::Specs(name) => specs.insert(name),
+            Module::Proofs(name) => proofs.insert(name),
             Module::Declared(file, name) => declared.insert(format!("{file} {name}")),
             Module::Kit(name) => kit.insert(name),
         };
@@ -46,6 +48,11 @@ fn wrong_files(top: &Path, page: &str) -> Vec<String> {
         "declaration",
         &declared,
         &pairs(page, "Declarations"),
+    ));
+    all.extend(differing(
+        "proofs",
+        &proofs,
+        &first_names(page, "Records of proofs"),
     ));
     all.extend(differing("kit", &kit, &first_names(page, "The kit")));
     all.extend(differing(
@@ -105,9 +112,11 @@ fn a_missing_row_is_found() {
 fn modules_are_read() {
     let specs = Module::Specs("line/Outputs".to_string());
     assert_eq!(module("Rattle.line.specs.Outputs"), specs);
+    let proofs = Module::Proofs("theory/proofs/FeedLoop".to_string());
+    assert_eq!(module("Rattle.theory.proofs.FeedLoop"), proofs);
     let kit = "Rattle.std.specs.Int";
     assert_eq!(module(kit), Module::Kit(kit.to_string()));
-    let declared = Module::Declared("refusal/src/lib.rt".to_string(), "Count".to_string());
-    let path = "Rattle.refusal.specs.declared.Count.TheVariants";
+    let declared = Module::Declared("refusal/src/lib.rt".to_string(), "Refusal".to_string());
+    let path = "Rattle.refusal.specs.declared.Refusal.TheVariants";
     assert_eq!(module(path), declared);
 }

@@ -38,6 +38,8 @@ pub fn use_of(line: &str) -> Option<Use> {
 pub enum Module {
     /// crates/CRATE/specs/FILE.antt, as CRATE/FILE
     Specs(String),
+    /// crates/CRATE/proofs/FILE.antt, as CRATE/proofs/FILE: what a contract of a private function needs besides specs/
+    Proofs(String),
     /// a struct or enum of crates/CRATE/src/FILE.rt, as CRATE/src/FILE.rt and its name
     Declared(String, String),
     /// a module of the kit
@@ -54,6 +56,9 @@ pub fn module(path: &str) -> Module {
     let Some(own) = own else {
         return Module::Kit(path.to_string());
     };
+    if let Some((layer, place)) = own.split_once(".proofs.") {
+        return Module::Proofs(format!("{layer}/proofs/{place}"));
+    }
     let (layer, place) = own
         .split_once(".specs.")
         .unwrap_or_else(|| panic!("{path} is not of specs/"));

@@ -22,11 +22,11 @@ zeros = replicate 128 (pos 0)
 zeros_long : length zeros ≡ 128
 zeros_long = length-replicate 128 (pos 0)
 
-least-requires : tie.Need-least-most-requires
-least-requires c κs = tt
+min-requires : tie.Need-min-most-requires
+min-requires c κs = tt
 
-least-requires-2 : tie.Need-least-at-requires
-least-requires-2 c κs = tt
+min-requires-2 : tie.Need-min-at-requires
+min-requires-2 c κs = tt
 
 array-borrow-prefix-sums : tie.Need-slice_bounds-sums-end
 array-borrow-prefix-sums c = search rules
@@ -36,7 +36,7 @@ few n m e = omega arith
 
 slice-aggregate-thin-block-at : tie.Need-slice_bounds-thin_block_at-end
 slice-aggregate-thin-block-at c =
-    let l = c.least-most in
+    let l = c.min-most in
     sym (length-take-le l.result zeros (few l.result _ l.ensures))
 
 thin-block-at-requires : tie.Need-thin_block_at-moved-requires
@@ -45,10 +45,10 @@ thin-block-at-requires c κs = tt
 -- the sums
 module _ (c : tie.After-thin_block_at-moved) where
   abbrev start : tie.Start
-  start = c.before.before.before.before.before.before.before.before
+  start = c.before.before.before.before.before.before.before.before.before
 
   abbrev most : ℕ
-  most = c.least-most.result
+  most = c.min-most.result
 
   abbrev thinner : Thinner
   thinner = let a = start.args in thinner_of a.thinning a.f a.sample_counter a.integrators.now a.combs.now a.neighbours.now
@@ -63,14 +63,14 @@ module _ (c : tie.After-thin_block_at-moved) where
   resampler = let a = start.args in resampler_of a.f a.mu a.delay.now a.prototype.now
 
   lent_long : length (take most zeros) ≡ most
-  lent_long = length-take-le most zeros (few most _ c.least-most.ensures)
+  lent_long = length-take-le most zeros (few most _ c.min-most.ensures)
 
   -- the array that they stand in front of
   abbrev sums : List ℤ
   sums = c.thin_block_at-moved.new.dst ++ drop most zeros
 
   abbrev made : ℕ
-  made = c.thin_block_at-moved.result.made
+  made = c.thin_block_at-moved.result.written
 
   abbrev written : List ℤ
   written = (thin_fed thinner start.args.samples.now (length (take most zeros))).written
@@ -85,7 +85,7 @@ module _ (c : tie.After-thin_block_at-moved) where
   few_made =
       let e = c.thin_block_at-moved.ensures.0.1 in
       let w = (thin_within thinner start.args.samples.now (length (take most zeros))).1 in
-      let m = few most _ c.least-most.ensures in
+      let m = few most _ c.min-most.ensures in
       omega (arith, e, w, m, lent_long)
 
 array-share-prefix-sums : tie.Need-slice_bounds-sums-end-2
@@ -125,7 +125,7 @@ filter-requires : tie.Need-filter-on-requires
 filter-requires c κs =
     let e = c.before.before.before.before.before.before.before.before in
     let l = length-take-le (made (before e)) (values e) (values_in e) in
-    let a = c.least-at.ensures in
+    let a = c.min-at.ensures in
     (omega (arith, a), omega (arith, l, few_made (before e)))
 
 add-t28 : tie.Need-overflow_add-result
@@ -153,8 +153,8 @@ returns c =
     let w = (thin_within (thinner b) a.samples.now (length (take (most b) zeros))).0 in (
       (omega (arith, told.0.0, w), omega (arith, k, m, n)),
       λ eb fine v room c₁ c₂ some leaves.
-          let at : c.least-at.result ≡ a.from = let q = c.least-at.ensures in omega (arith, q, room) in
-          let count : length (take (most b) zeros) ≡ a.count = let q = c.least-most.ensures in lent_long b ∙ omega (arith, q, c₂) in
+          let at : c.min-at.result ≡ a.from = let q = c.min-at.ensures in omega (arith, q, room) in
+          let count : length (take (most b) zeros) ≡ a.count = let q = c.min-most.ensures in lent_long b ∙ omega (arith, q, c₂) in
           took_batch_at (thinner b) _ (fir b) _ (half_band b) _ (resampler b) _ a.samples.now (sums b) (values e) _ (made b) a.f.bits (length (take (most b) zeros)) _ _ _ _ a.out.now _ a.from a.count
           at count eb fine told.0.0 told.1.0 (front b)
           (values_front (sums b) (values e) zeros a.f.bits (made b) (made_in b) c.cut_sums-cuts.ensures.0) c.cut_sums-cuts.ensures.1 on.1.1 on.1.0 v c₁ some leaves,
@@ -164,8 +164,8 @@ pub take_batch_spec : {M : Type 1} → statement M
 take_batch_spec =
     tie.close
     (tie.spec
-    least-requires
-    least-requires-2
+    min-requires
+    min-requires-2
     array-borrow-prefix-sums
     slice-aggregate-thin-block-at
     thin-block-at-requires

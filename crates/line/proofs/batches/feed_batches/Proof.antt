@@ -44,7 +44,7 @@ abbrev begun : tie.At-loop-taken invariant-loop decreases-loop → tie.Start inv
 begun c = c.before.before
 
 abbrev entered : tie.After-write_due-due invariant-loop decreases-loop → tie.At-loop-taken invariant-loop decreases-loop
-entered c = c.before.before.before.before
+entered c = c.before.before.before.before.before
 
 abbrev emptied : tie.After-take_batch-on invariant-loop decreases-loop → tie.After-write_due-due invariant-loop decreases-loop
 emptied c = c.before.before.before.before.before.before.before.before.before.before.before.before.before.before.before.before
@@ -75,7 +75,7 @@ due : (c : tie.After-write_due-due invariant-loop decreases-loop) →
 due c =
     let a = (begun (entered c)).args in
     let v = (entered c).loop-taken in
-    drained (lent (begun (entered c))) a.samples.now a.out.now a.thinning a.f v.n v.integrators v.combs v.neighbours a.taps.now v.fir_delay v.delays v.held v.counts v.delay a.prototype.now v.taken v.written v.out v.invariant (told_due c.write_due-due.result (spanned c)) c.write_due-due.ensures
+    drained (lent (begun (entered c))) a.samples.now a.out.now a.thinning a.f v.n v.integrators v.combs v.neighbours a.taps.now v.fir_delay v.delays v.held v.counts v.delay a.prototype.now v.taken v.written v.out v.invariant (told_due c.write_due-due.result (spanned c)) (rw c.setting.ensures at c.write_due-due.ensures)
 
 -- ---- a batch
 not_due : (l : Line) → (d : tie.After-write_due-due invariant-loop decreases-loop) → due_at (begun (entered d)).args.f (numbers d).mu ≡ false → from5.due (drained_line d).resampler ≡ false
@@ -147,6 +147,9 @@ loop-holds c = start line 64 Good line_lawful _ _ _ c.requires.1
 sub-if1 : tie.Need-overflow_sub-samples invariant-loop decreases-loop
 sub-if1 c = c.loop-taken.invariant.some_taken
 
+setting-requires : tie.Need-setting-requires invariant-loop decreases-loop
+setting-requires c κs = tt
+
 write-due-requires : tie.Need-write_due-due-requires invariant-loop decreases-loop
 write-due-requires c κs = tt
 
@@ -157,7 +160,7 @@ sums-for-requires : tie.Need-sums_for-count-requires invariant-loop decreases-lo
 sums-for-requires c κs = tt
 
 mul-take-batch : tie.Need-offset_bounds-samples-taken invariant-loop decreases-loop
-mul-take-batch c = let i = c.loop-taken.invariant.some_taken in omega (arith, i, (begun c.before.before.before.before.before.before.before.before.before.before.before.before.before.before.before.before.before).well_formed)
+mul-take-batch c = let i = c.loop-taken.invariant.some_taken in omega (arith, i, (begun c.before.before.before.before.before.before.before.before.before.before.before.before.before.before.before.before.before.before).well_formed)
 
 sub-take-batch : tie.Need-slice_bounds-take_batch-count invariant-loop decreases-loop
 sub-take-batch c = search rules
@@ -210,6 +213,7 @@ feed_batches_spec =
     decreases-loop
     loop-holds
     sub-if1
+    setting-requires
     write-due-requires
     sub-sums-for
     sums-for-requires

@@ -32,7 +32,7 @@ abbrev begun : tie.At-loop-taken invariant-loop decreases-loop → tie.Start inv
 begun c = c.before.before
 
 abbrev entered : tie.After-write_due-due invariant-loop decreases-loop → tie.At-loop-taken invariant-loop decreases-loop
-entered c = c.before.before
+entered c = c.before.before.before
 
 abbrev emptied : tie.After-take_on-on invariant-loop decreases-loop → tie.After-write_due-due invariant-loop decreases-loop
 emptied c = c.before.before.before.before.before.before.before.before.before.before.before
@@ -57,7 +57,7 @@ due : (c : tie.After-write_due-due invariant-loop decreases-loop) →
 due c =
     let a = (begun (entered c)).args in
     let v = (entered c).loop-taken in
-    drained (lent (begun (entered c))) a.samples.now a.out.now kind.Neighbours a.f v.n v.integrators v.combs v.neighbours a.taps.now v.fir_delay v.delays v.held v.counts v.delay a.prototype.now v.taken v.written v.out v.invariant (told_due c.write_due-due.result (spanned c)) c.write_due-due.ensures
+    drained (lent (begun (entered c))) a.samples.now a.out.now kind.Neighbours a.f v.n v.integrators v.combs v.neighbours a.taps.now v.fir_delay v.delays v.held v.counts v.delay a.prototype.now v.taken v.written v.out v.invariant (told_due c.write_due-due.result (spanned c)) (rw c.setting.ensures at c.write_due-due.ensures)
 
 -- the line put together there
 abbrev drained_line : tie.After-write_due-due invariant-loop decreases-loop → Line
@@ -114,6 +114,9 @@ module _ (k : tie.After-take_on-on invariant-loop decreases-loop) where
 loop-holds : tie.Need-loop-taken-init invariant-loop decreases-loop
 loop-holds c = start line 64 Good line_lawful _ _ _ c.requires.1
 
+setting-requires : tie.Need-setting-requires invariant-loop decreases-loop
+setting-requires c κs = tt
+
 write-due-requires : tie.Need-write_due-due-requires invariant-loop decreases-loop
 write-due-requires c κs = search rules
 
@@ -169,6 +172,7 @@ feed_neighbours_spec =
     invariant-loop
     decreases-loop
     loop-holds
+    setting-requires
     write-due-requires
     take-on-requires
     enum_told

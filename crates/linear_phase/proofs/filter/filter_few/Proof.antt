@@ -20,10 +20,10 @@ abbrev samples : tie.Start → List Float
 samples s = picked s.args.own s.args.span.now s.args.src.now
 
 some_delay : (s : tie.Start) → 1 ≤ length s.args.delay.now
-some_delay s = omega (arith, (reaches s.args.odd (length s.args.taps.now) s.requires.0.0).least, s.requires.0)
+some_delay s = omega (arith, (reaches s.args.kind.odd (length s.args.taps.now) s.requires.0.0).least, s.requires.0)
 
 most : (s : tie.Start) → length s.args.delay.now ≤ 46
-most s = omega (arith, (reaches s.args.odd (length s.args.taps.now) s.requires.0.0).most, s.requires.0)
+most s = omega (arith, (reaches s.args.kind.odd (length s.args.taps.now) s.requires.0.0).most, s.requires.0)
 
 -- as many as the span has places
 lent_long : (c : tie.After-picked-lent) → length c.picked-lent.result.now ≡ length c.args.span.now
@@ -100,7 +100,7 @@ slice-aggregate-outputs-back c = search rules
 outputs-back-requires : tie.Need-outputs_back-requires
 outputs-back-requires c κs =
     let s = c.before.before.before.before.before.before.before.before.before.before.before.before.before.before.before.before in
-    ((c.requires.0.0, omega (arith, (reaches c.args.odd (length c.args.taps.now) c.requires.0.0).least, c.requires.0), omega (arith, tape_long c.before.before.before.before.before.before.before.before, most s, c.requires.1.1), omega (arith, tape_long c.before.before.before.before.before.before.before.before, most s)), on_tape c.before.before.before.before.before.before.before.before)
+    ((c.requires.0.0, omega (arith, (reaches c.args.kind.odd (length c.args.taps.now) c.requires.0.0).least, c.requires.0), omega (arith, tape_long c.before.before.before.before.before.before.before.before, most s, c.requires.1.1), omega (arith, tape_long c.before.before.before.before.before.before.before.before, most s)), on_tape c.before.before.before.before.before.before.before.before)
 
 same_length : tie.Need-shape_of-delay
 same_length c = search rules
@@ -117,11 +117,11 @@ returns c =
     let b = c.has_centre-centre in (
       put_last d c.picked-lent.result.now _ _ (last c.before.before.before.before.before.before.before.before.before.before.before) c.put_at_end.ensures
           ∙ ap (λ (l : List Float). drop (length l) (d ++ l)) c.picked-lent.ensures
-          ∙ sym (state_on a.odd a.minus a.taps.now v d (some_delay s)),
+          ∙ sym (state_on a.kind.odd a.kind.antisymmetric a.taps.now v d (some_delay s)),
       c.outputs_back.ensures
-          ∙ ap (λ (l : List Float). window_values b.result a.minus a.taps.now (length d) (l ++ v) (length a.span.now)) (front c.before.before.before.before.before.before.before.before.before.before.before)
-          ∙ ap₂ {C = List Float} (λ (k : Bool) (n : ℕ). window_values k a.minus a.taps.now (length d) (d ++ v) n) b.ensures (sym c.requires.1.0)
-          ∙ values_on a.odd a.minus a.taps.now v d (some_delay s),
+          ∙ ap (λ (l : List Float). window_values b.result a.kind.antisymmetric a.taps.now (length d) (l ++ v) (length a.span.now)) (front c.before.before.before.before.before.before.before.before.before.before.before)
+          ∙ ap₂ {C = List Float} (λ (k : Bool) (n : ℕ). window_values k a.kind.antisymmetric a.taps.now (length d) (d ++ v) n) b.ensures (sym c.requires.1.0)
+          ∙ values_on a.kind.odd a.kind.antisymmetric a.taps.now v d (some_delay s),
     )
 
 pub filter_few_spec : {M : Type 1} → statement M

@@ -26,7 +26,7 @@ delay_is : (s : tie.Start) → length (delay s) ≡ s.args.long
 delay_is s = length-take-le s.args.long s.args.delay.now (omega (arith, s.requires.0.3, s.requires.1.0))
 
 some_delay : (s : tie.Start) → 1 ≤ length (delay s)
-some_delay s = omega (arith, delay_is s, (reaches s.args.odd (length s.args.taps.now) s.requires.0.0).least, s.requires.0)
+some_delay s = omega (arith, delay_is s, (reaches s.args.kind.odd (length s.args.taps.now) s.requires.0.0).least, s.requires.0)
 
 tape_long : (c : tie.After-lay_groups) → length c.lay_groups.new.tape ≡ 48
 tape_long c = search rules
@@ -107,7 +107,7 @@ slice-aggregate-outputs-back c = search rules
 
 outputs-back-requires : tie.Need-outputs_back-requires
 outputs-back-requires c κs =
-    ((c.requires.0.0, omega (arith, (reaches c.args.odd (length c.args.taps.now) c.requires.0.0).least, c.requires.0), omega (arith, tape_long c.before.before.before.before.before.before.before.before, c.requires.1.0), omega (arith, tape_long c.before.before.before.before.before.before.before.before, c.requires.1.0)), on_tape c.before.before.before.before.before.before.before.before)
+    ((c.requires.0.0, omega (arith, (reaches c.args.kind.odd (length c.args.taps.now) c.requires.0.0).least, c.requires.0), omega (arith, tape_long c.before.before.before.before.before.before.before.before, c.requires.1.0), omega (arith, tape_long c.before.before.before.before.before.before.before.before, c.requires.1.0)), on_tape c.before.before.before.before.before.before.before.before)
 
 same_length : tie.Need-shape_of-delay
 same_length c = search rules
@@ -127,12 +127,12 @@ returns c =
       ap (λ (l : List Float). l ++ drop a.long a.delay.now)
           (c.last_in.ensures
           ∙ ap (λ (l : List Float). drop (length l) (d ++ l)) p.ensures
-          ∙ sym (state_on a.odd a.minus a.taps.now v d (some_delay s))),
+          ∙ sym (state_on a.kind.odd a.kind.antisymmetric a.taps.now v d (some_delay s))),
       c.outputs_back.ensures
-          ∙ ap₂ {C = List Float} (λ (l : List Float) (k : ℕ). window_values b.result a.minus a.taps.now k (l ++ v) (length a.span.now))
+          ∙ ap₂ {C = List Float} (λ (l : List Float) (k : ℕ). window_values b.result a.kind.antisymmetric a.taps.now k (l ++ v) (length a.span.now))
           (ap (λ (k : ℕ). take k c.lay_groups.new.tape) (sym (delay_is s)) ∙ front m) (sym (delay_is s))
-          ∙ ap₂ {C = List Float} (λ (k : Bool) (n : ℕ). window_values k a.minus a.taps.now (length d) (d ++ v) n) b.ensures (sym c.requires.1.2)
-          ∙ values_on a.odd a.minus a.taps.now v d (some_delay s),
+          ∙ ap₂ {C = List Float} (λ (k : Bool) (n : ℕ). window_values k a.kind.antisymmetric a.taps.now (length d) (d ++ v) n) b.ensures (sym c.requires.1.2)
+          ∙ values_on a.kind.odd a.kind.antisymmetric a.taps.now v d (some_delay s),
     )
 
 pub filter_short_spec : {M : Type 1} → statement M

@@ -1,11 +1,12 @@
 -- A record is its header and then its words.
-use Rattle.std.proofs.Common.{arith, refl}
+use Rattle.std.proofs.Common.{arith}
 use Rattle.std.proofs.lemmas.Grind.{common_steps}
 use Rattle.replay.proofs.Bytes.{record_of}
 use Rattle.replay.proofs.text.read_record.Goals as goal
 
-pub returns-then-parse-clause-spelled : goal.returns-then-parse-clause-spelled
-returns-then-parse-clause-spelled g c =
-    record_of _ _ _ c.read_full.new.buf c.in_ok-got.got c.in-Of.n c.read_full-2.new.buf c.parse.new.words _ c.in_ok-read_full.field-0
-    (grind (arith, common_steps)) c.in_ok-got.ensures.consumed c.in-Of.ensures
-    c.in_ok-read_full.ensures.consumed (omega arith) (grind (arith, common_steps)) (grind (arith, common_steps)) (c.if-parse.ensures refl)
+pub returns-clause-spelled : goal.returns-clause-spelled
+returns-clause-spelled g c =
+    let t = rw c.in-Some-2.is at c.in_ok-text.ensures in
+    let p = rw (c.in-Some-3.is, c.deref.ensures.value) at c.in_ok-words.ensures in
+    record_of _ _ _ c.read_full.new.buf c.in_ok-got.got c.in-Some.count c.in-Some-2.text.items c.in-Some-3.words.items
+    (grind (arith, common_steps)) c.in_ok-got.ensures.consumed c.in-Some.ensures t.1 t.0 p.0 p.1

@@ -1,0 +1,83 @@
+// 01, section 5, "while mu < 1 an output is made": the outputs that are due, one after the other, and a sample into the delay.
+ghost use Rattle.std.specs.Prelude.{◌≡◌, ◌-◌, ◌≤◌, true, length};
+ghost use Rattle.std.specs.Float.Ieee.{lt};
+ghost use Rattle.float.specs.F32.{one32};
+ghost use Rattle.float.specs.PolyphaseOutput.{cut_unit};
+ghost use Rattle.float.specs.PolyphaseResamp as R;
+
+use crate::interpolation::Reading;
+use crate::settings::{MOST_CELLS, MOST_TAPS, Setting, in_limits};
+
+// Where the next output lies after those that were due, and how many places of the span are written.
+#[derive(Drop)]
+pub struct Due {
+    pub mu: f32,
+    pub written: usize,
+}
+
+// An x below 1.0 cut to 0.0..1.0; a NaN would stay one. `clamp` would test the upper end again for each output.
+#[tactic(auto, unfolding(crate::specs::PolyphaseOutput::cut_unit), using(crate::proofs::Place::below_one))]
+fn cut_below(x: f32) -> f32
+    requires { lt x one32 ≡ true }
+    ensures { result ≡ cut_unit x }
+{
+    if x < 0.0 { 0.0 } else { x }
+}
+
+// The sample x goes in at the front of the delay's first T places. Where there are no T places, nothing moves.
+#[tactic(auto, unfolding(crate::specs::PolyphaseResamp::shifted_in))]
+pub fn shift_in(delay: &mut [f32; MOST_TAPS], taps: usize, x: f32)
+    ensures { delay.new ≡ R.shifted_in taps x delay.old }
+{
+    if MOST_TAPS < taps {
+        return;
+    }
+    let mut held = x;
+    for t in 0..taps {
+        held = std::mem::replace(&mut delay[t], held);
+    }
+}
+
+impl Reading<'_> {
+    // What is due from mu on is written from the place `from` of dst on, as long as it has a place.
+    pub(crate) fn write_due(self, delay: &[f32], mu: f32, dst: &mut [f32], from: usize) -> Due
+        requires { self.setting.taps ≤ length delay.now }
+        ensures { let before = dst.old in
+            let r = self.entry in
+            let s = r.setting in
+            R.told_due result dst.new ≡ R.emitted s.straight s.phases s.taps s.step delay.now r.prototype.now (length before - from) mu from before }
+    {
+        let mut next = mu;
+        let mut written = from;
+        while written < dst.len() && next < 1.0 {
+            dst[written] = self.interpolate(delay, cut_below(next));
+            written += 1;
+            next += self.setting.step;
+        }
+        Due { mu: next, written }
+    }
+}
+
+impl Setting {
+    // What is due from mu on is written from the place `from` of dst on, as long as it has a place. Where P or T is outside its limits, nothing. A leaf for `push`
+    // and the line, which have looked at the numbers: it refuses nothing.
+    pub fn write_due(
+        self,
+        prototype: &[f32; MOST_CELLS],
+        delay: &[f32; MOST_TAPS],
+        mu: f32,
+        dst: &mut [f32],
+        from: usize,
+    ) -> Due
+        ensures { R.told_due result dst.new ≡ R.emitted_from self.straight self.phases self.taps self.step delay.now prototype.now mu from dst.old }
+    {
+        if !in_limits(self.phases, self.taps) {
+            return Due { mu, written: from };
+        }
+        let reading = Reading {
+            prototype,
+            setting: self,
+        };
+        reading.write_due(delay, mu, dst, from)
+    }
+}

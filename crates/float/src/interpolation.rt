@@ -1,0 +1,158 @@
+// 01, section 5: one output of the polyphase resampler.
+ghost use Rattle.std.specs.Prelude.{◌≡◌, ◌+◌, ◌<◌, ◌≤◌, true, false, length, if◌then◌else◌, from_bits, nat_lt, slice_index_or};
+ghost use Rattle.std.specs.Float.{nan, binary32};
+ghost use Rattle.std.specs.Float.Ieee.{le, to_unsigned};
+ghost use Rattle.float.specs.F32.{zero32, blend};
+ghost use Rattle.float.specs.PolyphaseOutput.{tap, straight_tap, cut_unit, first_place, phase_sum, output};
+ghost use Rattle.float.specs.PolyphaseResamp as R;
+
+use crate::cast::whole_part;
+use crate::settings::{MOST_CELLS, MOST_TAPS, Setting, in_limits};
+
+// A prototype, and a setting inside the limits by which it is read.
+#[derive(Clone, Copy)]
+pub(crate) struct Reading<'a> {
+    pub prototype: &'a [f32; MOST_CELLS],
+    pub setting: Setting,
+    ghost phases_inside: { (R.least_phases ≤ setting.phases) × (setting.phases ≤ R.most_phases) },
+    ghost taps_inside: { (R.least_taps ≤ setting.taps) × (setting.taps ≤ R.most_taps) },
+}
+
+// The first places: P in wrapped phase; one more in straight phase, at q = P.
+fn first_places(straight: bool, phases: usize) -> usize
+    requires { phases ≤ R.most_phases }
+    ensures { result ≡ (if straight then phases + 1 else phases) }
+{
+    if straight { phases + 1 } else { phases }
+}
+
+// The first place at q. Its whole part is at most P, so that no division is needed to reduce it, and in straight phase it stays. How many there are is worked
+// out once for many outputs.
+fn first_place(straight: bool, q: f32, phases: usize) -> usize
+    requires { (1 ≤ phases) × (phases ≤ R.most_phases) × (le (from_bits binary32 0x4b80_0000) q ≡ false) × (to_unsigned 64 q ≤ phases) }
+    ensures { result ≡ first_place straight phases q }
+{
+    let whole = whole_part(q);
+    if whole < first_places(straight, phases) {
+        whole
+    } else {
+        0
+    }
+}
+
+// f of the way from y0 to y1.
+fn blend_of(y0: f32, y1: f32, f: f32) -> f32
+    ensures { result ≡ blend y0 y1 f }
+{
+    y0 * (1.0 - f) + y1 * f
+}
+
+// The cell at i of the prototype's first so many, and 0.0 past them.
+fn cell_at(prototype: &[f32; MOST_CELLS], cells: usize, i: usize) -> f32
+    requires { cells ≤ R.most_cells }
+    ensures { result ≡ (if nat_lt i cells then slice_index_or prototype.now i nan else zero32) }
+{
+    if i < cells { prototype[i] } else { 0.0 }
+}
+
+impl Reading<'_> {
+    // The sums over the first `count` taps of the cells from p0 and from p1 on, P apart.
+    #[tactic(auto, unfolding(crate::specs::PolyphaseOutput::phase_sum, crate::specs::PolyphaseOutput::tap, crate::specs::PolyphaseResamp::Inside))]
+    fn summed(self, delay: &[f32], count: usize, p0: usize, p1: usize) -> (f32, f32)
+        requires { (count ≤ R.most_taps) × (count ≤ length delay.now) × R.Inside self.setting.phases count p0 × R.Inside self.setting.phases count p1 }
+        ensures { let r = self.entry in
+            let h = r.prototype.now in
+            let d = delay.now in
+            let P = r.setting.phases in
+            (result.0 ≡ phase_sum (tap h P p0) d count) × (result.1 ≡ phase_sum (tap h P p1) d count) }
+    {
+        let prototype = self.prototype;
+        let phases = self.setting.phases;
+        let mut y0 = 0.0f32;
+        let mut y1 = 0.0f32;
+        for t in 0..count {
+            let x = delay[t];
+            y0 += prototype[t * phases + p0] * x;
+            y1 += prototype[t * phases + p1] * x;
+        }
+        (y0, y1)
+    }
+
+    // The sums of phases p0 and p1 over the taps, f of the way from the one to the other.
+    fn blended(self, delay: &[f32], p0: usize, p1: usize, f: f32) -> f32
+        requires { (self.setting.taps ≤ length delay.now) × (p0 < self.setting.phases) × (p1 < self.setting.phases) }
+        ensures { let r = self.entry in
+            let h = r.prototype.now in
+            let d = delay.now in
+            let P = r.setting.phases in
+            let T = r.setting.taps in
+            result ≡ blend (phase_sum (tap h P p0) d T) (phase_sum (tap h P p1) d T) f }
+    {
+        let (y0, y1) = self.summed(delay, self.setting.taps, p0, p1);
+        blend_of(y0, y1, f)
+    }
+
+    // In straight phase, the sums from place p, at the prototype's end, and from the next place on, f of the way from the one to the other. But for the last tap
+    // both places lie before the end; past it a tap is 0.0.
+    fn blended_at_the_end(self, delay: &[f32], p: usize, f: f32) -> f32
+        requires { (self.setting.taps ≤ length delay.now) × (p ≤ self.setting.phases) }
+        ensures { let r = self.entry in
+            let h = r.prototype.now in
+            let d = delay.now in
+            let P = r.setting.phases in
+            let T = r.setting.taps in
+            result ≡ blend (phase_sum (straight_tap h P T p) d T) (phase_sum (straight_tap h P T (p + 1)) d T) f }
+    {
+        let last = self.setting.taps - 1;
+        let (y0, y1) = self.summed(delay, last, p, p + 1);
+        let cells = self.setting.phases * self.setting.taps;
+        let from = last * self.setting.phases;
+        let x = delay[last];
+        let c0 = cell_at(self.prototype, cells, from + p);
+        let c1 = cell_at(self.prototype, cells, from + p + 1);
+        blend_of(y0 + c0 * x, y1 + c1 * x, f)
+    }
+
+    // One output at a mu that is cut, by the setting. Below the last phase both settings read the same cells. There and at the end in straight phase the two places
+    // are neighbours, which the compiler reads as pairs: so these calls say `p + 1`, and wrapped phase, which goes back to the first, has one of its own.
+    pub(crate) fn interpolate(self, delay: &[f32], mu: f32) -> f32
+        requires { (self.setting.taps ≤ length delay.now) × (mu ≡ cut_unit mu) }
+        ensures { let r = self.entry in
+            result ≡ output r.setting.straight r.setting.phases r.setting.taps mu delay.now r.prototype.now }
+    {
+        let phases = self.setting.phases;
+        let straight = self.setting.straight;
+        let q = (1.0 - mu) * (phases as f32);
+        let p = first_place(straight, q, phases);
+        let f = q - (p as f32);
+        if p + 1 < phases {
+            return self.blended(delay, p, p + 1, f);
+        }
+        if straight {
+            return self.blended_at_the_end(delay, p, f);
+        }
+        self.blended(delay, p, 0, f)
+    }
+}
+
+impl Setting {
+    // One output at mu, of the prototype and the delay that are lent. Where P or T is outside its limits, 0.0. A leaf for the line, which has looked at the numbers:
+    // it refuses nothing.
+    pub fn interpolate(
+        self,
+        prototype: &[f32; MOST_CELLS],
+        delay: &[f32; MOST_TAPS],
+        mu: f32,
+    ) -> f32
+        ensures { result ≡ (if R.in_limits self.phases self.taps then output self.straight self.phases self.taps mu delay.now prototype.now else zero32) }
+    {
+        if !in_limits(self.phases, self.taps) {
+            return 0.0;
+        }
+        let reading = Reading {
+            prototype,
+            setting: self,
+        };
+        reading.interpolate(delay, mu.clamp(0.0, 1.0))
+    }
+}

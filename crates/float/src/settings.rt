@@ -1,0 +1,95 @@
+// 01, section 5: what an opening of the polyphase resampler sets, inside which limits, and where mu may lie.
+ghost use Rattle.std.specs.Prelude.{◌≡◌};
+ghost use Rattle.float.specs.F32.{above_zero};
+ghost use Rattle.float.specs.PolyphaseResamp as R;
+
+pub const LEAST_PHASES: usize = 2;
+
+pub const MOST_PHASES: usize = 64;
+
+pub const LEAST_TAPS: usize = 1;
+
+pub const MOST_TAPS: usize = 16;
+
+pub const MOST_CELLS: usize = MOST_PHASES * MOST_TAPS;
+
+// The largest f32: a step above it is not finite.
+const LARGEST: f32 = 3.40282347e38;
+
+const LOWEST_MU: f32 = -16777216.0;
+
+const LEAST_LINE_STEP: f32 = 0.015625;
+
+const MOST_LINE_STEP: f32 = 64.0;
+
+// P and T, how the prototype is read, and how far mu goes on with each output. `straight` is a bool as in the state, which C holds and the definitions take.
+#[derive(Clone, Copy)]
+pub struct Setting {
+    pub phases: usize,
+    pub taps: usize,
+    pub straight: bool,
+    pub step: f32,
+}
+
+// Whether x is finite and above zero, as a step or a ratio has to be.
+#[tactic(auto, unfolding(crate::specs::F32::above_zero))]
+pub fn above_zero(x: f32) -> bool
+    ensures { result ≡ above_zero x }
+{
+    0.0 < x && x <= LARGEST
+}
+
+// Whether n is from least to most.
+#[tactic(auto, unfolding(crate::specs::PolyphaseResamp::within))]
+fn within(least: usize, most: usize, n: usize) -> bool
+    ensures { result ≡ R.within least most n }
+{
+    least <= n && n <= most
+}
+
+// Whether P and T are inside their limits.
+#[tactic(auto, unfolding(crate::specs::PolyphaseResamp::in_limits))]
+pub fn in_limits(phases: usize, taps: usize) -> bool
+    ensures { result ≡ R.in_limits phases taps }
+{
+    within(LEAST_PHASES, MOST_PHASES, phases) && within(LEAST_TAPS, MOST_TAPS, taps)
+}
+
+// Whether mu is from low to 1.0 + step as rounded.
+#[tactic(auto, unfolding(crate::specs::PolyphaseResamp::mu_from))]
+fn mu_from(low: f32, step: f32, mu: f32) -> bool
+    ensures { result ≡ R.mu_from low step mu }
+{
+    low <= mu && mu <= 1.0 + step
+}
+
+// Whether a step is one that the line takes.
+#[tactic(auto, unfolding(crate::specs::PolyphaseResamp::step_in_line))]
+pub fn step_in_line(step: f32) -> bool
+    ensures { result ≡ R.step_in_line step }
+{
+    LEAST_LINE_STEP <= step && step <= MOST_LINE_STEP
+}
+
+impl Setting {
+    // Whether a call at this mu is not refused by 15.
+    #[tactic(auto, unfolding(crate::specs::PolyphaseResamp::valid_at))]
+    pub fn is_valid(self, mu: f32) -> bool
+        ensures { result ≡ R.valid_at self.phases self.taps self.step mu }
+    {
+        in_limits(self.phases, self.taps)
+            && (above_zero(self.step) && mu_from(LOWEST_MU, self.step, mu))
+    }
+
+    // Whether a feed at this mu is not refused by 15: P = 0 means off.
+    #[tactic(auto, unfolding(crate::specs::PolyphaseResamp::valid_in_line_at))]
+    pub fn is_valid_in_line(self, mu: f32) -> bool
+        ensures { result ≡ R.valid_in_line_at self.phases self.taps self.step mu }
+    {
+        if self.phases == 0 {
+            return true;
+        }
+        in_limits(self.phases, self.taps)
+            && (step_in_line(self.step) && mu_from(0.0, self.step, mu))
+    }
+}

@@ -1,0 +1,9 @@
+-- The cascade that is handed over is the opening's (`Opened`).
+use Rattle.std.proofs.Common.{sym, ◌∙◌}
+use Rattle.half_band.specs.HbfDecCascade.{cascade_of, DecCascade98Meets}
+use Rattle.gauge_line.proofs.Opened.{opened_meets}
+use Rattle.gauge_line.proofs.hbf_dec_cascade_98.gauge_raw_hbf_dec_cascade_98_new.Goals as goal
+
+pub returns-clause-meets : goal.returns-clause-meets
+returns-clause-meets c e =
+    opened_meets (DecCascade98Meets c.args.wanted_depth) (λ s. cascade_of s.depth s.delays) c.zeros.result c.new-opened.result c.put_dec_cascade.ensures c.unwrap_or.ensures c.new-opened.ensures.meets (sym c.number-told.ensures ∙ e)

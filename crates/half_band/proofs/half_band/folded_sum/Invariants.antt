@@ -1,0 +1,7 @@
+-- After t turns the sum is that of the first t taps.
+use Rattle.std.proofs.Common.{◌≡◌}
+use Rattle.half_band.specs.Windows.{folded}
+use Rattle.half_band.proofs.half_band.folded_sum.Given as goal
+
+abbrev pub invariant-loop-t : goal.invariant-loop-t
+invariant-loop-t l = l.acc ≡ folded l.step l.taps l.window l.start l.t

@@ -1,8 +1,0 @@
--- `half_band::hbf_taps::decimation_stage` meets its contract: the constants are the table's.
-use mathlib.Core.Path.{refl}
-use Rattle.half_band.specs.HbfTaps.{decimation}
-use Rattle.half_band.proofs.hbf_taps.decimation_stage.Goals as goal
-
-pub returns : goal.returns
-unfolding decimation
-returns c = record { begins = refl; counted = refl }

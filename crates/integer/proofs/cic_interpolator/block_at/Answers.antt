@@ -1,0 +1,6 @@
+-- A factor that is not refused is none to divide by in vain.
+use Rattle.integer.proofs.Within.{accepted, interpolator_factor}
+use Rattle.integer.proofs.cic_interpolator.block_at.Goals as goal
+
+pub nonzero_div-dst : goal.nonzero_div-dst
+nonzero_div-dst c = (interpolator_factor _ _ (accepted _ c.in_ok-state_answer.ensures)).0

@@ -1,0 +1,19 @@
+-- `linear_phase::lanes::sums_at` meets its contract: a turn adds the next pair to each sum (`sums_next`).
+use Rattle.std.proofs.Common.{◌-◌, List, length, get_or, drop, sym, ap, ap₂, ◌∙◌, arith}
+use lib.Ieee.{Float, nan}
+use Rattle.linear_phase.specs.Windows.{pairs_added}
+use Rattle.linear_phase.proofs.SideBySide.{sums_none, sums_next, rest}
+use Rattle.linear_phase.proofs.lanes.sums_at.Goals as goal
+
+pub loop-t-init : goal.loop-t-init
+loop-t-init c = let a = c.args in c.requires.2 ∙ sym (sums_none a.long a.line.now (length a.acc.now) c.requires.1 a.minus a.taps.now)
+
+pub loop-t-preserved : goal.loop-t-preserved
+loop-t-preserved c =
+    let l = c.loop-t in
+    let a = c.args in
+    let d = a.line.now in
+    c.add_pairs.ensures
+    ∙ ap₂ {C = List Float} (λ (o n : List Float). pairs_added a.minus (get_or a.taps.now l.t nan) o n l.acc) (rest d l.t) (rest d (a.long - l.t))
+    ∙ ap (pairs_added a.minus (get_or a.taps.now l.t nan) (drop l.t d) (drop (a.long - l.t) d)) l.invariant
+    ∙ sums_next a.long d (length a.acc.now) c.requires.1 a.minus a.taps.now l.t (omega (arith, c.loop-t-test.true, c.requires.0))

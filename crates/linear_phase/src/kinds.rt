@@ -1,0 +1,38 @@
+// The four kinds of filters, how far a delay reaches back, and a pair of samples as far from a window's two ends.
+ghost use Rattle.std.specs.Prelude.{◌≡◌, ◌≤◌};
+ghost use Rattle.linear_phase.specs.LinearPhase as P;
+ghost use Rattle.linear_phase.specs.Windows.{has_centre};
+
+// Of odd length, with a centre sample, or of even; the earlier sample of a pair subtracted, or added.
+#[derive(Clone, Copy)]
+pub struct Kind {
+    pub odd: bool,
+    pub antisymmetric: bool,
+}
+
+impl Kind {
+    // Length of the delay, the Rust's LEN: one less than that of the filter.
+    #[tactic(auto, unfolding(crate::specs::LinearPhase::reach))]
+    pub(crate) fn reach(self, m: usize) -> usize
+        requires { (1 ≤ m) × (m ≤ 23) }
+        ensures { result ≡ P.reach self.odd m }
+    {
+        if self.odd { 2 * m } else { 2 * m - 1 }
+    }
+
+    // Whether the centre sample is added.
+    #[tactic(auto, unfolding(crate::specs::Windows::has_centre))]
+    pub(crate) fn has_centre(self) -> bool
+        ensures { result ≡ has_centre self.odd self.antisymmetric }
+    {
+        self.odd && !self.antisymmetric
+    }
+}
+
+// new ± old
+#[tactic(auto, unfolding(crate::specs::LinearPhase::pair))]
+pub(crate) fn pair(minus: bool, new: f32, old: f32) -> f32
+    ensures { result ≡ P.pair minus new old }
+{
+    if minus { new - old } else { new + old }
+}

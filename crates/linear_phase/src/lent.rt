@@ -1,0 +1,121 @@
+// Samples through a filter inside its limits, whose taps and delay are lent: the roads that they take, by how many they are.
+ghost use Rattle.std.specs.Prelude.{◌≡◌, ◌≤◌, length};
+ghost use Rattle.theory.specs.Sections.{state, outs};
+ghost use Rattle.linear_phase.specs.LinearPhaseFir as P;
+ghost use Rattle.linear_phase.specs.Windows as W;
+
+use crate::brief::{filter_brief, is_brief};
+use crate::filter::{filter, filter_few, filter_short, is_short};
+use crate::kinds::Kind;
+use crate::lanes::LANES;
+use crate::limits::{LINEAR_PHASE_DELAYS, MOST_LINEAR_PHASE_TAPS};
+use crate::one::filter_one;
+
+// How many taps one half has, inside the limits, and the filter's kind.
+#[derive(Clone, Copy)]
+pub(crate) struct Half {
+    pub m: usize,
+    pub kind: Kind,
+    ghost inside: { (1 ≤ m) × (m ≤ 23) },
+}
+
+impl Half {
+    // One sample, through the taps and the delay that lie in front of those lent. A call of its own would take a third of the time of a short filter's sample.
+    #[inline(always)]
+    pub(crate) fn process(
+        self,
+        taps: &[f32; MOST_LINEAR_PHASE_TAPS],
+        delay: &mut [f32; LINEAR_PHASE_DELAYS],
+        x: f32,
+    ) -> f32
+        ensures delay { let before = P.phase_of self.m self.kind.odd self.kind.antisymmetric taps.now delay.old in
+            let after = P.phase_of self.m self.kind.odd self.kind.antisymmetric taps.now delay.new in
+            after ≡ P.phase_next before x }
+        ensures value { let before = P.phase_of self.m self.kind.odd self.kind.antisymmetric taps.now delay.old in
+            result ≡ P.phase_out before x }
+    {
+        let m = self.m;
+        let long = self.kind.reach(m);
+        filter_one(&mut delay[..long], &taps[..m], self.kind, x)
+    }
+
+    // The samples of the span, likewise, their outputs in their places: one alone in the lent delay, more along a tape.
+    pub(crate) fn inplace(
+        self,
+        taps: &[f32; MOST_LINEAR_PHASE_TAPS],
+        delay: &mut [f32; LINEAR_PHASE_DELAYS],
+        span: &mut [f32],
+    )
+        ensures delay { let before = P.phase_of self.m self.kind.odd self.kind.antisymmetric taps.now delay.old in
+            let after = P.phase_of self.m self.kind.odd self.kind.antisymmetric taps.now delay.new in
+            after ≡ state P.phase_fir before span.old }
+        ensures span { let before = P.phase_of self.m self.kind.odd self.kind.antisymmetric taps.now delay.old in
+            span.new ≡ outs P.phase_fir before span.old }
+    {
+        if span.len() == 1 {
+            span[0] = self.process(taps, delay, span[0]);
+            return;
+        }
+        // No other line is read, so the taps are lent as one.
+        self.along(taps, delay, taps, true, span);
+    }
+
+    // The samples of src, likewise, an output of each in the span: one or two in the lent delay, and a few through a short one in registers.
+    pub(crate) fn block(
+        self,
+        taps: &[f32; MOST_LINEAR_PHASE_TAPS],
+        delay: &mut [f32; LINEAR_PHASE_DELAYS],
+        src: &[f32],
+        span: &mut [f32],
+    )
+        requires { length span.old ≡ length src.now }
+        ensures delay { let before = P.phase_of self.m self.kind.odd self.kind.antisymmetric taps.now delay.old in
+            let after = P.phase_of self.m self.kind.odd self.kind.antisymmetric taps.now delay.new in
+            after ≡ state P.phase_fir before src.now }
+        ensures span { let before = P.phase_of self.m self.kind.odd self.kind.antisymmetric taps.now delay.old in
+            span.new ≡ outs P.phase_fir before src.now }
+    {
+        if src.len() == 1 {
+            span[0] = self.process(taps, delay, src[0]);
+            return;
+        }
+        if is_brief(self.m, src.len()) {
+            return filter_brief(self.m, self.kind, taps, delay, src, span);
+        }
+        if src.len() == 2 {
+            let y = self.process(taps, delay, src[0]);
+            let z = self.process(taps, delay, src[1]);
+            span[0] = y;
+            span[1] = z;
+            return;
+        }
+        self.along(taps, delay, src, false, span);
+    }
+
+    // The samples of src, or (own) of the span itself, likewise, along a tape.
+    fn along(
+        self,
+        taps: &[f32; MOST_LINEAR_PHASE_TAPS],
+        delay: &mut [f32; LINEAR_PHASE_DELAYS],
+        src: &[f32],
+        own: bool,
+        span: &mut [f32],
+    )
+        requires { length (W.picked own span.old src.now) ≡ length span.old }
+        ensures delay { let before = P.phase_of self.m self.kind.odd self.kind.antisymmetric taps.now delay.old in
+            let after = P.phase_of self.m self.kind.odd self.kind.antisymmetric taps.now delay.new in
+            after ≡ state P.phase_fir before (W.picked own span.old src.now) }
+        ensures span { let before = P.phase_of self.m self.kind.odd self.kind.antisymmetric taps.now delay.old in
+            span.new ≡ outs P.phase_fir before (W.picked own span.old src.now) }
+    {
+        let m = self.m;
+        let long = self.kind.reach(m);
+        if span.len() < LANES {
+            return filter_few(&mut delay[..long], &taps[..m], self.kind, src, own, span);
+        }
+        if is_short(long, span.len()) {
+            return filter_short(delay, long, &taps[..m], self.kind, src, own, span);
+        }
+        filter(&mut delay[..long], &taps[..m], self.kind, src, own, span);
+    }
+}

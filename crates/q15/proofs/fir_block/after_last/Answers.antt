@@ -1,0 +1,21 @@
+-- `fir_block::after_last` meets its contract: the window is put in front, moved down, and the rest is stored.
+use Rattle.std.proofs.Common.{◌≡◌, ℕ, ◌+◌, ◌-◌, ℤ, List, ◌++◌, length, take, drop, ap, ap₂, ◌∙◌, arith}
+use lib.ListN.{length-drop}
+use lib.Seq.{take_all}
+use Rattle.q15.specs.FirDecimator.{moved}
+use Rattle.q15.specs.FirBlock.{stored_run}
+use Rattle.q15.proofs.fir_block.after_last.Goals as goal
+
+pub returns : goal.returns
+returns c =
+    let a = c.args in
+    let Z : List ℤ = a.tape.now in
+    let end = a.last + a.t in
+    let rest : take (length Z - end) (drop end Z) ≡ drop end Z = take_all (length Z - end) (drop end Z) (omega (arith, length-drop end Z)) in
+    let count : end - a.last ≡ a.t = omega arith in
+    let window : c.copy_from_slice.new.self ≡ take a.t (drop a.last Z) = c.copy_from_slice.ensures.after ∙ ap (λ (n : ℕ). take n (drop a.last Z)) count in (
+      c.store_run.ensures
+          ∙ ap₂ {C = List ℤ} (stored_run a.t a.factor) rest
+          (c.move_down.ensures ∙ ap (λ (x : List ℤ). moved a.t a.factor (x ++ drop a.t a.delay.now)) window),
+      omega (arith, c.requires),
+    )

@@ -1,0 +1,19 @@
+-- `fir_block::by_tape` meets its contract: fewer samples than the wait are stored; else the windows are read from the tape.
+use Rattle.std.proofs.Common.{◌+◌, ◌-◌, List, ℤ, length, take, arith}
+use Rattle.q15.proofs.FirBlocks.{quiet_ran, tape_ran}
+use Rattle.q15.proofs.fir_block.by_tape.Goals as goal
+
+pub returns-then-n-wait : goal.returns-then-n-wait
+returns-then-n-wait c =
+    let a = c.args in
+    let p = c.requires.0 in
+    quiet_ran a.taps.now a.t a.factor (omega (arith, p.2, p.1)) p.0 p.1 a.src.now a.delay.now a.wait _ a.dst.now c.if-n-wait.true c.store_run.ensures
+
+pub returns : goal.returns
+returns c =
+    let a = c.args in
+    let p = c.requires.0 in
+    let w = c.windows_behind-more in
+    let tape : List ℤ = take (a.t - a.wait + length a.src.now) c.laid-tape.result in
+    tape_ran a.taps.now a.t a.factor (omega (arith, p.2, p.1)) p.0 p.1 a.delay.now a.wait a.src.now w.result c.told-delay p.3 p.4 w.ensures.0 w.ensures.1 tape
+    c.laid-tape.ensures p.2 _ a.dst.now _ _ c.windows_of.ensures.state c.windows_of.ensures.outputs

@@ -1,0 +1,137 @@
+// What a record has in one word: an element of a slice, or a value by itself.
+ghost use Rattle.std.specs.Prelude.{◌≡◌, ℕ, Bool, ◌%◌, ◌==◌};
+ghost use Rattle.std.specs.Int.{w16, w32};
+ghost use Rattle.std.proofs.Common.{to_z};
+ghost use Rattle.records.specs.Comparison.{float_of, bits_of, same_bits};
+
+pub trait Element: Copy {
+    // What a word stands for.
+    ghost meant: { ℕ → Self };
+
+    // Whether an answer's word is this value.
+    ghost recorded: { Self → ℕ → Bool };
+
+    fn from_word(word: u32) -> Self
+        ensures { result ≡ meant word };
+
+    fn is_recorded_as(self, word: u32) -> bool
+        ensures { result ≡ recorded self word };
+
+    // Whether two values would be the same answer.
+    fn is_same(self, other: Self) -> bool;
+}
+
+impl Element for u32 {
+    ghost meant = { λ word. word };
+
+    ghost recorded = { λ x word. word == x };
+
+    fn from_word(word: u32) -> u32 {
+        word
+    }
+
+    fn is_recorded_as(self, word: u32) -> bool {
+        word == self
+    }
+
+    fn is_same(self, other: u32) -> bool {
+        self == other
+    }
+}
+
+impl Element for i32 {
+    ghost meant = { λ word. to_z w32 word };
+
+    ghost recorded = { λ x word. same_bits w32 (to_z w32 word) x };
+
+    fn from_word(word: u32) -> i32 {
+        word.cast_signed()
+    }
+
+    fn is_recorded_as(self, word: u32) -> bool {
+        i32::from_word(word) == self
+    }
+
+    fn is_same(self, other: i32) -> bool {
+        self == other
+    }
+}
+
+// The low 16 bits.
+impl Element for i16 {
+    ghost meant = { λ word. to_z w16 (word % 65536) };
+
+    ghost recorded = { λ x word. same_bits w16 (to_z w16 (word % 65536)) x };
+
+    fn from_word(word: u32) -> i16 {
+        ((word % 65536) as u16).cast_signed()
+    }
+
+    fn is_recorded_as(self, word: u32) -> bool {
+        i16::from_word(word) == self
+    }
+
+    fn is_same(self, other: i16) -> bool {
+        self == other
+    }
+}
+
+// The low 8 bits.
+impl Element for u8 {
+    ghost meant = { λ word. word % 256 };
+
+    ghost recorded = { λ x word. word % 256 == x };
+
+    fn from_word(word: u32) -> u8 {
+        (word % 256) as u8
+    }
+
+    fn is_recorded_as(self, word: u32) -> bool {
+        u8::from_word(word) == self
+    }
+
+    fn is_same(self, other: u8) -> bool {
+        self == other
+    }
+}
+
+// The bits; those of every NaN are one NaN.
+impl Element for f32 {
+    ghost meant = { float_of };
+
+    ghost recorded = { λ x word. word == bits_of x };
+
+    fn from_word(word: u32) -> f32 {
+        if INFINITY_BITS < word % SIGN {
+            return f32::NAN;
+        }
+        f32::from_bits(word)
+    }
+
+    fn is_recorded_as(self, word: u32) -> bool {
+        word == bits(self)
+    }
+
+    fn is_same(self, other: f32) -> bool {
+        bits(self) == bits(other)
+    }
+}
+
+// The bits of infinity: those of a NaN are above them, but for the sign.
+const INFINITY_BITS: u32 = 2139095040;
+
+// The weight of the sign.
+const SIGN: u32 = 2147483648;
+
+// The bits that every NaN has in an answer.
+const NAN_BITS: u32 = 2143289344;
+
+// An f32's bits, those of every NaN being one.
+fn bits(x: f32) -> u32
+    ensures { result ≡ bits_of x }
+{
+    if x.is_nan() {
+        return NAN_BITS;
+    }
+    x.to_bits()
+}

@@ -1,0 +1,87 @@
+// The cascades of half-band converters. Each operation takes the words behind its code: its inputs, then the answers.
+use crate::block::Block;
+use half_band::{HbfDecCascade, HbfIntCascade};
+use records::reset::Reset;
+use records::state::{State, same_opened};
+use records::words::Words;
+use refusal::Refusal;
+use std::marker::PhantomData;
+
+// What is opened with a depth: the cascades, and the stream of one.
+pub(crate) trait Cascade: State {
+    fn opened(depth: usize) -> Result<Self, Refusal>;
+}
+
+pub(crate) fn new<S: Cascade>(mut words: Words<'_>) -> bool {
+    let depth = words.long();
+    same_opened(words, S::opened(depth))
+}
+
+#[derive(Drop)]
+pub(crate) struct DecCascade(HbfDecCascade);
+
+impl State for DecCascade {
+    fn from_words(words: &mut Words<'_>) -> DecCascade {
+        DecCascade(HbfDecCascade {
+            depth: words.long(),
+            delays: words.slice().array(),
+            table: PhantomData,
+        })
+    }
+
+    fn is_same(&self, answers: &mut Words<'_>, before: &DecCascade) -> bool {
+        answers.same_long(self.0.depth) && answers.same_places(&self.0.delays, &before.0.delays)
+    }
+}
+
+impl Cascade for DecCascade {
+    fn opened(depth: usize) -> Result<DecCascade, Refusal> {
+        Ok(DecCascade(HbfDecCascade::new(depth)?))
+    }
+}
+
+impl Reset for DecCascade {
+    fn reset(&mut self) -> Result<(), Refusal> {
+        self.0.reset()
+    }
+}
+
+impl Block for DecCascade {
+    fn process(&mut self, samples: &[f32], span: &mut [f32]) -> Result<usize, Refusal> {
+        self.0.process(samples, span)
+    }
+}
+
+#[derive(Drop)]
+pub(crate) struct IntCascade(HbfIntCascade);
+
+impl State for IntCascade {
+    fn from_words(words: &mut Words<'_>) -> IntCascade {
+        IntCascade(HbfIntCascade {
+            depth: words.long(),
+            delays: words.slice().array(),
+        })
+    }
+
+    fn is_same(&self, answers: &mut Words<'_>, before: &IntCascade) -> bool {
+        answers.same_long(self.0.depth) && answers.same_places(&self.0.delays, &before.0.delays)
+    }
+}
+
+impl Cascade for IntCascade {
+    fn opened(depth: usize) -> Result<IntCascade, Refusal> {
+        Ok(IntCascade(HbfIntCascade::new(depth)?))
+    }
+}
+
+impl Reset for IntCascade {
+    fn reset(&mut self) -> Result<(), Refusal> {
+        self.0.reset()
+    }
+}
+
+impl Block for IntCascade {
+    fn process(&mut self, samples: &[f32], span: &mut [f32]) -> Result<usize, Refusal> {
+        self.0.process(samples, span)
+    }
+}

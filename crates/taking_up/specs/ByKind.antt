@@ -1,0 +1,95 @@
+-- Taking up by the kind of thinning, which the count of entries says: the seven entries and the eight as one record, and each definition of `Taking` at either.
+use Rattle.std.specs.Prelude.{◌≡◌, Bool, ◌&&◌, List, ℕ, ℤ, ◌+◌, ◌*◌, eqb, length}
+use Rattle.refusal.specs.Outcome.{Opened}
+use Rattle.nonrecursive.specs.declared.thinning.Thinning.{Thinning}
+use Rattle.nonrecursive.specs.declared.thinning.Thinning.TheVariants as thinning
+use Rattle.line.specs.declared.gauge_line.Line.{Line}
+use Rattle.sheet.specs.Sheet.{present, entry}
+use Rattle.integer.specs.declared.cic_decimator.CicDecimator.{CicDecimator}
+use Rattle.parking.specs.Entries.{fir_from, half_band_from, resampler_from}
+use Rattle.parking.specs.Parked.{Settings, half_band_bytes, neighbour_count}
+use Rattle.taking_up.specs.Taking.{line_of, thin_line_of, long_as, thin_long_as, opened_in, opened_from, thin_opened_from}
+use Rattle.taking_up.specs.declared.entries.Entries.{Entries}
+
+pub record Parts : Type 0 where
+  pub settings : List ℕ
+  pub cic : List ℕ
+  pub taps : List ℕ
+  pub delay : List ℕ
+  pub half_band : List ℕ
+  pub cells : List ℕ
+  pub resampler : List ℕ
+  pub last : List ℕ
+
+abbrev pub told : Entries → Parts
+told e =
+    record {
+      settings = e.settings.now;
+      cic = e.cic.now;
+      taps = e.taps.now;
+      delay = e.delay.now;
+      half_band = e.half_band.now;
+      cells = e.cells.now;
+      resampler = e.resampler.now;
+      last = e.last.now;
+    }
+
+-- those of the bytes b, for a reader that keeps a count
+abbrev pub parts_in : List ℕ → ℕ → Parts
+parts_in b n =
+    record {
+      settings = entry present b n 0;
+      cic = entry present b n 1;
+      taps = entry present b n 2;
+      delay = entry present b n 3;
+      half_band = entry present b n 4;
+      cells = entry present b n 5;
+      resampler = entry present b n 6;
+      last = entry present b n 7;
+    }
+
+-- entries as long as the settings make them: what only one kind has, and what both have
+abbrev pub first_by : Thinning → Settings → ℕ → ℕ → Bool
+first_by thinning.Integrators q cic last = eqb cic (2 + 8 * q.stages)
+first_by thinning.Neighbours q cic last = eqb cic 0 && eqb last (2 + 4 * neighbour_count q.stages q.r)
+
+abbrev pub rest_by : Settings → Parts → Bool
+rest_by q e = eqb (length e.taps) (2 * q.taps) && (eqb (length e.delay) (2 + 2 * q.taps) && (eqb (length e.half_band) (half_band_bytes q.depth) && (eqb (length e.cells) (4 * (q.phases * q.cells)) && eqb (length e.resampler) (4 + 4 * q.cells))))
+
+abbrev pub long_by : Thinning → Settings → Parts → Bool
+long_by thinning.Integrators q e = long_as q (length e.cic) (length e.taps) (length e.delay) (length e.half_band) (length e.cells) (length e.resampler)
+long_by thinning.Neighbours q e = thin_long_as q (length e.cic) (length e.taps) (length e.delay) (length e.half_band) (length e.cells) (length e.resampler) (length e.last)
+
+pub record Long (k : Thinning) (q : Settings) (e : Parts) : Type 0 where
+  pub cic : k ≡ thinning.Integrators → length e.cic ≡ 2 + 8 * q.stages
+  pub last : k ≡ thinning.Neighbours → length e.last ≡ 2 + 4 * neighbour_count q.stages q.r
+  pub taps : length e.taps ≡ 2 * q.taps
+  pub delay : length e.delay ≡ 2 + 2 * q.taps
+  pub half_band : length e.half_band ≡ half_band_bytes q.depth
+  pub cells : length e.cells ≡ 4 * (q.phases * q.cells)
+  pub resampler : length e.resampler ≡ 4 + 4 * q.cells
+
+-- the line whose first section is given
+abbrev pub line_in : Thinning → CicDecimator → List ℤ → Settings → Parts → Line
+line_in k d n q e =
+    record {
+      thinning = k;
+      cic = d;
+      neighbours = n;
+      fir = fir_from q e.taps e.delay;
+      half_band = half_band_from q e.half_band;
+      resampler = resampler_from q e.cells e.resampler;
+      cuts = q.cuts;
+    }
+
+abbrev pub line_by : Thinning → Settings → Parts → Line
+line_by thinning.Integrators q e = line_of q e.cic e.taps e.delay e.half_band e.cells e.resampler
+line_by thinning.Neighbours q e = thin_line_of q e.taps e.delay e.half_band e.cells e.resampler e.last
+
+-- what entries of the right lengths answer, and what entries answer
+abbrev pub opened_in_by : Thinning → Settings → Parts → Opened Line
+opened_in_by k q e = opened_in (line_by k q e) q e.delay e.half_band e.cells e.resampler
+
+abbrev pub opened_by : Thinning → Parts → Opened Line
+opened_by thinning.Integrators e = opened_from e.settings e.cic e.taps e.delay e.half_band e.cells e.resampler
+opened_by thinning.Neighbours e = thin_opened_from e.settings e.cic e.taps e.delay e.half_band e.cells e.resampler e.last
