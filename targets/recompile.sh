@@ -5,12 +5,16 @@ set -euo pipefail
 triple=$1 object=$2 from=$target/targets
 shift 2
 
-# Triple, layout and processor are x86-64's. Probes of the stack stay where the system has a guard page for them to meet.
+# Probes of the stack stay where the system has a guard page for them to meet.
 case $triple in
 *linux*) probes='' ;;
 *) probes='s/ "probe-stack"="inline-asm"//' ;;
 esac
-sed -e '/^target triple /d' -e '/^target datalayout /d' -e 's/ "target-cpu"="x86-64"//' -e "$probes" "$from/module.ll" >"${object%.o}.ll"
+sed -f targets/anywhere.sed -e "$probes" "$from/module.ll" >"${object%.o}.ll"
+
+# Pairs that hold a pointer and have the same places on every machine; with another one the outputs may be wrong where addresses have 32 bits.
+pairs=$(grep -oE '\{[^{}]*\bptr\b[^{}]*\}' "${object%.o}.ll" | grep -vxF -e '{ ptr, i64 }' -e '{ i8, [7 x i8], ptr }' | sort -u || true)
+[[ -z $pairs ]] || stop "recompile: targets/anywhere.sed has to say where the parts of these stand: ${pairs//$'\n'/, }"
 
 # The kit's own words for x86-64 but for those that no other machine has, and no fused operation: each rounds once.
 "$from/bin/clang" --target="$triple" -O3 -ffp-contract=off -ffunction-sections -fdata-sections \

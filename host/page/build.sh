@@ -29,7 +29,7 @@ with() {
 
 # The module's exports and what it is compiled of; where they are the same it stays.
 made_of() {
-    cat "$target/targets/made_of" "$from/src/declarations.js" targets/recompile.sh targets/wasm32/multi3.c "$from/build.sh" | sha256sum
+    cat "$target/targets/made_of" "$from/src/declarations.js" targets/recompile.sh targets/anywhere.sed targets/wasm32/multi3.c "$from/build.sh" | sha256sum
 }
 
 compiled() {
