@@ -36,22 +36,29 @@ def without_comments(text):
     return re.sub(r'//[^\n]*', '', text)
 
 
+def body_at(text, at):
+    """Where the body of a function begins whose parameters end at `at`; none where a trait declares it alone."""
+    while True:
+        found = re.compile(r'[;{\[(]').search(text, at)
+        if not found or found.group() == ';':
+            return None
+        if found.group() == '{':
+            line = text[text.rfind('\n', 0, found.start()) + 1:found.start()]
+            if not re.match(r'\s*(requires|ensures)\b', line):
+                return found.start()
+        at = balanced(text, found.start(), found.group(), {'{': '}', '[': ']', '(': ')'}[found.group()]) + 1
+
+
 def functions():
-    """(file, line, name, parameters, body) of each function."""
+    """(file, line, name, parameters, body) of each function that has a body."""
     for path, text in sources():
         for found in re.finditer(r'^[ ]*(?:pub(?:\([a-z]+\))? )?(?:extern "C" )?fn (\w+)(?:<[^(]*>)?\(', text, re.M):
             end = balanced(text, found.end() - 1, '(', ')')
             parameters = [p for p in re.split(r',(?![^\[<(]*[\]>)])', without_comments(text[found.end():end])) if p.strip()]
-            # The body begins at the first brace that starts a line, or that follows the result's type with no clause between.
-            after = re.compile(r'\n[ ]*\{\n|\{\}|[^\n{]*\{\n').search(text, end)
-            clause = re.compile(r'\n[ ]*(?:requires|ensures)').match(text, text.find('\n', end)) if after else None
-            if clause:
-                after = re.compile(r'\n[ ]*\{\n|\n?\{\}').search(text, end)
-            if not after:
-                continue
-            start = text.find('{', after.start()) if not clause else text.index('{', after.start())
-            body = without_comments(text[start:balanced(text, start) + 1])
-            yield path, text.count('\n', 0, found.start()) + 1, found.group(1), parameters, body
+            start = body_at(text, end + 1)
+            if start is not None:
+                body = without_comments(text[start:balanced(text, start) + 1])
+                yield path, text.count('\n', 0, found.start()) + 1, found.group(1), parameters, body
 
 
 def answers():
@@ -85,7 +92,7 @@ def twins():
         for other in places[1:]:
             yield '%s ~ %s' % (other, places[0])
     for path, line, name, parameters, body in functions():
-        called = re.findall(r'\n\s+[0-9]+ => (\w+)\(', body)
+        called = re.findall(r'\n\s+[0-9]+ => (\w+)(?:::<[^>]*>)?\(', body)
         if len(called) > 2 and len(set(called)) < len(called):
             yield '%s:%d %s: %d arms call %s' % (path, line, name, len(called), called[-1])
 
@@ -119,7 +126,7 @@ def buffers():
 
 def switches():
     for path, line, name, parameters, body in functions():
-        called = re.findall(r'\n\s+(?:0x)?[0-9a-f]+ => (?:[\w:]+)\(', body)
+        called = re.findall(r'\n\s+(?:0x)?[0-9a-f]+ => (?:Ok\()?(?:[\w:]+?)(?:::<[^>]*>)?\(', body)
         if len(called) > 2:
             yield '%s:%d %s: %d arms' % (path, line, name, len(called))
 

@@ -2,23 +2,27 @@
 use mathlib.Core.Path.{◌≡◌, refl, sym, ap, ap₂, ◌∙◌, subst, subst⁻¹}
 use mathlib.Core.Bool.{Bool, true, false, cond}
 use mathlib.Core.List.{List, [], ◌∷◌, ◌++◌, map, append-nil, append_assoc}
-use Rattle.std.specs.Prelude.{Option, None, Some}
-use Prim.Native.Nat.{ℕ, zero, suc, ◌+◌, ◌-◌, ◌^◌, ◌≤◌, ◌<◌, suc-le-suc}
+use Rattle.std.specs.Prelude.{Option, None, Some, Result, Ok, Err}
+use Rattle.std.specs.Result.{result_unwrap_or}
+use Prim.Native.Nat.{ℕ, zero, suc, ◌+◌, ◌-◌, ◌^◌, ◌≤◌, ◌<◌, min, suc-le-suc}
 use native.Mathlib.Nat.{le_trans}
 use native.Mathlib.Omega.{arith}
 use borrow.Author.Tests.{le-leb}
 use lib.IntN.{ℤ, pos}
 use lib.Ieee.{Float}
-use lib.ListN.{length, get_or, take, drop, length-append, length-drop, length-map, length-take, drop_of_length-le}
+use lib.ListN.{length, get_or, take, drop, length-append, length-drop, length-map, drop_of_length-le}
 use lib.Seq.{length-take-le, take_at, take_all}
 use mir.Syntax.{w16}
+use Rattle.refusal.specs.Outcome.{Outcome, told_on, value_in, none_moved}
+use Rattle.refusal.specs.declared.Refusal.{Refusal}
+use Rattle.refusal.specs.declared.Moved.{Moved}
 use Rattle.theory.specs.Floor.{floor_div}
 use Rattle.theory.specs.Lists.{but_last}
 use Rattle.theory.specs.Sections.{Section, onto, state, outs}
 use Rattle.theory.specs.Machines.{Machine, alone}
 use Rattle.theory.specs.Feeds.{Fed, idle, less, feed}
 use Rattle.theory.proofs.Machines.{lawful_alone}
-use Rattle.theory.proofs.Feeds.{Right, feed_right}
+use Rattle.theory.proofs.Feeds.{feed_right}
 use Rattle.theory.proofs.FeedRules.{feed_full, feed_due, feed_end}
 use Rattle.theory.proofs.Batches.{feed_takes, feed_alone, alone_before_last, whole_but_last}
 use Rattle.integer.specs.Gain.{gain_bits}
@@ -32,7 +36,7 @@ use Rattle.q15.proofs.CutFilling.{listed_few}
 use Rattle.q15.proofs.Filling.{listed_take}
 use Rattle.q15.proofs.FirBlocks.{block_fits_lem}
 use Rattle.half_band.specs.HbfStream.{hbf_stream}
-use Rattle.half_band.specs.HbfStreamBlock.{stream_block_fits, stream_block_state, stream_block_outs, stream_block_made}
+use Rattle.half_band.specs.HbfStreamBlock.{stream_block_fits, stream_block_state, stream_block_outs}
 use Rattle.half_band.specs.declared.hbf_stream.HbfStream.{HbfStream}
 use Rattle.float.specs.Ending.{ending_in}
 use Rattle.float.specs.Level.{level}
@@ -43,7 +47,7 @@ use Rattle.float.proofs.PolyphaseRange as Res
 use Rattle.chain.specs.Chain.{Parts2, from2, from3, from4, from5, from_levels, chain}
 use Rattle.chain.specs.Parts.{levels_on, fir_on, cut_on}
 use Rattle.chain.specs.Batched.{Whole, Leaves, Batched}
-use Rattle.chain.proofs.Batching.{whole_behind, batched_before, batched_each, whole_each, fed_on_lem}
+use Rattle.chain.proofs.Batching.{whole_behind, batched_before, batched_each, whole_each, is_off, is_on_lem, batched_off, off_room, fed_on_lem}
 
 -- ---- a feed writes no more than there are places
 module _ {S A C : Type 0} (m : Machine S A C) where
@@ -82,7 +86,7 @@ outs_few {B = B} f s (a ∷ xs) = of (f.out s a) (outs_few f (f.next s a) xs)
 
 -- ---- section 5
 -- off: levels put at the end of just their places
-pub off_span :
+off_span :
     (xs o part : List Float) (from : ℕ) → length xs ≤ length o - from → part ≡ ending_in xs (take (from + length xs - from) (drop from o))
     → take from o ++ (part ++ drop (from + length xs - from) (drop from o)) ≡ take from o ++ (xs ++ drop (length xs) (drop from o))
 off_span xs o part from h e =
@@ -95,6 +99,21 @@ off_span xs o part from h e =
     ap (λ (p : List Float). take from o ++ (p ++ drop (from + length xs - from) (drop from o))) (e ∙ ap (λ (k : ℕ). ending_in xs (take k (drop from o))) n ∙ is)
     ∙ ap (λ (k : ℕ). take from o ++ (xs ++ drop k (drop from o))) n
 
+module _ (s : PolyphaseResampF32) (xs o : List Float) (from : ℕ) (off : s.phases ≡ 0) (v : valid_in_line s ≡ true) (whole : Whole from5 s xs (length o - from)) where
+  pub off_fits : length xs ≤ length o - from
+  off_fits = off_room s xs (length o - from) (is_off s off) v whole
+
+  pub off_batched :
+      (part : List Float) → length xs ≤ length o - from → part ≡ ending_in xs (take (from + length xs - from) (drop from o))
+      → Batched from5 s xs from o (take from o ++ (part ++ drop (from + length xs - from) (drop from o))) s (from + length xs)
+  off_batched part fits e =
+      subst⁻¹ (λ (l : List Float). Batched from5 s xs from o l s (from + length xs)) (off_span xs o part from fits e) (batched_off s xs from o (is_off s off) whole)
+
+-- a refused block moves nothing
+moved_as : (r : Result Moved Refusal) → result_unwrap_or r none_moved ≡ value_in none_moved r
+moved_as (Ok m) = refl
+moved_as (Err q) = refl
+
 module _ (s : PolyphaseResampF32) (xs o : List Float) (from : ℕ) (fits : from ≤ length o) where
   -- the places from `from` on
   abbrev pub rest : List Float
@@ -104,7 +123,7 @@ module _ (s : PolyphaseResampF32) (xs o : List Float) (from : ℕ) (fits : from 
   rest_long = length-take-le (length o - from) (drop from o) (let e = length-drop from o in omega (arith, e))
 
   -- on, or refused: no more is written than there are places
-  pub written_within : (w : ℕ) → w ≡ (block_outcome s xs rest).value.written → from + w ≤ length o
+  written_within : (w : ℕ) → w ≡ (block_outcome s xs rest).value.written → from + w ≤ length o
   unfolding block_outcome block
   written_within w e = go (valid s) refl
     where
@@ -115,7 +134,7 @@ module _ (s : PolyphaseResampF32) (xs o : List Float) (from : ℕ) (fits : from 
       go true v = let f = few in let q : w ≡ length (feed resampler s xs (length rest)).written = e ∙ rw v refl in omega (arith, q, f, fits)
       go false v = let q : w ≡ 0 = e ∙ rw v refl in omega (arith, q, fits)
 
-  pub batched_on :
+  batched_on :
       (r : PolyphaseResampF32) (w : ℕ) (part : List Float) → is_on s ≡ true → valid_in_line s ≡ true
       → w ≡ (block_outcome s xs rest).value.written → r ≡ (block_outcome s xs rest).state → part ≡ block_span s xs rest
       → Batched in_line s xs from o (take from o ++ (part ++ drop (length o - from) (drop from o))) r (from + w)
@@ -137,26 +156,20 @@ module _ (s : PolyphaseResampF32) (xs o : List Float) (from : ℕ) (fits : from 
             ∙ ap (λ (g : Fed PolyphaseResampF32 Float). take from o ++ (g.written ++ drop (length g.written) (drop from o))) same;
       }
 
+  -- the same by what the calls ensure
+  module _ (r : Result Moved Refusal) (m : Moved) (t : PolyphaseResampF32) (told : told_on none_moved r t ≡ block_outcome s xs rest) (is : m ≡ result_unwrap_or r none_moved) where
+    wrote : m.written ≡ (block_outcome s xs rest).value.written
+    wrote = ap (λ (n : Moved). n.written) (is ∙ moved_as r) ∙ ap (λ (o : Outcome Moved PolyphaseResampF32). o.value.written) told
+
+    pub moved_within : from + m.written ≤ length o
+    moved_within = written_within m.written wrote
+
+    pub moved_batched :
+        (part : List Float) → part ≡ block_span s xs rest → (s.phases ≡ 0 → ⊥) → valid_in_line s ≡ true → Whole from5 s xs (length o - from)
+        → Batched from5 s xs from o (take from o ++ (part ++ drop (length o - from) (drop from o))) t (from + m.written)
+    moved_batched part ep on v whole = batched_on t m.written part (is_on_lem s on) v wrote (ap (λ (o : Outcome Moved PolyphaseResampF32). o.state) told) ep
+
 -- ---- section 4
--- what a block makes stands in its span
-pub made_within :
-    (h : HbfStream) (tape₁ tape₂ : List Float) (n m : ℕ) → m ≡ stream_block_made h tape₁ n → take m tape₂ ≡ stream_block_outs h tape₁ n → m ≤ length tape₂
-made_within h tape₁ tape₂ n m em et =
-    let e : m ≡ length (take m tape₂) = em ∙ by (stream_block_fits tape₁ n) ∙ ap length (sym et) in
-    subst⁻¹ (λ (k : ℕ). k ≤ length tape₂) e (length_take_most m tape₂)
-  where
-    by : (b : Bool) → cond b (length (outs hbf_stream h (take n tape₁))) 0 ≡ length (cond b (outs hbf_stream h (take n tape₁)) [])
-    by true = refl
-    by false = refl
-
-    length_take_most : (k : ℕ) (l : List Float) → length (take k l) ≤ length l
-    length_take_most k l = let q = length-take k l in omega (arith, q)
-
-pub laid_long : (values : List ℤ) (tape tape₁ : List Float) → length values ≤ 128 → length tape ≡ 128 → tape₁ ≡ map level values ++ drop (length values) tape → length tape₁ ≡ 128
-laid_long values tape tape₁ few long laid =
-    ap length laid ∙ length-append (map level values) (drop (length values) tape)
-    ∙ (let a = length-map values level in let b = length-drop (length values) tape in omega (arith, a, b, long, few))
-
 module _ (h h' : HbfStream) (r r' : PolyphaseResampF32) (values : List ℤ) (tape tape₁ tape₂ : List Float) (m from w : ℕ) (o o' : List Float) (few : length values ≤ 128)
     (long : length tape ≡ 128) (laid : tape₁ ≡ map level values ++ drop (length values) tape) where
   levels_long : length (map level values) ≡ length values
@@ -166,7 +179,9 @@ module _ (h h' : HbfStream) (r r' : PolyphaseResampF32) (values : List ℤ) (tap
   front = ap (take (length values)) laid ∙ take_at (map level values) (drop (length values) tape) (length values) levels_long
 
   tape_long : length tape₁ ≡ 128
-  tape_long = laid_long values tape tape₁ few long laid
+  tape_long =
+      ap length laid ∙ length-append (map level values) (drop (length values) tape)
+      ∙ (let a = levels_long in let b = length-drop (length values) tape in omega (arith, a, b, long, few))
 
   fits : stream_block_fits tape₁ (length values) ≡ true
   fits = let t = tape_long in rw (le-leb (length values) 192 (omega arith), le-leb (length values) (length tape₁) (omega (arith, t))) refl
@@ -194,39 +209,29 @@ count_few : (l : List ℤ) → cut_count w16 l ≤ length l
 count_few l =
     subst (λ (v : List ℤ). cut_count w16 v ≤ length l) (listed_take (pos 0) (length l) l (omega arith) ∙ take_all (length l) l (omega arith)) (listed_few (length l) (λ k. get_or l k (pos 0)))
 
-module _ (s : FirDecimator) (values dst dst₁ : List ℤ) (made : ℕ) (few : length values ≤ 128) (long : length dst ≡ 128) where
-  fir_fits : block_fits (length values) (length dst) ≡ true
-  fir_fits = block_fits_lem (length values) (length dst) few (omega (arith, few, long))
+module _ (s : FirDecimator) (values : List ℤ) (places : ℕ) (few : length values ≤ 128) (long : places ≡ 128) where
+  fir_fits : block_fits (length values) places ≡ true
+  fir_fits = block_fits_lem (length values) places few (omega (arith, few, long))
 
-  outs_are : fir_block_outs s values (length dst) ≡ outs fir s values
-  outs_are = ap (λ (b : Bool). cond b (outs fir s values) []) fir_fits
-
-  pub filtered_front : made ≡ length (fir_block_outs s values (length dst)) → dst₁ ≡ fir_block_outs s values (length dst) ++ drop made dst → take made dst₁ ≡ outs fir s values
-  filtered_front em ed = ap (take made) ed ∙ take_at (fir_block_outs s values (length dst)) (drop made dst) made (sym em) ∙ outs_are
-
-  pub filtered_cuts : (cuts : ℕ) → cuts ≡ fir_block_cuts s values (length dst) → cuts ≡ cut_count w16 (outs summing s values)
+  pub filtered_cuts : (cuts : ℕ) → cuts ≡ fir_block_cuts s values places → cuts ≡ cut_count w16 (outs summing s values)
   filtered_cuts cuts e = e ∙ ap (λ (b : Bool). cond b (cut_count w16 (outs summing s values)) 0) fir_fits
 
-  -- no more are made than there are values, nor cut
-  pub filtered_within :
-      (cuts : ℕ) → made ≡ length (fir_block_outs s values (length dst)) → dst₁ ≡ fir_block_outs s values (length dst) ++ drop made dst → cuts ≡ fir_block_cuts s values (length dst)
-      → (made ≤ length dst₁) × (made ≤ 128) × (cuts ≤ 128)
-  filtered_within cuts em ed ec =
-      let o = outs_few fir s values in
-      let m : made ≡ length (outs fir s values) = em ∙ ap length outs_are in
-      let k = le_trans (count_few (outs summing s values)) (outs_few summing s values) in
-      let l = ap length ed ∙ length-append (fir_block_outs s values (length dst)) (drop made dst) in
-      (omega (arith, l, em), omega (arith, m, o, few), omega (arith, filtered_cuts cuts ec, k, few))
+  -- no more than there are values
+  pub filtered_few : (cuts : ℕ) → cuts ≡ fir_block_cuts s values places → cuts ≤ 128
+  filtered_few cuts e = let k = le_trans (count_few (outs summing s values)) (outs_few summing s values) in omega (arith, filtered_cuts cuts e, k, few)
 
   pub filter_batched :
-      (s' : FirDecimator) (h h' : HbfStream) (r r' : PolyphaseResampF32) (from w : ℕ) (o o' : List Float)
-      → s' ≡ fir_block_state s values (length dst) → take made dst₁ ≡ outs fir s values
+      (s' : FirDecimator) (h h' : HbfStream) (r r' : PolyphaseResampF32) (dst dst₁ : List ℤ) (made from w : ℕ) (o o' : List Float)
+      → s' ≡ fir_block_state s values places → (made ≡ length (fir_block_outs s values places)) × (dst₁ ≡ fir_block_outs s values places ++ drop made dst)
       → (valid_in_line r ≡ true → Whole from_levels (levels_on h r) (take made dst₁) (length o - from) → Batched from_levels (levels_on h r) (take made dst₁) from o o' (levels_on h' r') w)
       → valid_in_line r ≡ true → Whole from3 (fir_on s h r) values (length o - from) → Batched from3 (fir_on s h r) values from o o' (fir_on s' h' r') w
-  filter_batched s' h h' r r' from w o o' es em on v whole =
+  filter_batched s' h h' r r' dst dst₁ made from w o o' es (em, ed) on v whole =
+      let front : take made dst₁ ≡ outs fir s values =
+      ap (take made) ed ∙ take_at (fir_block_outs s values places) (drop made dst) made (sym em) ∙ ap (λ (b : Bool). cond b (outs fir s values) []) fir_fits
+      in
       batched_before fir from_levels s (levels_on h r) values from o o' s' (levels_on h' r') w whole (es ∙ ap (λ (b : Bool). cond b (state fir s values) s) fir_fits)
-      (subst (λ (l : List ℤ). Batched from_levels (levels_on h r) l from o o' (levels_on h' r') w) em
-      (on v (subst⁻¹ (λ (l : List ℤ). Whole from_levels (levels_on h r) l (length o - from)) em (whole_behind fir from_levels s (levels_on h r) values (length o - from) whole))))
+      (subst (λ (l : List ℤ). Batched from_levels (levels_on h r) l from o o' (levels_on h' r') w) front
+      (on v (subst⁻¹ (λ (l : List ℤ). Whole from_levels (levels_on h r) l (length o - from)) front (whole_behind fir from_levels s (levels_on h r) values (length o - from) whole))))
 
 -- ---- sections 1 and 2
 abbrev scaled_at : ℕ → ℤ → ℤ
@@ -281,55 +286,36 @@ module _ (t t' : Thinner) (p p' : Parts2) (xs sums : List ℤ) (taken made bits 
         → Batched chain (t, p) ys from o o' (t', p') w
     chain_batched el whole on = batched_before either from2 t p ys from o o' t' p' w whole (el ∙ state_of) (on (whole_behind either from2 t p ys (length o - from) whole))
 
--- whatever the state, a block takes no more samples than there are, and makes no more sums than there are places
-module _ (t : Thinner) (xs : List ℤ) (count : ℕ) where
-  abbrev Right1 : Type 0
-  Right1 = Right (alone (pos 0) thin) 0 (λ x. Unit {0}) (lawful_alone (pos 0) thin 0 (λ x. Unit {0}) (λ x a g. g)) t xs count (feed (alone (pos 0) thin) t xs count)
+-- whatever the state, a block takes no more samples than there are
+pub taken_within : (t : Thinner) (xs : List ℤ) (count taken made : ℕ) → (taken ≡ (thin_fed t xs count).taken) × (made ≡ length (thin_fed t xs count).written) → taken ≤ length xs
+unfolding thin_fed
+taken_within t xs count taken made (e, f) = subst⁻¹ (λ (n : ℕ). n ≤ length xs) e (go (valid_at t.kind t.cic.stages t.cic.r t.cic.sample_counter))
+  where
+    go : (b : Bool) → (cond b (feed (alone (pos 0) thin) t xs count) (idle t)).taken ≤ length xs
+    go true = (feed_right (alone (pos 0) thin) 0 (λ x. Unit {0}) (lawful_alone (pos 0) thin 0 (λ x. Unit {0}) (λ x a g. g)) t xs count tt).within
+    go false = omega arith
 
-  right : Right1
-  right = feed_right (alone (pos 0) thin) 0 (λ x. Unit {0}) (lawful_alone (pos 0) thin 0 (λ x. Unit {0}) (λ x a g. g)) t xs count tt
-
-  pub thin_within : ((thin_fed t xs count).taken ≤ length xs) × (length (thin_fed t xs count).written ≤ count)
-  unfolding thin_fed
-  thin_within = go (valid_at t.kind t.cic.stages t.cic.r t.cic.sample_counter)
-    where
-      go : (b : Bool) → ((cond b (feed (alone (pos 0) thin) t xs count) (idle t)).taken ≤ length xs) × (length (cond b (feed (alone (pos 0) thin) t xs count) (idle t)).written ≤ count)
-      go true = (right.within, right.room)
-      go false = (omega arith, omega arith)
-
--- the sums in front of an array of which a part was lent, and of what was made of them
+-- the sums in front of an array of which a part was lent
 module _ (written lent got rest : List ℤ) (made : ℕ) (em : made ≡ length written) (es : got ≡ written ++ drop (length written) lent) where
-  pub sums_front : take made (got ++ rest) ≡ written
+  sums_front : take made (got ++ rest) ≡ written
   sums_front =
       ap (λ (l : List ℤ). take made (l ++ rest)) es ∙ ap (take made) (append_assoc written (drop (length written) lent) rest) ∙ take_at written (drop (length written) lent ++ rest) made (sym em)
 
-  pub sums_within : made ≤ length (got ++ rest)
+  sums_within : made ≤ length (got ++ rest)
   sums_within =
       let l : length (got ++ rest) ≡ length written + length (drop (length written) lent) + length rest =
       length-append got rest ∙ ap (λ (n : ℕ). n + length rest) (ap length es ∙ length-append written (drop (length written) lent))
       in
       omega (arith, l, em)
 
-module _ (sums vals spare : List ℤ) (bits made : ℕ) (long : made ≤ length sums)
-    (ev : vals ≡ map (cut w16) (map (scaled_at bits) (take made sums)) ++ drop (length (take made sums)) spare) where
-  sums_long : length (take made sums) ≡ made
-  sums_long = length-take-le made sums long
-
-  cut_long : length (map (cut w16) (map (scaled_at bits) (take made sums))) ≡ made
-  cut_long = length-map (map (scaled_at bits) (take made sums)) (cut w16) ∙ length-map (take made sums) (scaled_at bits) ∙ sums_long
-
-  pub values_front : take made vals ≡ map (cut w16) (map (scaled_at bits) (take made sums))
-  values_front = ap (take made) ev ∙ take_at (map (cut w16) (map (scaled_at bits) (take made sums))) (drop (length (take made sums)) spare) made cut_long
-
-  pub values_within : made ≤ length vals
-  values_within =
-      let l : length vals ≡ length (map (cut w16) (map (scaled_at bits) (take made sums))) + length (drop (length (take made sums)) spare) =
-      ap length ev ∙ length-append (map (cut w16) (map (scaled_at bits) (take made sums))) (drop (length (take made sums)) spare)
-      in
-      omega (arith, l, cut_long)
-
-  pub cuts_within : (first : ℕ) → first ≡ cut_count w16 (map (scaled_at bits) (take made sums)) → first ≤ made
-  cuts_within first e = let k = count_few (map (scaled_at bits) (take made sums)) in let l = length-map (take made sums) (scaled_at bits) in omega (arith, e, k, l, sums_long)
+-- and what was made of them in front of another
+values_front :
+    (sums vals spare : List ℤ) (bits made : ℕ) → made ≤ length sums → vals ≡ map (cut w16) (map (scaled_at bits) (take made sums)) ++ drop (length (take made sums)) spare
+    → take made vals ≡ map (cut w16) (map (scaled_at bits) (take made sums))
+values_front sums vals spare bits made long ev =
+    ap (take made) ev
+    ∙ take_at (map (cut w16) (map (scaled_at bits) (take made sums))) (drop (length (take made sums)) spare) made
+    (length-map (map (scaled_at bits) (take made sums)) (cut w16) ∙ length-map (take made sums) (scaled_at bits) ∙ length-take-le made sums long)
 
 module _ (t t' : Thinner) (s s' : FirDecimator) (h h' : HbfStream) (r r' : PolyphaseResampF32) (xs sums vals : List ℤ) (taken made bits count at w first second : ℕ) (o o' : List Float) where
   abbrev zs : List ℤ
@@ -341,14 +327,14 @@ module _ (t t' : Thinner) (s s' : FirDecimator) (h h' : HbfStream) (r r' : Polyp
       (1 ≤ taken) × Whole chain (t, cut_on s h r) zs (length o - k) × Batched chain (t, cut_on s h r) zs k o o' (t', cut_on s' h' r') w
       × (first + second ≡ cut_count w16 (outs either t zs) + cut_count w16 (outs summing s (map (cut w16) (outs either t zs))))
 
-  took_batch :
+  took :
       bits ≡ gain_bits t.cic.stages t.cic.r → valid_at t.kind t.cic.stages t.cic.r t.cic.sample_counter ≡ true → taken ≡ (thin_fed t xs count).taken
       → t' ≡ (thin_fed t xs count).line → take made sums ≡ (thin_fed t xs count).written → take made vals ≡ map (cut w16) (map (scaled_at bits) (take made sums))
       → first ≡ cut_count w16 (map (scaled_at bits) (take made sums)) → second ≡ cut_count w16 (outs summing s (take made vals))
       → (valid_in_line r ≡ true → Whole from3 (fir_on s h r) (take made vals) (length o - at) → Batched from3 (fir_on s h r) (take made vals) at o o' (fir_on s' h' r') w)
       → valid_in_line r ≡ true → 1 ≤ count → 1 ≤ length xs → Leaves from2 (cut_on s h r) count (length o - at)
       → Took at
-  took_batch eb fine et el es ev ec e2 on v c n leaves =
+  took eb fine et el es ev ec e2 on v c n leaves =
       let scaled : map (scaled_at bits) (take made sums) ≡ outs either t zs =
       scaled_sums_lem t t' (cut_on s h r) (cut_on s' h' r') xs sums taken made bits count at w o o' eb fine et es
       in
@@ -362,14 +348,29 @@ module _ (t t' : Thinner) (s s' : FirDecimator) (h h' : HbfStream) (r r' : Polyp
         ap₂ {C = ℕ} (λ (a b : ℕ). a + b) (ec ∙ ap (cut_count w16) scaled) (e2 ∙ ap (λ (l : List ℤ). cut_count w16 (outs summing s l)) values),
       )
 
-  -- the same where the place and the count have other names
-  pub took_batch_at :
-      (from n : ℕ) → at ≡ from → count ≡ n → bits ≡ gain_bits t.cic.stages t.cic.r → valid_at t.kind t.cic.stages t.cic.r t.cic.sample_counter ≡ true
-      → taken ≡ (thin_fed t xs count).taken → t' ≡ (thin_fed t xs count).line → take made sums ≡ (thin_fed t xs count).written → take made vals ≡ map (cut w16) (map (scaled_at bits) (take made sums))
-      → first ≡ cut_count w16 (map (scaled_at bits) (take made sums)) → second ≡ cut_count w16 (outs summing s (take made vals))
+-- the same by what the calls of a batch ensure: of `zeros` the first `most` places were lent, and `got` stands in them
+module _ (t t' : Thinner) (s s' : FirDecimator) (h h' : HbfStream) (r r' : PolyphaseResampF32) (xs zeros got vals spare : List ℤ) (taken made bits count most from at w first second : ℕ)
+    (o o' : List Float) where
+  abbrev thinned : Fed Thinner ℤ
+  thinned = thin_fed t xs (length (take most zeros))
+
+  abbrev lent_sums : List ℤ
+  lent_sums = take made (got ++ drop most zeros)
+
+  pub took_batch :
+      at ≡ min from (length o) → most ≡ min count 128 → length zeros ≡ 128 → (taken ≡ thinned.taken) × (made ≡ length thinned.written) → t' ≡ thinned.line
+      → got ≡ thinned.written ++ drop (length thinned.written) (take most zeros) → vals ≡ map (cut w16) (map (scaled_at bits) lent_sums) ++ drop (length lent_sums) spare
+      → first ≡ cut_count w16 (map (scaled_at bits) lent_sums) → second ≡ cut_count w16 (outs summing s (take made vals))
       → (valid_in_line r ≡ true → Whole from3 (fir_on s h r) (take made vals) (length o - at) → Batched from3 (fir_on s h r) (take made vals) at o o' (fir_on s' h' r') w)
-      → valid_in_line r ≡ true → 1 ≤ n → 1 ≤ length xs → Leaves from2 (cut_on s h r) n (length o - from) → Took from
-  took_batch_at from n ea en eb fine et el es ev ec e2 on v c n₁ leaves =
-      subst Took ea
-      (took_batch eb fine et el es ev ec e2 on v (subst⁻¹ (λ (k : ℕ). 1 ≤ k) en c) n₁
-      (subst⁻¹ (λ (k : ℕ). Leaves from2 (cut_on s h r) k (length o - at)) en (subst⁻¹ (λ (k : ℕ). Leaves from2 (cut_on s h r) n (length o - k)) ea leaves)))
+      → bits ≡ gain_bits t.cic.stages t.cic.r → valid_at t.kind t.cic.stages t.cic.r t.cic.sample_counter ≡ true → valid_in_line r ≡ true → from < length o → 1 ≤ count → count ≤ 128
+      → 1 ≤ length xs → Leaves from2 (cut_on s h r) count (length o - from)
+      → Took t t' s s' h h' r r' xs (got ++ drop most zeros) vals taken made bits count at w first second o o' from
+  took_batch ea em long (et, en) el es ev ec e2 on eb fine v room c₁ c₂ some leaves =
+      let place : at ≡ from = omega (arith, ea, room) in
+      let lent : length (take most zeros) ≡ count = length-take-le most zeros (omega (arith, em, long)) ∙ omega (arith, em, c₂) in
+      subst (λ (k : ℕ). Took t t' s s' h h' r r' xs (got ++ drop most zeros) vals taken made bits count at w first second o o' k) place
+      (took t t' s s' h h' r r' xs (got ++ drop most zeros) vals taken made bits (length (take most zeros)) at w first second o o' eb fine et el
+      (sums_front thinned.written (take most zeros) got (drop most zeros) made en es)
+      (values_front (got ++ drop most zeros) vals spare bits made (sums_within thinned.written (take most zeros) got (drop most zeros) made en es) ev) ec e2 on v
+      (subst⁻¹ (λ (k : ℕ). 1 ≤ k) lent c₁) some
+      (subst⁻¹ (λ (k : ℕ). Leaves from2 (cut_on s h r) k (length o - at)) lent (subst⁻¹ (λ (k : ℕ). Leaves from2 (cut_on s h r) count (length o - k)) place leaves)))

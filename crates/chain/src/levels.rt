@@ -3,15 +3,16 @@ ghost use Rattle.std.specs.Prelude.{◌≡◌, true, ◌++◌, map, ◌-◌, ◌
 ghost use Rattle.float.specs.Level.{level};
 ghost use Rattle.float.specs.PolyphaseResamp.{valid_in_line};
 ghost use Rattle.chain.specs.Chain.{from_levels};
-ghost use Rattle.chain.specs.Parts.{half_band_of, resampler_of, levels_on};
+ghost use Rattle.chain.specs.Lending as N;
+ghost use Rattle.chain.specs.Lending.{Same, ThinnerStays};
 ghost use Rattle.chain.specs.Batched.{most_sums, Whole, Batched};
 
+use crate::arrays::Arrays;
 use crate::fixed::{Fixed, MOST_SUMS};
 use crate::resample::resample;
 use float::due::Due;
 use float::q15_to_f32;
-use float::settings::{MOST_CELLS, MOST_TAPS as MOST_PHASE_TAPS};
-use half_band::{DEC_CASCADE_DELAYS, MOST_STAGES, hbf_stream_block_at};
+use half_band::hbf_stream_block_at;
 use q15::Q15;
 
 // The values as levels, in front of a span.
@@ -28,26 +29,28 @@ fn put_levels(span: &mut [f32], values: &[i16])
 pub(crate) fn levels_in(
     f: Fixed,
     mu: f32,
-    delays: &mut [f32; DEC_CASCADE_DELAYS],
-    held: &mut [f32; MOST_STAGES],
-    counts: &mut [usize; MOST_STAGES],
-    delay: &mut [f32; MOST_PHASE_TAPS],
-    prototype: &[f32; MOST_CELLS],
+    lent: &mut Arrays<'_>,
     values: &[i16],
     out: &mut [f32],
     from: usize,
 ) -> Due
     requires { (from ≤ length out.old) × (length values.now ≤ most_sums) }
     ensures within { result.written ≤ length out.old }
-    ensures batched { let half_band = half_band_of f delays.old held.old counts.old in
-        let resampler = resampler_of f mu delay.old prototype.now in
-        let next_half_band = half_band_of f delays.new held.new counts.new in
-        let next_resampler = resampler_of f result.mu delay.new prototype.now in
-        valid_in_line resampler ≡ true → Whole from_levels (levels_on half_band resampler) values.now (length out.old - from)
-        → Batched from_levels (levels_on half_band resampler) values.now from out.old out.new (levels_on next_half_band next_resampler) result.written }
+    ensures same { Same lent.old lent.new }
+    ensures stays { ThinnerStays lent.old lent.new × (lent.new.fir_delay.now ≡ lent.old.fir_delay.now) }
+    ensures batched { let before = N.levels_in f mu lent.old in
+        valid_in_line (N.resampler_in f mu lent.old) ≡ true → Whole from_levels before values.now (length out.old - from)
+        → Batched from_levels before values.now from out.old out.new (N.levels_in f result.mu lent.new) result.written }
 {
     let mut tape = [0.0f32; MOST_SUMS];
     put_levels(&mut tape, values);
-    let made = hbf_stream_block_at(f.depth, delays, held, counts, &mut tape, values.len());
-    resample(f, mu, delay, prototype, &tape[..made], out, from)
+    let made = hbf_stream_block_at(
+        f.depth,
+        lent.delays,
+        lent.held,
+        lent.counts,
+        &mut tape,
+        values.len(),
+    );
+    resample(f, mu, lent.delay, lent.prototype, &tape[..made], out, from)
 }

@@ -43,7 +43,7 @@ fn levels_for(places: usize, stride: usize) -> usize
 fn before_pair(held: usize) -> usize
     ensures { (result ≡ cond (eqb held 0) 1 0) × (result ≤ 1) }
 {
-    if held == 0 { 1 } else { 0 }
+    usize::from(held == 0)
 }
 
 // So many values make no more than so many levels.

@@ -9,19 +9,16 @@ ghost use Rattle.q15.specs.Fixed.{cut, cut_count};
 ghost use Rattle.q15.specs.FirDecimator.{summing};
 ghost use Rattle.float.specs.PolyphaseResamp.{valid_in_line};
 ghost use Rattle.chain.specs.Chain.{from2, chain};
-ghost use Rattle.chain.specs.Parts.{thinner_of, fir_of, half_band_of, resampler_of, cut_on};
+ghost use Rattle.chain.specs.Lending.{thinner_in, fir_in, resampler_in, from_cut_in, Same};
 ghost use Rattle.chain.specs.Batched.{most_sums, Whole, Leaves, Batched};
 
+use crate::arrays::Arrays;
 use crate::filter::filter;
 use crate::fixed::{Fixed, MOST_SUMS};
-use float::settings::{MOST_CELLS, MOST_TAPS as MOST_PHASE_TAPS};
-use half_band::{DEC_CASCADE_DELAYS, MOST_STAGES};
 use integer::gain::scaled;
-use integer::limits::MAX_STAGES;
 use nonrecursive::Thinning;
-use nonrecursive::nonrecursive_decimator::MAX_NEIGHBOURS;
 use nonrecursive::thinning::thin_block_at;
-use q15::{MOST_TAPS, cut_q15};
+use q15::cut_q15;
 
 // How far a block came: the samples taken, the counter and the FIR's wait, where the next output lies, how many values were cut, and how many places of the span
 // are written.
@@ -40,6 +37,7 @@ fn cut_sums(bits: u32, sums: &[i32], dst: &mut [i16]) -> usize
     requires { (length sums.now ≤ length dst.old) × (length sums.now ≤ most_sums) }
     ensures span { dst.new ≡ map (cut w16) (map (λ y. floor_div y (2 ^ bits)) sums.now) ++ drop (length sums.now) dst.old }
     ensures cuts { result ≡ cut_count w16 (map (λ y. floor_div y (2 ^ bits)) sums.now) }
+    ensures few { result ≤ most_sums }
 {
     let mut cuts = 0;
     for (i, sum) in sums.iter().enumerate() {
@@ -58,38 +56,26 @@ pub fn take_batch(
     sample_counter: usize,
     wait: usize,
     mu: f32,
-    integrators: &mut [i32; MAX_STAGES],
-    combs: &mut [i32; MAX_STAGES],
-    neighbours: &mut [i32; MAX_NEIGHBOURS],
-    taps: &[i16; MOST_TAPS],
-    fir_delay: &mut [i16; MOST_TAPS],
-    delays: &mut [f32; DEC_CASCADE_DELAYS],
-    held: &mut [f32; MOST_STAGES],
-    counts: &mut [usize; MOST_STAGES],
-    delay: &mut [f32; MOST_PHASE_TAPS],
-    prototype: &[f32; MOST_CELLS],
+    lent: &mut Arrays<'_>,
     samples: &[i32],
     count: usize,
     out: &mut [f32],
     from: usize,
 ) -> Batch
     ensures within { (result.taken ≤ length samples.now) × (result.cuts ≤ most_sums + most_sums) }
-    ensures batched { let thinner = thinner_of thinning f sample_counter integrators.old combs.old neighbours.old in
-        let fir = fir_of f wait taps.now fir_delay.old in
-        let half_band = half_band_of f delays.old held.old counts.old in
-        let resampler = resampler_of f mu delay.old prototype.now in
-        let next_thinner = thinner_of thinning f result.sample_counter integrators.new combs.new neighbours.new in
-        let next_fir = fir_of f result.wait taps.now fir_delay.new in
-        let next_half_band = half_band_of f delays.new held.new counts.new in
-        let next_resampler = resampler_of f result.mu delay.new prototype.now in
-        let behind = cut_on fir half_band resampler in
+    ensures same { Same lent.old lent.new }
+    ensures batched { let thinner = thinner_in thinning f sample_counter lent.old in
+        let fir = fir_in f wait lent.old in
+        let resampler = resampler_in f mu lent.old in
+        let behind = from_cut_in f wait mu lent.old in
         let places = length out.old - from in
         let xs = take result.taken samples.now in
         let sums = outs either thinner xs in
         f.bits ≡ gain_bits f.stages f.r → valid_at thinning f.stages f.r sample_counter ≡ true → valid_in_line resampler ≡ true → from < length out.old
         → 1 ≤ count → count ≤ most_sums → 1 ≤ length samples.now → Leaves from2 behind count places
         → (1 ≤ result.taken) × Whole chain (thinner, behind) xs places
-        × Batched chain (thinner, behind) xs from out.old out.new (next_thinner, cut_on next_fir next_half_band next_resampler) result.written
+        × Batched chain (thinner, behind) xs from out.old out.new
+        (thinner_in thinning f result.sample_counter lent.new, from_cut_in f result.wait result.mu lent.new) result.written
         × (result.cuts ≡ cut_count w16 sums + cut_count w16 (outs summing fir (map (cut w16) sums))) }
 {
     let most = count.min(MOST_SUMS);
@@ -101,30 +87,16 @@ pub fn take_batch(
         f.stages,
         f.r,
         &mut counter,
-        integrators,
-        combs,
-        neighbours,
+        lent.integrators,
+        lent.combs,
+        lent.neighbours,
         samples,
         &mut sums[..most],
     );
     let made = moved.written;
     let mut values = [0i16; MOST_SUMS];
     let cuts = cut_sums(f.bits, &sums[..made], &mut values);
-    let on = filter(
-        f,
-        wait,
-        mu,
-        taps,
-        fir_delay,
-        delays,
-        held,
-        counts,
-        delay,
-        prototype,
-        &values[..made],
-        out,
-        at,
-    );
+    let on = filter(f, wait, mu, lent, &values[..made], out, at);
     Batch {
         taken: moved.taken,
         sample_counter: counter,

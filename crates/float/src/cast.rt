@@ -22,7 +22,8 @@ pub(crate) fn whole_part(x: f32) -> usize
     0
 }
 
-// `x as usize`: the whole part, held at 0 and at 2^64 − 1; a NaN gives 0.
+// `x as usize`: the whole part, held at 0 and at 2^64 − 1; a NaN gives 0. The library's `saturating_f32_to_usize`, but that it goes by no f64: the resamplers cast
+// once for each output.
 pub fn f32_to_usize_saturating(x: f32) -> usize
     ensures { result ≡ to_unsigned 64 x }
 {

@@ -39,7 +39,7 @@ pub fn shift_in(delay: &mut [f32; MOST_TAPS], taps: usize, x: f32)
 }
 
 impl Reading<'_> {
-    // What is due from mu on is written from the place `from` of dst on, as long as it has a place.
+    // What is due from mu on is written from the place `from` of dst on, as long as it has a place. No range: mu says how many are due.
     pub(crate) fn write_due(self, delay: &[f32], mu: f32, dst: &mut [f32], from: usize) -> Due
         requires { self.setting.taps ≤ length delay.now }
         ensures { let before = dst.old in

@@ -1,6 +1,6 @@
 // 01, section 5: the polyphase resampler of f32 samples.
 ghost use Rattle.std.specs.Prelude.{◌≡◌, true, false};
-ghost use Rattle.refusal.specs.Outcome.{told_opened, told_on, number_in, none_moved};
+ghost use Rattle.refusal.specs.Outcome.{told_opened, told_on, told_reset, none_moved};
 ghost use Rattle.float.specs.PolyphaseResamp as R;
 ghost use Rattle.float.specs.PolyphaseWhole as W;
 
@@ -142,7 +142,7 @@ impl PolyphaseResampF32 {
         setting.block(&mut self.mu, &mut self.delay, &self.prototype, src, dst)
     }
 
-    // The sample x is consumed whatever mu is, and then what is due is written, as long as out has a place. Refused by 15.
+    // The sample x is consumed whatever mu is, and then what is due is written, as long as out has a place. Refused by 15. As a block it hands the state's parts on.
     pub fn push(&mut self, x: f32, out: &mut [f32]) -> Result<usize, Refusal>
         ensures answer { told_on 0 result self.new ≡ R.push_outcome self.old x out.old }
         ensures span { out.new ≡ R.push_span self.old x out.old }
@@ -154,8 +154,8 @@ impl PolyphaseResampF32 {
 
     // The fresh opening with the state's own settings and prototype. Refused by 15: the state stays.
     pub fn reset(&mut self) -> Result<(), Refusal>
-        ensures answer { record { number = number_in result; state = self.new } ≡ R.reset self.old }
-        ensures whole { W.Resets self.old (record { number = number_in result; state = self.new }) }
+        ensures answer { told_reset result self.new ≡ R.reset self.old }
+        ensures whole { W.Resets self.old (told_reset result self.new) }
     {
         let setting = self.setting();
         if !setting.is_valid(self.mu) {

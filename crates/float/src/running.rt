@@ -31,8 +31,8 @@ fn take_in(tape: &mut [f32; TAPE], newest: usize, taps: usize, x: f32) -> usize
 }
 
 impl Reading<'_> {
-    // Outputs that are due are written, then a sample is consumed, until dst is full or a sample is wanted and none is left. The outputs stand in a loop of their own
-    // so that the compiler inlines each into it.
+    // Outputs that are due are written, then a sample is consumed, until dst is full or a sample is wanted and none is left. No range: mu says what a turn does. The
+    // outputs stand in a loop of their own so that the compiler inlines each into it.
     fn run(self, mu: &mut f32, delay: &mut [f32; MOST_TAPS], src: &[f32], dst: &mut [f32]) -> Moved
         ensures { R.RanTo self.entry.setting mu.old self.entry.prototype.now delay.old src.now dst.old result mu.new delay.new dst.new }
     {

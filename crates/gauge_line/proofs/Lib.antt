@@ -1,4 +1,2 @@
 mod Opened
 mod PhaseKinds
-mod Lines
-mod Setting

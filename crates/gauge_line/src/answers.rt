@@ -30,7 +30,7 @@ pub(crate) fn output<T: Drop>(answer: Result<Option<T>, Refusal>) -> Option<T>
 pub(crate) fn made<T>(output: &Option<T>) -> usize
     ensures { result ≡ made_in output.now }
 {
-    if output.is_some() { 1 } else { 0 }
+    usize::from(output.is_some())
 }
 
 // What a refused feed or block moved.

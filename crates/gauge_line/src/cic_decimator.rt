@@ -41,14 +41,8 @@ pub extern "C" fn gauge_raw_cic_decimator_new(
 {
     let opened = CicDecimator::new(wanted_stages, wanted_r);
     let told = number(&opened);
-    put_decimator(
-        opened.unwrap_or(CicDecimator::fresh(0, 0)),
-        stages,
-        r,
-        integrators,
-        combs,
-        sample_counter,
-    );
+    let state = opened.unwrap_or(CicDecimator::fresh(0, 0));
+    put_decimator(&state, stages, r, integrators, combs, sample_counter);
     told
 }
 
@@ -130,7 +124,7 @@ pub extern "C" fn gauge_raw_cic_decimator_process_sample(
 {
     let mut state = decimator(*stages, *r, *integrators, *combs, *sample_counter);
     let answer = state.process_sample(input);
-    put_decimator(state, stages, r, integrators, combs, sample_counter);
+    put_decimator(&state, stages, r, integrators, combs, sample_counter);
     let told = number(&answer);
     let next_sum = output(answer);
     *made = answers::made(&next_sum);
@@ -155,7 +149,7 @@ pub extern "C" fn gauge_raw_cic_decimator_process_sample_scaled(
 {
     let mut state = decimator(*stages, *r, *integrators, *combs, *sample_counter);
     let answer = state.process_sample_scaled(input);
-    put_decimator(state, stages, r, integrators, combs, sample_counter);
+    put_decimator(&state, stages, r, integrators, combs, sample_counter);
     let told = number(&answer);
     let next_sum = output(answer);
     *made = answers::made(&next_sum);

@@ -26,13 +26,8 @@ pub extern "C" fn gauge_raw_cic_interpolator_new(
 {
     let opened = CicInterpolator::new(wanted_stages, wanted_r);
     let told = number(&opened);
-    put_interpolator(
-        opened.unwrap_or(CicInterpolator::fresh(0, 0)),
-        stages,
-        r,
-        combs,
-        integrators,
-    );
+    let state = opened.unwrap_or(CicInterpolator::fresh(0, 0));
+    put_interpolator(&state, stages, r, combs, integrators);
     told
 }
 

@@ -31,7 +31,7 @@ pub extern "C" fn gauge_raw_fir_decimator_new_2(
     let opened = FirDecimator::new(wanted_taps, wanted_factor);
     let told = number(&opened);
     let state = opened.unwrap_or(FirDecimator::zeros());
-    put_fir(state, taps, tap_count, factor, delay, wait);
+    put_fir(&state, taps, tap_count, factor, delay, wait);
     told
 }
 
@@ -49,7 +49,7 @@ pub extern "C" fn gauge_raw_fir_decimator_reset(
 {
     let mut state = fir(*taps, *tap_count, *factor, *delay, *wait);
     let answer = state.reset();
-    put_fir(state, taps, tap_count, factor, delay, wait);
+    put_fir(&state, taps, tap_count, factor, delay, wait);
     number(&answer)
 }
 
@@ -71,7 +71,7 @@ pub extern "C" fn gauge_raw_fir_decimator_process_sample(
 {
     let mut state = fir(*taps, *tap_count, *factor, *delay, *wait);
     let answer = state.process_sample(Q15(sample));
-    put_fir(state, taps, tap_count, factor, delay, wait);
+    put_fir(&state, taps, tap_count, factor, delay, wait);
     let told = number(&answer);
     let filtered = output(answer);
     *made = answers::made(&filtered);

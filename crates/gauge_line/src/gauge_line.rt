@@ -11,14 +11,12 @@ ghost use Rattle.gauge_line.specs.Crossing.{crossed_step, is_set, kind_of};
 ghost use Rattle.gauge_line.specs.States.{entry, exit, IsFlag, line_at};
 
 use crate::answers::{NONE_MOVED, number, step_moves};
-use crate::states::{
-    decimator, fir, flag, is_set, kind, kind_number, line_or_zeros, put_decimator, put_fir,
-    put_resampler, put_stream, put_thinning, resampler, stream,
-};
+use crate::lines::{line_of, put_line};
+use crate::states::{flag, is_set, kind, kind_number};
 use float::settings::{MOST_CELLS, MOST_TAPS as MOST_PHASE_TAPS};
 use half_band::{DEC_CASCADE_DELAYS, MOST_STAGES};
 use integer::limits::MAX_STAGES;
-use line::{Line, LineNumbers, Settings, feed_lent, step_lent};
+use line::{Arrays, Line, LineNumbers, Settings, feed_lent, step_lent, zeros};
 use nonrecursive::nonrecursive_decimator::MAX_NEIGHBOURS;
 use q15::MOST_TAPS;
 
@@ -92,12 +90,26 @@ pub extern "C" fn gauge_raw_line_open_3(
     };
     let opened = Line::open(settings, wanted_taps, wanted_prototype);
     let told = number(&opened);
-    let next = line_or_zeros(opened);
-    put_decimator(next.cic, stages, r, integrators, combs, sample_counter);
-    put_fir(next.fir, taps, tap_count, factor, fir_delay, wait);
-    put_stream(next.half_band, depth, delays, held, counts);
-    put_resampler(
-        next.resampler,
+    let next = match opened {
+        Ok(line) => line,
+        Err(_) => zeros(),
+    };
+    put_line(
+        &next,
+        stages,
+        r,
+        integrators,
+        combs,
+        sample_counter,
+        taps,
+        tap_count,
+        factor,
+        fir_delay,
+        wait,
+        depth,
+        delays,
+        held,
+        counts,
         phases,
         phase_taps,
         straight,
@@ -105,11 +117,10 @@ pub extern "C" fn gauge_raw_line_open_3(
         step,
         delay,
         prototype,
+        cuts,
+        thinning,
+        neighbours,
     );
-    *cuts = next.cuts;
-    let thins = next.thinning;
-    let next_neighbours = next.neighbours;
-    put_thinning(thins, next_neighbours, thinning, neighbours);
     told
 }
 
@@ -150,29 +161,49 @@ pub extern "C" fn gauge_raw_line_reset(
         depth delays held counts phases phase_taps straight mu step delay prototype cuts thinning neighbours in
         L.valid before ≡ true → result ≡ 0 }
 {
-    let mut next = Line {
-        thinning: kind(*thinning),
-        cic: decimator(*stages, *r, *integrators, *combs, *sample_counter),
-        neighbours: *neighbours,
-        fir: fir(*taps, *tap_count, *factor, *fir_delay, *wait),
-        half_band: stream(*depth, *delays, *held, *counts),
-        resampler: resampler(
-            *phases,
-            *phase_taps,
-            is_set(*straight),
-            *mu,
-            *step,
-            *delay,
-            *prototype,
-        ),
-        cuts: *cuts,
-    };
+    let mut next = line_of(
+        *stages,
+        *r,
+        *integrators,
+        *combs,
+        *sample_counter,
+        *taps,
+        *tap_count,
+        *factor,
+        *fir_delay,
+        *wait,
+        *depth,
+        *delays,
+        *held,
+        *counts,
+        *phases,
+        *phase_taps,
+        *straight,
+        *mu,
+        *step,
+        *delay,
+        *prototype,
+        *cuts,
+        *thinning,
+        *neighbours,
+    );
     let answer = next.reset();
-    put_decimator(next.cic, stages, r, integrators, combs, sample_counter);
-    put_fir(next.fir, taps, tap_count, factor, fir_delay, wait);
-    put_stream(next.half_band, depth, delays, held, counts);
-    put_resampler(
-        next.resampler,
+    put_line(
+        &next,
+        stages,
+        r,
+        integrators,
+        combs,
+        sample_counter,
+        taps,
+        tap_count,
+        factor,
+        fir_delay,
+        wait,
+        depth,
+        delays,
+        held,
+        counts,
         phases,
         phase_taps,
         straight,
@@ -180,11 +211,10 @@ pub extern "C" fn gauge_raw_line_reset(
         step,
         delay,
         prototype,
+        cuts,
+        thinning,
+        neighbours,
     );
-    *cuts = next.cuts;
-    let thins = next.thinning;
-    let next_neighbours = next.neighbours;
-    put_thinning(thins, next_neighbours, thinning, neighbours);
     number(&answer)
 }
 
@@ -246,8 +276,7 @@ pub extern "C" fn gauge_raw_line_step(
         cuts: *cuts,
         thinning: kind(*thinning),
     };
-    let done = step_lent(
-        &mut n,
+    let mut lent = Arrays {
         integrators,
         combs,
         neighbours,
@@ -258,10 +287,8 @@ pub extern "C" fn gauge_raw_line_step(
         counts,
         delay,
         prototype,
-        samples,
-        at,
-        0 < places,
-    );
+    };
+    let done = step_lent(&mut n, &mut lent, samples, at, 0 < places);
     *stages = n.stages;
     *r = n.r;
     *sample_counter = n.sample_counter;
@@ -350,8 +377,7 @@ pub extern "C" fn gauge_raw_line_feed(
         cuts: *cuts,
         thinning: kind(*thinning),
     };
-    let done = feed_lent(
-        &mut n,
+    let mut lent = Arrays {
         integrators,
         combs,
         neighbours,
@@ -362,9 +388,8 @@ pub extern "C" fn gauge_raw_line_feed(
         counts,
         delay,
         prototype,
-        samples,
-        out,
-    );
+    };
+    let done = feed_lent(&mut n, &mut lent, samples, out);
     *stages = n.stages;
     *r = n.r;
     *sample_counter = n.sample_counter;

@@ -4,7 +4,7 @@ ghost use Rattle.half_band.specs.HbfDec.{dec_opening, dec_reset, dec_step, dec_b
 ghost use Rattle.gauge_line.specs.States.{entry, exit, dec_at};
 
 use crate::answers::number;
-use crate::states::{dec, put_dec};
+use crate::states::{dec, put_filter};
 use half_band::hbf_dec::{pair_lent, pairs_lent};
 use half_band::{DEC_DELAYS, HbfDec, MOST_HALF_BAND_TAPS};
 
@@ -20,7 +20,8 @@ pub extern "C" fn gauge_raw_hbf_dec_new(
 {
     let opened = HbfDec::new(taps);
     let told = number(&opened);
-    put_dec(opened.unwrap_or(HbfDec::zeros()), m, coeffs, delay);
+    let state = opened.unwrap_or(HbfDec::zeros());
+    put_filter(state.m, state.coeffs, state.delay, m, coeffs, delay);
     told
 }
 
@@ -34,7 +35,7 @@ pub extern "C" fn gauge_raw_hbf_dec_reset(
 {
     let mut state = dec(*m, *coeffs, *delay);
     let answer = state.reset();
-    put_dec(state, m, coeffs, delay);
+    put_filter(state.m, state.coeffs, state.delay, m, coeffs, delay);
     number(&answer)
 }
 

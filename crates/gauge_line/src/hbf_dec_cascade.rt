@@ -18,7 +18,8 @@ pub extern "C" fn gauge_raw_hbf_dec_cascade_new(
 {
     let opened = HbfDecCascade::new(wanted_depth);
     let told = number(&opened);
-    put_dec_cascade(opened.unwrap_or(HbfDecCascade::zeros()), depth, delays);
+    let state = opened.unwrap_or(HbfDecCascade::zeros());
+    put_dec_cascade(&state, depth, delays);
     told
 }
 
@@ -31,7 +32,7 @@ pub extern "C" fn gauge_raw_hbf_dec_cascade_reset(
 {
     let mut state: HbfDecCascade = dec_cascade(*depth, *delays);
     let answer = state.reset();
-    put_dec_cascade(state, depth, delays);
+    put_dec_cascade(&state, depth, delays);
     number(&answer)
 }
 
@@ -50,7 +51,7 @@ pub extern "C" fn gauge_raw_hbf_dec_cascade_process(
 {
     let mut state: HbfDecCascade = dec_cascade(*depth, *delays);
     let answer = state.process(src, dst);
-    put_dec_cascade(state, depth, delays);
+    put_dec_cascade(&state, depth, delays);
     *written = answer.unwrap_or(0);
     number(&answer)
 }

@@ -4,7 +4,7 @@ ghost use Rattle.half_band.specs.HbfInt.{int_opening, int_reset, int_step, int_b
 ghost use Rattle.gauge_line.specs.States.{entry, exit, int_at};
 
 use crate::answers::number;
-use crate::states::{int, put_int};
+use crate::states::{int, put_filter};
 use half_band::hbf_int::{interpolate_lent, sample_lent};
 use half_band::{HbfInt, INT_DELAYS, MOST_HALF_BAND_TAPS};
 
@@ -20,7 +20,8 @@ pub extern "C" fn gauge_raw_hbf_int_new(
 {
     let opened = HbfInt::new(taps);
     let told = number(&opened);
-    put_int(opened.unwrap_or(HbfInt::zeros()), m, coeffs, delay);
+    let state = opened.unwrap_or(HbfInt::zeros());
+    put_filter(state.m, state.coeffs, state.delay, m, coeffs, delay);
     told
 }
 
@@ -34,7 +35,7 @@ pub extern "C" fn gauge_raw_hbf_int_reset(
 {
     let mut state = int(*m, *coeffs, *delay);
     let answer = state.reset();
-    put_int(state, m, coeffs, delay);
+    put_filter(state.m, state.coeffs, state.delay, m, coeffs, delay);
     number(&answer)
 }
 

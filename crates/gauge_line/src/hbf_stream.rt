@@ -22,13 +22,8 @@ pub extern "C" fn gauge_raw_hbf_stream_new(
 {
     let opened = HbfStream::new(wanted_depth);
     let told = number(&opened);
-    put_stream(
-        opened.unwrap_or(HbfStream::fresh(0)),
-        depth,
-        delays,
-        held,
-        counts,
-    );
+    let state = opened.unwrap_or(HbfStream::fresh(0));
+    put_stream(&state, depth, delays, held, counts);
     told
 }
 
@@ -43,7 +38,7 @@ pub extern "C" fn gauge_raw_hbf_stream_reset(
 {
     let mut state = stream(*depth, *delays, *held, *counts);
     let answer = state.reset();
-    put_stream(state, depth, delays, held, counts);
+    put_stream(&state, depth, delays, held, counts);
     number(&answer)
 }
 
@@ -63,7 +58,7 @@ pub extern "C" fn gauge_raw_hbf_stream_process_sample(
 {
     let mut state = stream(*depth, *delays, *held, *counts);
     let answer = state.process_sample(x);
-    put_stream(state, depth, delays, held, counts);
+    put_stream(&state, depth, delays, held, counts);
     let told = number(&answer);
     let out = output(answer);
     *made = answers::made(&out);

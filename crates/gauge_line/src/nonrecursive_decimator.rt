@@ -32,13 +32,8 @@ pub extern "C" fn gauge_raw_nonrecursive_decimator_new(
 {
     let opened = NonrecursiveDecimator::new(wanted_stages, wanted_r);
     let told = number(&opened);
-    put_nonrecursive(
-        opened.unwrap_or(NonrecursiveDecimator::fresh(0, 0)),
-        stages,
-        r,
-        neighbours,
-        place,
-    );
+    let state = opened.unwrap_or(NonrecursiveDecimator::fresh(0, 0));
+    put_nonrecursive(&state, stages, r, neighbours, place);
     told
 }
 
@@ -91,7 +86,7 @@ pub extern "C" fn gauge_raw_nonrecursive_decimator_process_sample(
 {
     let mut state = nonrecursive(*stages, *r, *neighbours, *place);
     let answer = state.process_sample(input);
-    put_nonrecursive(state, stages, r, neighbours, place);
+    put_nonrecursive(&state, stages, r, neighbours, place);
     let told = number(&answer);
     let next_sum = output(answer);
     *made = answers::made(&next_sum);
@@ -115,7 +110,7 @@ pub extern "C" fn gauge_raw_nonrecursive_decimator_process_sample_scaled(
 {
     let mut state = nonrecursive(*stages, *r, *neighbours, *place);
     let answer = state.process_sample_scaled(input);
-    put_nonrecursive(state, stages, r, neighbours, place);
+    put_nonrecursive(&state, stages, r, neighbours, place);
     let told = number(&answer);
     let next_sum = output(answer);
     *made = answers::made(&next_sum);

@@ -9,67 +9,15 @@ ghost use Rattle.taking_up.specs.TakenBack.{TakenBack};
 ghost use Rattle.gauge_line.specs.States.{exit, IsFlag, line_at, line_by};
 
 use crate::answers::number;
-use crate::states::{
-    decimator, fir, is_set, kind, line_or_zeros, put_decimator, put_fir, put_resampler, put_stream,
-    put_thinning, resampler, stream,
-};
+use crate::lines::{line_of, put_line};
 use float::settings::{MOST_CELLS, MOST_TAPS as MOST_PHASE_TAPS};
 use half_band::{DEC_CASCADE_DELAYS, MOST_STAGES};
 use integer::limits::MAX_STAGES;
-use line::Line;
+use line::zeros;
 use nonrecursive::nonrecursive_decimator::MAX_NEIGHBOURS;
 use parking::{park, parked_len};
 use q15::MOST_TAPS;
 use taking_up::take_up;
-
-// The line of fields that were lent.
-fn line_of(
-    stages: usize,
-    r: usize,
-    integrators: [i32; MAX_STAGES],
-    combs: [i32; MAX_STAGES],
-    sample_counter: usize,
-    taps: [i16; MOST_TAPS],
-    tap_count: usize,
-    factor: usize,
-    fir_delay: [i16; MOST_TAPS],
-    wait: usize,
-    depth: usize,
-    delays: [f32; DEC_CASCADE_DELAYS],
-    held: [f32; MOST_STAGES],
-    counts: [usize; MOST_STAGES],
-    phases: usize,
-    phase_taps: usize,
-    straight: usize,
-    mu: f32,
-    step: f32,
-    delay: [f32; MOST_PHASE_TAPS],
-    prototype: [f32; MOST_CELLS],
-    cuts: u32,
-    thinning: usize,
-    neighbours: [i32; MAX_NEIGHBOURS],
-) -> Line
-    ensures { result ≡ line_by stages r integrators combs sample_counter taps tap_count factor fir_delay wait depth delays held counts
-        phases phase_taps straight mu step delay prototype cuts thinning neighbours }
-{
-    Line {
-        thinning: kind(thinning),
-        cic: decimator(stages, r, integrators, combs, sample_counter),
-        neighbours,
-        fir: fir(taps, tap_count, factor, fir_delay, wait),
-        half_band: stream(depth, delays, held, counts),
-        resampler: resampler(
-            phases,
-            phase_taps,
-            is_set(straight),
-            mu,
-            step,
-            delay,
-            prototype,
-        ),
-        cuts,
-    }
-}
 
 // How many bytes the line's sheet has, so that a span may be made for it.
 #[unsafe(no_mangle)]
@@ -257,12 +205,26 @@ pub extern "C" fn gauge_raw_line_take_up_3(
 {
     let answer = take_up(bytes);
     let told = number(&answer);
-    let next = line_or_zeros(answer);
-    put_decimator(next.cic, stages, r, integrators, combs, sample_counter);
-    put_fir(next.fir, taps, tap_count, factor, fir_delay, wait);
-    put_stream(next.half_band, depth, delays, held, counts);
-    put_resampler(
-        next.resampler,
+    let next = match answer {
+        Ok(line) => line,
+        Err(_) => zeros(),
+    };
+    put_line(
+        &next,
+        stages,
+        r,
+        integrators,
+        combs,
+        sample_counter,
+        taps,
+        tap_count,
+        factor,
+        fir_delay,
+        wait,
+        depth,
+        delays,
+        held,
+        counts,
         phases,
         phase_taps,
         straight,
@@ -270,10 +232,9 @@ pub extern "C" fn gauge_raw_line_take_up_3(
         step,
         delay,
         prototype,
+        cuts,
+        thinning,
+        neighbours,
     );
-    *cuts = next.cuts;
-    let thins = next.thinning;
-    let next_neighbours = next.neighbours;
-    put_thinning(thins, next_neighbours, thinning, neighbours);
     told
 }

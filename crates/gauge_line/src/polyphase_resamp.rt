@@ -50,7 +50,7 @@ pub extern "C" fn gauge_raw_polyphase_resamp_from_taps(
     );
     let told = number(&opened);
     let state = opened.unwrap_or(PolyphaseResampF32::zeros());
-    put_resampler(state, phases, taps, straight, mu, step, delay, prototype);
+    put_resampler(&state, phases, taps, straight, mu, step, delay, prototype);
     told
 }
 
@@ -82,7 +82,7 @@ pub extern "C" fn gauge_raw_polyphase_resamp_from_taps_straight(
     );
     let told = number(&opened);
     let state = opened.unwrap_or(PolyphaseResampF32::zeros());
-    put_resampler(state, phases, taps, straight, mu, step, delay, prototype);
+    put_resampler(&state, phases, taps, straight, mu, step, delay, prototype);
     told
 }
 
@@ -114,7 +114,7 @@ pub extern "C" fn gauge_raw_polyphase_resamp_reset(
         *prototype,
     );
     let answer = state.reset();
-    put_resampler(state, phases, taps, straight, mu, step, delay, prototype);
+    put_resampler(&state, phases, taps, straight, mu, step, delay, prototype);
     number(&answer)
 }
 

@@ -1,6 +1,5 @@
 // The states as callers keep them: put together from the fields that were lent, and put back into them.
 ghost use Rattle.std.specs.Prelude.{◌≡◌};
-ghost use Rattle.refusal.specs.Outcome.{value_in};
 ghost use Rattle.integer.specs.CicDecimator.{decimator_of};
 ghost use Rattle.integer.specs.CicInterpolator.{interpolator_of};
 ghost use Rattle.nonrecursive.specs.NonrecursiveDecimator.{nonrecursive_of};
@@ -9,9 +8,8 @@ ghost use Rattle.half_band.specs.HbfDecCascade.{cascade_of};
 ghost use Rattle.half_band.specs.HbfStream.{stream_of};
 ghost use Rattle.float.specs.PolyphaseResamp.{together};
 ghost use Rattle.linear_phase.specs.LinearPhaseFir.{phase_of};
-ghost use Rattle.line.specs.Line as L;
 ghost use Rattle.gauge_line.specs.Crossing.{is_set, flag_of, kind_of, kind_number};
-ghost use Rattle.gauge_line.specs.States.{exit, decimator_at, nonrecursive_at, interpolator_at, fir_at, dec_at, int_at, dec_cascade_at, int_cascade_at, stream_at, IsFlag, resampler_at};
+ghost use Rattle.gauge_line.specs.States.{exit, decimator_at, nonrecursive_at, interpolator_at, fir_at, dec_cascade_at, int_cascade_at, stream_at, IsFlag, resampler_at};
 
 use float::PolyphaseResampF32;
 use float::settings::{MOST_CELLS, MOST_TAPS as MOST_PHASE_TAPS};
@@ -21,12 +19,10 @@ use half_band::{
 };
 use integer::limits::MAX_STAGES;
 use integer::{CicDecimator, CicInterpolator};
-use line::{Line, zeros};
 use linear_phase::{Kind, LINEAR_PHASE_DELAYS, LinearPhaseFir, MOST_LINEAR_PHASE_TAPS};
 use nonrecursive::nonrecursive_decimator::MAX_NEIGHBOURS;
 use nonrecursive::{NonrecursiveDecimator, Thinning};
 use q15::{FirDecimator, MOST_TAPS};
-use refusal::Refusal;
 use std::marker::PhantomData;
 
 pub(crate) fn decimator(
@@ -48,14 +44,14 @@ pub(crate) fn decimator(
 }
 
 pub(crate) fn put_decimator(
-    next: CicDecimator,
+    next: &CicDecimator,
     stages: &mut usize,
     r: &mut usize,
     integrators: &mut [i32; MAX_STAGES],
     combs: &mut [i32; MAX_STAGES],
     sample_counter: &mut usize,
 )
-    ensures { decimator_at exit stages r integrators combs sample_counter ≡ next }
+    ensures { decimator_at exit stages r integrators combs sample_counter ≡ next.now }
 {
     let next_integrators = next.integrator_state;
     let next_combs = next.comb_state;
@@ -83,13 +79,13 @@ pub(crate) fn nonrecursive(
 }
 
 pub(crate) fn put_nonrecursive(
-    next: NonrecursiveDecimator,
+    next: &NonrecursiveDecimator,
     stages: &mut usize,
     r: &mut usize,
     neighbours: &mut [i32; MAX_NEIGHBOURS],
     place: &mut usize,
 )
-    ensures { nonrecursive_at exit stages r neighbours place ≡ next }
+    ensures { nonrecursive_at exit stages r neighbours place ≡ next.now }
 {
     let next_neighbours = next.neighbours;
     *stages = next.stages;
@@ -115,13 +111,13 @@ pub(crate) fn interpolator(
 }
 
 pub(crate) fn put_interpolator(
-    next: CicInterpolator,
+    next: &CicInterpolator,
     stages: &mut usize,
     r: &mut usize,
     combs: &mut [i32; MAX_STAGES],
     integrators: &mut [i32; MAX_STAGES],
 )
-    ensures { interpolator_at exit stages r combs integrators ≡ next }
+    ensures { interpolator_at exit stages r combs integrators ≡ next.now }
 {
     let next_combs = next.comb_state;
     let next_integrators = next.integrator_state;
@@ -150,14 +146,14 @@ pub(crate) fn fir(
 }
 
 pub(crate) fn put_fir(
-    next: FirDecimator,
+    next: &FirDecimator,
     taps: &mut [i16; MOST_TAPS],
     tap_count: &mut usize,
     factor: &mut usize,
     delay: &mut [i16; MOST_TAPS],
     wait: &mut usize,
 )
-    ensures { fir_at exit taps tap_count factor delay wait ≡ next }
+    ensures { fir_at exit taps tap_count factor delay wait ≡ next.now }
 {
     let next_taps = next.taps;
     let next_delay = next.delay;
@@ -174,18 +170,19 @@ pub(crate) fn dec(m: usize, coeffs: [f32; MOST_HALF_BAND_TAPS], delay: [f32; DEC
     HbfDec { m, coeffs, delay }
 }
 
-pub(crate) fn put_dec(
-    next: HbfDec,
+// How many taps a filter has, the taps and the delay, into the places that were lent for them.
+pub(crate) fn put_filter<const TAPS: usize, const DELAYS: usize>(
+    next_m: usize,
+    next_taps: [f32; TAPS],
+    next_delay: [f32; DELAYS],
     m: &mut usize,
-    coeffs: &mut [f32; MOST_HALF_BAND_TAPS],
-    delay: &mut [f32; DEC_DELAYS],
+    taps: &mut [f32; TAPS],
+    delay: &mut [f32; DELAYS],
 )
-    ensures { dec_at exit m coeffs delay ≡ next }
+    ensures { (m.new ≡ next_m) × (taps.new ≡ next_taps.entry) × (delay.new ≡ next_delay.entry) }
 {
-    let next_coeffs = next.coeffs;
-    let next_delay = next.delay;
-    *m = next.m;
-    *coeffs = next_coeffs;
+    *m = next_m;
+    *taps = next_taps;
     *delay = next_delay;
 }
 
@@ -193,21 +190,6 @@ pub(crate) fn int(m: usize, coeffs: [f32; MOST_HALF_BAND_TAPS], delay: [f32; INT
     ensures { result ≡ record { m = m; coeffs = coeffs; delay = delay } }
 {
     HbfInt { m, coeffs, delay }
-}
-
-pub(crate) fn put_int(
-    next: HbfInt,
-    m: &mut usize,
-    coeffs: &mut [f32; MOST_HALF_BAND_TAPS],
-    delay: &mut [f32; INT_DELAYS],
-)
-    ensures { int_at exit m coeffs delay ≡ next }
-{
-    let next_coeffs = next.coeffs;
-    let next_delay = next.delay;
-    *m = next.m;
-    *coeffs = next_coeffs;
-    *delay = next_delay;
 }
 
 pub(crate) fn dec_cascade<T>(depth: usize, delays: [f32; DEC_CASCADE_DELAYS]) -> DecCascade<T>
@@ -220,12 +202,12 @@ pub(crate) fn dec_cascade<T>(depth: usize, delays: [f32; DEC_CASCADE_DELAYS]) ->
     }
 }
 
-pub(crate) fn put_dec_cascade<T: Drop>(
-    next: DecCascade<T>,
+pub(crate) fn put_dec_cascade<T>(
+    next: &DecCascade<T>,
     depth: &mut usize,
     delays: &mut [f32; DEC_CASCADE_DELAYS],
 )
-    ensures { dec_cascade_at exit depth delays ≡ cascade_of next.depth next.delays }
+    ensures { dec_cascade_at exit depth delays ≡ cascade_of next.now.depth next.now.delays }
 {
     let next_delays = next.delays;
     *depth = next.depth;
@@ -239,11 +221,11 @@ pub(crate) fn int_cascade(depth: usize, delays: [f32; INT_CASCADE_DELAYS]) -> Hb
 }
 
 pub(crate) fn put_int_cascade(
-    next: HbfIntCascade,
+    next: &HbfIntCascade,
     depth: &mut usize,
     delays: &mut [f32; INT_CASCADE_DELAYS],
 )
-    ensures { int_cascade_at exit depth delays ≡ next }
+    ensures { int_cascade_at exit depth delays ≡ next.now }
 {
     let next_delays = next.delays;
     *depth = next.depth;
@@ -267,13 +249,13 @@ pub(crate) fn stream(
 }
 
 pub(crate) fn put_stream(
-    next: HbfStream,
+    next: &HbfStream,
     depth: &mut usize,
     delays: &mut [f32; DEC_CASCADE_DELAYS],
     held: &mut [f32; MOST_STAGES],
     counts: &mut [usize; MOST_STAGES],
 )
-    ensures { stream_at exit depth delays held counts ≡ next }
+    ensures { stream_at exit depth delays held counts ≡ next.now }
 {
     let next_delays = next.delays;
     let next_held = next.held;
@@ -321,15 +303,15 @@ pub(crate) fn kind_number(kind: Thinning) -> usize
 // Which kind thins, and the neighbours.
 pub(crate) fn put_thinning(
     next: Thinning,
-    next_neighbours: [i32; MAX_NEIGHBOURS],
+    next_neighbours: &[i32; MAX_NEIGHBOURS],
     thinning: &mut usize,
     neighbours: &mut [i32; MAX_NEIGHBOURS],
 )
-    ensures state { (kind_of thinning.new ≡ next) × (neighbours.new ≡ next_neighbours) }
+    ensures state { (kind_of thinning.new ≡ next) × (neighbours.new ≡ next_neighbours.now) }
     ensures setting { IsFlag thinning.new }
 {
     *thinning = kind_number(next);
-    *neighbours = next_neighbours;
+    *neighbours = *next_neighbours;
 }
 
 pub(crate) fn resampler(
@@ -355,7 +337,7 @@ pub(crate) fn resampler(
 }
 
 pub(crate) fn put_resampler(
-    next: PolyphaseResampF32,
+    next: &PolyphaseResampF32,
     phases: &mut usize,
     taps: &mut usize,
     straight: &mut usize,
@@ -364,7 +346,7 @@ pub(crate) fn put_resampler(
     delay: &mut [f32; MOST_PHASE_TAPS],
     prototype: &mut [f32; MOST_CELLS],
 )
-    ensures state { resampler_at exit phases taps straight mu step delay prototype ≡ next }
+    ensures state { resampler_at exit phases taps straight mu step delay prototype ≡ next.now }
     ensures setting { IsFlag straight.new }
 {
     let next_delay = next.delay;
@@ -404,19 +386,5 @@ pub(crate) fn put_phase(
 )
     ensures { phase_of m.new next.odd next.antisymmetric taps.new delay.new ≡ next }
 {
-    let next_taps = next.taps;
-    let next_delay = next.delay;
-    *m = next.m;
-    *taps = next_taps;
-    *delay = next_delay;
-}
-
-// The line of an opening; zeros where it is refused.
-pub(crate) fn line_or_zeros(opened: Result<Line, Refusal>) -> Line
-    ensures { result ≡ value_in L.zeros opened }
-{
-    match opened {
-        Ok(line) => line,
-        Err(_) => zeros(),
-    }
+    put_filter(next.m, next.taps, next.delay, m, taps, delay);
 }

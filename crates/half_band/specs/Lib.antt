@@ -3,7 +3,6 @@ pub mod HbfTaps98
 pub mod HalfBand
 pub mod Windows
 pub mod Limits
-pub mod Answers
 pub mod HbfDec
 pub mod Equal
 pub mod Reach

@@ -1,8 +1,7 @@
 // 01, section 4: the half-band decimator, one output of each pair of samples.
 ghost use Rattle.std.specs.Prelude.{◌≡◌, length, IfOk};
-ghost use Rattle.refusal.specs.Outcome.{told_on, told_opened};
+ghost use Rattle.refusal.specs.Outcome.{told_on, told_opened, told_reset};
 ghost use Rattle.float.specs.F32.{zero32};
-ghost use Rattle.half_band.specs.Answers.{told_reset};
 ghost use Rattle.half_band.specs.HbfDec.{dec_of, dec_none, dec_opening, dec_reset, dec_step, dec_block, dec_span, DecMeets};
 
 use crate::half_band::{decimate, padded, take_pair};

@@ -2,8 +2,7 @@
 // frames of 2^depth as it has places for, and each stage turns the list there into half as many values in place: nothing is held at the end of whole frames.
 ghost use Rattle.std.specs.Prelude.{◌≡◌, ◌++◌, ◌+◌, ◌*◌, ◌^◌, ◌≤◌, ◌<◌, length, take, drop, replicate, IfOk};
 ghost use Rattle.theory.specs.Sections.{state, outs};
-ghost use Rattle.refusal.specs.Outcome.{told_on};
-ghost use Rattle.half_band.specs.Answers.{told_reset};
+ghost use Rattle.refusal.specs.Outcome.{told_on, told_reset};
 ghost use Rattle.float.specs.F32.{zero32};
 ghost use Rattle.half_band.specs.HbfTaps.{stage_taps};
 ghost use Rattle.half_band.specs.Windows.{pairs, decimator, spliced};
@@ -18,7 +17,7 @@ use refusal::rows::{outside, samples_refused};
 use std::marker::PhantomData;
 
 // A cascade over the taps of a table. Stage k has its last 4M samples in front of the 96 delays from 96k on.
-#[derive(Drop)]
+#[derive(Clone, Copy)]
 pub struct DecCascade<T> {
     pub depth: usize,
     pub delays: [f32; DEC_CASCADE_DELAYS],

@@ -1,8 +1,7 @@
 // 01, section 7: the half-band interpolator, an even and an odd output of each sample.
 ghost use Rattle.std.specs.Prelude.{◌≡◌, ◌*◌, length, IfOk};
-ghost use Rattle.refusal.specs.Outcome.{told_on, told_opened};
+ghost use Rattle.refusal.specs.Outcome.{told_on, told_opened, told_reset};
 ghost use Rattle.float.specs.F32.{zero32};
-ghost use Rattle.half_band.specs.Answers.{told_reset};
 ghost use Rattle.half_band.specs.HbfInt.{int_none, int_of, int_opening, int_reset, int_step, int_block, int_span, IntMeets};
 
 use crate::half_band::{interpolate, padded, take_sample};
@@ -10,7 +9,8 @@ use crate::limits::{INT_DELAYS, MOST_HALF_BAND_TAPS};
 use refusal::Refusal;
 use refusal::rows::{outside, samples_refused};
 
-// m taps in front of coeffs; the last 2m samples in front of delay, the newest at their end.
+// m taps in front of coeffs; the last 2m samples in front of delay, the newest at their end. Beside HbfDec: what the two share stands in half_band.rt, and a type
+// over both would ask each for its delays, its step and its definitions, for methods of a few lines.
 #[derive(Drop)]
 pub struct HbfInt {
     pub m: usize,

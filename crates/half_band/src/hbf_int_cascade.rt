@@ -2,8 +2,7 @@
 // the outputs will fill, and each stage turns the whole list there into twice as many values in place.
 ghost use Rattle.std.specs.Prelude.{◌≡◌, ◌++◌, ◌-◌, ◌*◌, ◌^◌, ◌≤◌, ◌<◌, length, take, drop, IfOk};
 ghost use Rattle.theory.specs.Sections.{state, outs};
-ghost use Rattle.refusal.specs.Outcome.{told_on, told_opened};
-ghost use Rattle.half_band.specs.Answers.{told_reset};
+ghost use Rattle.refusal.specs.Outcome.{told_on, told_opened, told_reset};
 ghost use Rattle.half_band.specs.HalfBand.{flat};
 ghost use Rattle.half_band.specs.HbfTaps.{stage_taps, interpolation};
 ghost use Rattle.half_band.specs.Windows.{interpolator, spliced};
@@ -15,7 +14,7 @@ use crate::limits::{INT_CASCADE_DELAYS, INT_DELAYS, MOST_STAGES, rate_change};
 use refusal::Refusal;
 use refusal::rows::{outside, samples_refused};
 
-// Stage k has its last 2M samples in front of the 48 delays from 48k on.
+// Stage k has its last 2M samples in front of the 48 delays from 48k on. Beside DecCascade, as HbfInt beside HbfDec.
 #[derive(Drop)]
 pub struct HbfIntCascade {
     pub depth: usize,

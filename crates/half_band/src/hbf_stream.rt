@@ -1,7 +1,6 @@
 // 01, section 4, in the line: the half-band cascade fed sample by sample. A stage holds an odd sample until its partner comes.
 ghost use Rattle.std.specs.Prelude.{◌≡◌, ◌*◌, ◌<◌, [], ◌∷◌, length, take, drop, IfOk, None};
-ghost use Rattle.refusal.specs.Outcome.{told_on, told_opened};
-ghost use Rattle.half_band.specs.Answers.{told_reset};
+ghost use Rattle.refusal.specs.Outcome.{told_on, told_opened, told_reset};
 ghost use Rattle.half_band.specs.HbfTaps.{stage_taps};
 ghost use Rattle.half_band.specs.Windows.{slid, dec_value, spliced};
 ghost use Rattle.half_band.specs.HbfStream.{stream_of, stream_fresh, hbf_stream, stream_opening, stream_reset, stream_step, stream_refused, stream_refused_in_line, StreamMeets};
@@ -21,7 +20,7 @@ pub struct HbfStream {
     pub counts: [usize; MOST_STAGES],
 }
 
-// A pair into stage k.
+// A pair into stage k. The stages of an interpolating cascade have their windows at other places, and another step.
 fn stage_pair<T: StageTable>(k: usize, delays: &mut [f32], a: f32, b: f32) -> f32
     requires { (k < 5) × (length delays.old ≡ 480) }
     ensures { let taps = stage_taps T.table k in

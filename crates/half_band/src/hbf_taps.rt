@@ -126,6 +126,7 @@ impl StageTable for Db140 {
     }
 }
 
+// As above, cut at other places: a table is a constant, and so is each of its slices.
 impl StageTable for Db98 {
     ghost table = { decimation98 };
 
@@ -143,6 +144,7 @@ impl StageTable for Db98 {
     }
 }
 
+// The first table turned round.
 impl StageTable for Interpolation {
     ghost table = { interpolation };
 

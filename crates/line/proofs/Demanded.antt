@@ -1,7 +1,7 @@
 -- Demand 3 of every feed that answers as its contract says: a history as its callers see it is one of the machine's, of which the theorem on feeds speaks, and what the
 -- machine makes of a whole list are the outputs that 01 defines.
 use mathlib.Core.Path.{◌≡◌, refl, sym, ap, ap₂, ◌∙◌, subst, subst⁻¹}
-use mathlib.Core.Bool.{true}
+use mathlib.Core.Bool.{true, false}
 use mathlib.Core.List.{List, ◌++◌}
 use Prim.Native.Nat.{ℕ, ◌<◌}
 use lib.IntN.{ℤ}
@@ -127,13 +127,19 @@ demanded l xs before after told et ea o h zero e =
     let a : after ≡ spanned (F.feed line k xs (length before)) before = ea ∙ ap (λ (z : Line). feed_span z xs before) at ∙ span_is k xs before v in
     (defined o zero, rw (t, a, same_taken o zero h, same_written o zero h) (model_kept o zero (modelled h) xs before))
 
--- the three clauses of a feed that was not refused
+-- the three clauses of a feed: of one that was refused, and of one that was not
+pub refused :
+    (l : Line) → valid l ≡ false → (xs : List ℤ) (span : List Float) → let told : Outcome Moved Line = record { number = 15; value = record { taken = 0; written = 0 }; state = l } in
+    (told ≡ feed_outcome l xs (length span)) × (span ≡ feed_span l xs span) × Demand3 l xs span span told
+unfolding feed_outcome feed_span
+refused l v xs span = (rw v, rw v, demanded l xs span span _ (rw v) (rw v))
+
 pub ran :
     (l : Line) → valid l ≡ true → {xs : List ℤ} {before after : List Float} {t w : ℕ} {k : Line} (told : Outcome Moved Line)
     → told ≡ record { number = 0; value = record { taken = t; written = w }; state = k } → RanTo l xs before after t w k
-    → (told ≡ feed_outcome l xs (length before)) × ((after ≡ feed_span l xs before) × Demand3 l xs before after told)
+    → (told ≡ feed_outcome l xs (length before)) × (after ≡ feed_span l xs before) × Demand3 l xs before after told
 unfolding feed_outcome feed_span
 ran l v {xs} {before} {after} {t} {w} {k} told et r =
     let er : told ≡ feed_outcome l xs (length before) = rw (v, et, r.took, r.wrote, r.line) in
     let ea : after ≡ feed_span l xs before = rw v r.span in
-    (er, (ea, demanded l xs before after told er ea))
+    (er, ea, demanded l xs before after told er ea)

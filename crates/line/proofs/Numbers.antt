@@ -1,30 +1,25 @@
 -- What a valid line held apart says of its numbers: the counter is below r, a due output has phases and taps in their limits, and the test of validity is the definition's.
-use mathlib.Core.Path.{◌≡◌, refl, ap, ◌∙◌, subst}
+use mathlib.Core.Path.{◌≡◌, refl, sym, ap, ◌∙◌, subst}
 use mathlib.Core.Bool.{Bool, true, false, cond, ◌&&◌, not}
-use mathlib.Core.List.{List}
 use Prim.Native.Nat.{ℕ, zero, suc, ◌*◌, ◌≤◌, ◌<◌}
 use native.Mathlib.Nat.{zero-mul, mul-le-mul}
 use native.Mathlib.Omega.{arith}
 use lib.Dec.{leb, eqb, eqb-suc-zero}
-use lib.IntN.{ℤ}
-use lib.Ieee.{Float}
 use lib.ListN.{length}
 use lib.Seq.{length-take-le}
 use borrow.Author.Tests.{le-ltb, eq-eqb}
 use Rattle.integer.specs.Gain.{gain_bits, most_bits}
 use Rattle.nonrecursive.specs.EitherKind as E
-use Rattle.nonrecursive.specs.declared.thinning.Thinning.{Thinning}
 use Rattle.nonrecursive.proofs.EitherKind.{either_below, either_settings}
 use Rattle.q15.specs.FirDecimator as Q
-use Rattle.float.specs.PolyphaseResamp.{in_limits, is_on, valid_in_line}
+use Rattle.float.specs.PolyphaseResamp.{in_limits, in_line, is_on, valid_in_line}
 use Rattle.q15.specs.FirDecimator.{most_taps, settings_number_in_line}
 use Rattle.q15.proofs.FirSteps.{valid_few, settings_valid}
 use Rattle.half_band.proofs.HeldOnes.{line_few}
 use Rattle.float.proofs.PolyphaseOutput.{limits_say}
 use Rattle.float.proofs.PolyphaseRange.{on_in_limits, on_step}
-use Rattle.line.specs.Line.{valid, thinner_of, half_band_fine, depth_number, resampler_number, number_at, opened, opening_of, reset}
-use Rattle.chain.specs.Parts.{resampler_of}
-use Rattle.line.specs.Together.{together, due_at, bits_at, valid_at}
+use Rattle.line.specs.Line.{line, valid, thinner_of, half_band_fine, depth_number, resampler_number, number_at, opened, opening_of, reset}
+use Rattle.line.specs.Together.{bits_at, valid_at}
 use Rattle.line.specs.Lent.{numbers_in, fixed_in, changing_in}
 use Rattle.line.specs.declared.gauge_line.Line.{Line}
 use Rattle.chain.specs.declared.fixed.Fixed.{Fixed}
@@ -40,13 +35,9 @@ pub counter_below : (l : Line) → valid l ≡ true → l.cic.sample_counter < l
 unfolding E.fine
 counter_below l v = either_below l.thinning l.cic.stages l.cic.r l.cic.sample_counter (and_left (valid_of l) _ (to_parts l v).0)
 
-pub due_limits :
-    (k : Thinning) (f : Fixed) (s : Numbers) (integrators combs neighbours taps fir_delay : List ℤ) (delays held : List Float) (counts : List ℕ) (delay prototype : List Float)
-    → valid (together k f s integrators combs neighbours taps fir_delay delays held counts delay prototype) ≡ true → due_at f s.mu ≡ true → in_limits f.phases f.taps ≡ true
-unfolding due_at is_on
-due_limits k f s integrators combs neighbours taps fir_delay delays held counts delay prototype v d =
-    on_in_limits (resampler_of f s.mu delay prototype) (and_left (not (eqb f.phases 0)) _ d)
-    (to_parts (together k f s integrators combs neighbours taps fir_delay delays held counts delay prototype) v).1.1.1.1.1
+pub due_limits : (l : Line) → valid l ≡ true → line.due l ≡ true → in_limits l.resampler.phases l.resampler.taps ≡ true
+unfolding in_line is_on
+due_limits l v d = on_in_limits l.resampler (and_left (not (eqb l.resampler.phases 0)) _ d) (to_parts l v).1.1.1.1.1
 
 -- the tests of a line held apart are those of the line
 pub valid_apart : (l : Line) → valid_at (fixed_in (numbers_in l)) (changing_in (numbers_in l)) l.half_band.counts ≡ valid l
@@ -56,6 +47,10 @@ valid_apart l = ap (λ (b : Bool). b && (Q.valid_in_line l.fir && (half_band_fin
     go : (v : Bool) → leb (cond v (gain_bits l.cic.stages l.cic.r) 64) most_bits ≡ (v && leb (gain_bits l.cic.stages l.cic.r) most_bits)
     go true = refl
     go false = refl
+
+-- what the code knows of a line once it has looked at its numbers
+pub tested : (l : Line) {f : Fixed} {s : Numbers} {b v : Bool} → f ≡ fixed_in (numbers_in l) → s ≡ changing_in (numbers_in l) → b ≡ valid_at f s l.half_band.counts → b ≡ v → valid l ≡ v
+tested l ef es eb ev = sym (valid_apart l) ∙ sym (rw (ef, es) at eb) ∙ ev
 
 pub bits_apart : (l : Line) → valid l ≡ true → (fixed_in (numbers_in l)).bits ≡ gain_bits l.cic.stages l.cic.r
 unfolding E.fine bits_at

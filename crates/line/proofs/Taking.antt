@@ -1,42 +1,34 @@
--- A value in a section that stands before a machine: it makes nothing, or a value that the machine takes.
-use mathlib.Core.Path.{◌≡◌, refl, ap, ap₂, ◌∙◌}
-use mathlib.Core.Bool.{Bool, cond}
+-- A sample in the line: its decimator makes nothing, or a sum that, scaled and cut, goes on into the FIR, and the count goes by what is cut of it and of the FIR's.
+use mathlib.Core.Path.{◌≡◌, refl, ap₂, ◌∙◌}
 use Rattle.std.specs.Prelude.{Option, None, Some}
-use Prim.Native.Nat.{ℕ, ◌+◌}
+use Prim.Native.Nat.{ℕ, ◌^◌}
 use lib.IntN.{ℤ}
 use lib.Ieee.{Float}
-use Rattle.theory.specs.Sections.{Section}
-use Rattle.theory.specs.Machines.{Machine, next_for, now_for, before}
-use Rattle.theory.specs.Tally.{held_sum}
-use Rattle.line.specs.Outputs.{most_cuts}
-use Rattle.chain.specs.Chain.{Parts, chain}
-use Rattle.line.specs.Line.{parts_of, of_counted, sum_cut, cuts_for, cuts_at, line}
-use Rattle.q15.specs.Fixed.{cut, is_cut}
-use Rattle.q15.specs.FirDecimator.{fir_sum_out, cut_in}
-use Rattle.q15.specs.declared.fir_decimator.FirDecimator.{FirDecimator}
 use mir.Syntax.{w16}
+use Rattle.theory.specs.Floor.{floor_div}
+use Rattle.theory.specs.Tally.{held_sum}
+use Rattle.theory.proofs.Tally.{held_none, held_more}
+use Rattle.integer.specs.Gain.{gain_bits}
+use Rattle.nonrecursive.specs.EitherKind.{next_by, out_by, either}
+use Rattle.q15.specs.Fixed.{cut, cut_one}
+use Rattle.q15.specs.FirDecimator.{fir_sum_out}
+use Rattle.chain.specs.Chain.{Parts2, Parts3, from3}
+use Rattle.line.specs.Outputs.{most_cuts}
+use Rattle.line.specs.Line.{thinner_of, parts_of, of_counted, sum_cut, line}
 use Rattle.line.specs.Together.{Takes}
 use Rattle.line.specs.declared.gauge_line.Line.{Line}
 
-module _ {S R A B C : Type 0} (f : Section S A B) (m : Machine R B C) where
-  pub takes_none : (s : S) (r : R) (a : A) (s' : S) → None ≡ f.out s a → s' ≡ f.next s a → Takes (before f m) (s, r) a None (s', r)
-  takes_none s r a s' e n = (ap (now_for f m r) e, ap₂ {C = S × R} (λ x y. (x, y)) n (ap (next_for f m r) e))
+module _ (l l' : Line) (x : ℤ) (moved : thinner_of l' ≡ next_by l.thinning (thinner_of l) x) where
+  pub line_waits : None ≡ out_by l.thinning (thinner_of l) x → (parts_of l').1 ≡ (parts_of l).1 → l'.cuts ≡ l.cuts → Takes line l x None l'
+  unfolding either
+  line_waits made rest cuts = rw (← made, ← moved, held_none most_cuts l.cuts) (refl, ap₂ {C = Line} (λ (r : Parts2) (n : ℕ). of_counted ((thinner_of l', r), n)) rest cuts)
 
-  pub takes_some : (s : S) (r : R) (a : A) (s' : S) (b : B) (o : Option C) (r' : R) → Some b ≡ f.out s a → s' ≡ f.next s a → Takes m r b o r' → Takes (before f m) (s, r) a o (s', r')
-  takes_some s r a s' b o r' e n t = (t.0 ∙ ap (now_for f m r) e, ap₂ {C = S × R} (λ x y. (x, y)) n (t.1 ∙ ap (next_for f m r) e))
-
--- a scaled sum z is cut, and then the FIR's sum of it
-pub two_cuts :
-    (c n : ℕ) (a b : Bool) (s : FirDecimator) (z : ℤ) → n ≡ held_sum most_cuts c (cond a 1 0 + cond b 1 0)
-    → a ≡ is_cut w16 z → b ≡ cut_in (fir_sum_out s (cut w16 z)) → n ≡ held_sum most_cuts c (cuts_for s (Some z))
-two_cuts c n a b s z e ea eb =
-    let one : Bool → ℕ = (λ k. cond k 1 0) in
-    e ∙ ap₂ {C = ℕ} (λ (i j : ℕ). held_sum most_cuts c (i + j)) (ap one ea) (ap one eb ∙ of (fir_sum_out s (cut w16 z)))
-  where
-    of : (o : Option ℤ) → cond (cut_in o) 1 0 ≡ sum_cut o
-    of None = refl
-    of (Some y) = refl
-
--- the line's record, seen as its parts and the count
-pub takes_line : (l l' : Line) (x : ℤ) (o : Option Float) → Takes chain (parts_of l) x o (parts_of l') → l'.cuts ≡ held_sum most_cuts l.cuts (cuts_at (parts_of l) x) → Takes line l x o l'
-takes_line l l' x o t n = (t.0, ap₂ {C = Line} (λ (p : Parts) (k : ℕ). of_counted (p, k)) t.1 n)
+  pub line_sums :
+      (v z : ℤ) (o : Option Float) → Some v ≡ out_by l.thinning (thinner_of l) x → z ≡ floor_div v (2 ^ gain_bits l.cic.stages l.cic.r)
+      → Takes from3 (parts_of l).1.1 (cut w16 z) o (parts_of l').1.1
+      → l'.cuts ≡ held_sum most_cuts (held_sum most_cuts l.cuts (cut_one w16 z)) (sum_cut (fir_sum_out l.fir (cut w16 z)))
+      → Takes line l x o l'
+  unfolding either
+  line_sums v z o made scaled on count =
+      let cuts = count ∙ held_more most_cuts l.cuts (cut_one w16 z) (sum_cut (fir_sum_out l.fir (cut w16 z))) in
+      rw (← made, ← moved, ← scaled) (on.0, ap₂ {C = Line} (λ (p : Parts3) (n : ℕ). of_counted ((thinner_of l', (tt, p)), n)) on.1 cuts)

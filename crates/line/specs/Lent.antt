@@ -1,4 +1,4 @@
--- The line of 01, section 6, as a caller has it who keeps its arrays: the numbers by value, the arrays lent.
+-- The line of 01, section 6, as a caller has it who keeps its arrays: the numbers and the arrays lent.
 use Rattle.std.specs.Prelude.{List, ℕ, ℤ, Float}
 use Rattle.integer.specs.CicDecimator.{decimator_of}
 use Rattle.q15.specs.FirDecimator.{fir_state}
@@ -7,6 +7,7 @@ use Rattle.float.specs.PolyphaseResamp as R
 use Rattle.line.specs.Together.{bits_at}
 use Rattle.line.specs.declared.gauge_line.Line.{Line}
 use Rattle.line.specs.declared.lent.LineNumbers.{LineNumbers}
+use Rattle.chain.specs.declared.arrays.Arrays.{Arrays}
 use Rattle.chain.specs.declared.fixed.Fixed.{Fixed}
 use Rattle.line.specs.declared.sample.Numbers.{Numbers}
 
@@ -22,6 +23,12 @@ line_of n integrators combs neighbours taps fir_delay delays held counts delay p
       resampler = R.together n.straight n.phases n.taps n.mu n.step delay prototype;
       cuts = n.cuts;
     }
+
+-- the same of the arrays lent together
+abbrev pub line_in : LineNumbers → Arrays → Line
+line_in n lent =
+    line_of n lent.integrators.now lent.combs.now lent.neighbours.now lent.taps.now lent.fir_delay.now lent.delays.now lent.held.now lent.counts.now lent.delay.now
+    lent.prototype.now
 
 -- the numbers of a line
 abbrev pub numbers_in : Line → LineNumbers

@@ -1,5 +1,5 @@
 -- The line of which a loop holds the settings, the numbers and the arrays apart, and what a value does in a machine: for the contracts of the private functions.
-use Rattle.std.specs.Prelude.{◌≡◌, Bool, true, cond, ◌&&◌, not, List, ◌++◌, ℕ, ◌+◌, ◌-◌, ◌≤◌, min, eqb, leb, length, take, drop, ℤ, Float, Option}
+use Rattle.std.specs.Prelude.{◌≡◌, Bool, true, cond, ◌&&◌, not, List, ◌++◌, ℕ, ◌+◌, ◌-◌, ◌≤◌, ◌<◌, min, eqb, leb, length, take, drop, ℤ, Float, Option}
 use Rattle.std.specs.Float.Ieee.{lt}
 use Rattle.theory.specs.Machines.{Machine}
 use Rattle.theory.specs.Feeds as F
@@ -15,6 +15,7 @@ use Rattle.float.specs.PolyphaseResamp as R
 use Rattle.chain.specs.Parts.{fir_of, half_band_of, resampler_of}
 use Rattle.line.specs.Line.{fed_line, valid}
 use Rattle.line.specs.declared.gauge_line.Line.{Line}
+use Rattle.chain.specs.declared.arrays.Arrays.{Arrays}
 use Rattle.chain.specs.declared.fixed.Fixed.{Fixed}
 use Rattle.line.specs.declared.sample.Numbers.{Numbers}
 use Rattle.line.specs.declared.step.Taken.{Taken}
@@ -41,17 +42,27 @@ together k f s integrators combs neighbours taps fir_delay delays held counts de
       cuts = s.cuts;
     }
 
+-- the same of the arrays lent together
+abbrev pub line_in : Thinning → Fixed → Numbers → Arrays → Line
+line_in k f s lent =
+    together k f s lent.integrators.now lent.combs.now lent.neighbours.now lent.taps.now lent.fir_delay.now lent.delays.now lent.held.now lent.counts.now lent.delay.now
+    lent.prototype.now
+
 -- what the code says that a step did at which no output was due, as an event of the machine
 abbrev pub taken_of : Taken → F.Event Float
 taken_of taken.Took = F.took
 taken_of (taken.TookAndWrote y) = F.both y
 taken_of taken.Stopped = F.stopped
 
+-- what holds where such a step takes the sample at a place of so many: a place of the span is left, and there is such a sample
+abbrev pub Room : Taken → Bool → ℕ → ℕ → Type 0
+Room taken.Took place at many = (place ≡ true) × (at < many)
+Room (taken.TookAndWrote y) place at many = (place ≡ true) × (at < many)
+Room taken.Stopped place at many = Unit {0}
+
 -- a step: its event, and the line put together after it
-abbrev pub stepped_at :
-    Thinning → Fixed → F.Event Float → Numbers → List ℤ → List ℤ → List ℤ → List ℤ → List ℤ → List Float → List Float → List ℕ → List Float → List Float → F.Stepped Line Float
-stepped_at k f event numbers integrators combs neighbours taps fir_delay delays held counts delay prototype =
-    record { event = event; line = together k f numbers integrators combs neighbours taps fir_delay delays held counts delay prototype }
+abbrev pub stepped_in : Thinning → Fixed → F.Event Float → Numbers → Arrays → F.Stepped Line Float
+stepped_in k f event s lent = record { event = event; line = line_in k f s lent }
 
 -- "An output is due when the resampler is on and mu < 1."
 unfoldable pub due_at : Fixed → Float → Bool
@@ -60,10 +71,6 @@ due_at f mu = not (eqb f.phases 0) && lt mu one32
 -- how many of `left` samples complete no sum, where a place is left and no output is due: those that go through the integrators at once
 unfoldable pub at_once : Fixed → Numbers → Bool → ℕ → ℕ
 at_once f s place left = cond place (cond (due_at f s.mu) 0 (min (f.r - 1 - s.sample_counter) left)) 0
-
--- the numbers after k more samples
-abbrev pub counted : Numbers → ℕ → Numbers
-counted s k = record { sample_counter = s.sample_counter + k; wait = s.wait; mu = s.mu; cuts = s.cuts }
 
 -- row 15 of the line held apart: the gain bits of a valid decimator, 64 of another
 unfoldable pub bits_at : Thinning → ℕ → ℕ → ℕ → ℕ

@@ -1,7 +1,7 @@
 // 01, section 6: the gauge line.
 ghost use Rattle.std.specs.Prelude.{◌≡◌, true, length, drop};
 ghost use Rattle.theory.specs.Feeds.{head_of};
-ghost use Rattle.refusal.specs.Outcome.{number_in, told_opened, told_on, none_moved};
+ghost use Rattle.refusal.specs.Outcome.{number_in, told_opened, told_on, told_reset, none_moved};
 ghost use Rattle.q15.specs.FirDecimator.{fir_opened};
 ghost use Rattle.line.specs.Line as L;
 ghost use Rattle.line.specs.Lent as N;
@@ -12,6 +12,7 @@ use crate::opening::answer;
 use crate::settings::Settings;
 use crate::step::LineStep;
 use crate::validity::valid_at;
+use chain::arrays::Arrays;
 use float::PolyphaseResampF32;
 use float::settings::{MOST_CELLS, Setting};
 use half_band::HbfStream;
@@ -157,22 +158,19 @@ impl Line {
         ensures answer { L.told_step result self.new ≡ L.step_outcome self.old place (head_of (drop at samples.now)) }
     {
         let mut n = numbers_in(self);
-        let step = step_lent(
-            &mut n,
-            &mut self.cic.integrator_state,
-            &mut self.cic.comb_state,
-            &mut self.neighbours,
-            &self.fir.taps,
-            &mut self.fir.delay,
-            &mut self.half_band.delays,
-            &mut self.half_band.held,
-            &mut self.half_band.counts,
-            &mut self.resampler.delay,
-            &self.resampler.prototype,
-            samples,
-            at,
-            place,
-        );
+        let mut lent = Arrays {
+            integrators: &mut self.cic.integrator_state,
+            combs: &mut self.cic.comb_state,
+            neighbours: &mut self.neighbours,
+            taps: &self.fir.taps,
+            fir_delay: &mut self.fir.delay,
+            delays: &mut self.half_band.delays,
+            held: &mut self.half_band.held,
+            counts: &mut self.half_band.counts,
+            delay: &mut self.resampler.delay,
+            prototype: &self.resampler.prototype,
+        };
+        let step = step_lent(&mut n, &mut lent, samples, at, place);
         self.put_numbers(n);
         step
     }
@@ -185,28 +183,26 @@ impl Line {
         ensures demand3 { Demand3 self.old samples.now out.old out.new (told_on none_moved result self.new) }
     {
         let mut n = numbers_in(self);
-        let moved = feed_lent(
-            &mut n,
-            &mut self.cic.integrator_state,
-            &mut self.cic.comb_state,
-            &mut self.neighbours,
-            &self.fir.taps,
-            &mut self.fir.delay,
-            &mut self.half_band.delays,
-            &mut self.half_band.held,
-            &mut self.half_band.counts,
-            &mut self.resampler.delay,
-            &self.resampler.prototype,
-            samples,
-            out,
-        );
+        let mut lent = Arrays {
+            integrators: &mut self.cic.integrator_state,
+            combs: &mut self.cic.comb_state,
+            neighbours: &mut self.neighbours,
+            taps: &self.fir.taps,
+            fir_delay: &mut self.fir.delay,
+            delays: &mut self.half_band.delays,
+            held: &mut self.half_band.held,
+            counts: &mut self.half_band.counts,
+            delay: &mut self.resampler.delay,
+            prototype: &self.resampler.prototype,
+        };
+        let moved = feed_lent(&mut n, &mut lent, samples, out);
         self.put_numbers(n);
         moved
     }
 
     // The fresh opening with the line's own settings, taps and prototype. Refusal 15, and no other: a valid line's own settings open.
     pub fn reset(&mut self) -> Result<(), Refusal>
-        ensures answer { record { number = number_in result; state = self.new } ≡ L.reset self.old }
+        ensures answer { told_reset result self.new ≡ L.reset self.old }
         ensures accepted { L.valid self.old ≡ true → number_in result ≡ 0 }
     {
         if !line_valid(self) {

@@ -1,7 +1,8 @@
-// The line held apart: its numbers by value, its arrays lent. No call copies them, so that short feeds cost little.
+// The line held apart: its numbers and its arrays lent. No call copies them, so that short feeds cost little.
 ghost use Rattle.std.specs.Prelude.{◌≡◌, length, drop};
 ghost use Rattle.theory.specs.Feeds.{head_of};
 ghost use Rattle.refusal.specs.Outcome.{told_on, none_moved};
+ghost use Rattle.chain.specs.Lending.{Same};
 ghost use Rattle.line.specs.Line as L;
 ghost use Rattle.line.specs.Together as T;
 ghost use Rattle.line.specs.Lent as N;
@@ -11,13 +12,9 @@ use crate::feed::feed_by;
 use crate::sample::Numbers;
 use crate::step::{LineStep, step_on};
 use crate::validity::{bits_at, valid_at};
+use chain::arrays::Arrays;
 use chain::fixed::Fixed;
-use float::settings::{MOST_CELLS, MOST_TAPS as MOST_PHASE_TAPS};
-use half_band::{DEC_CASCADE_DELAYS, MOST_STAGES};
-use integer::limits::MAX_STAGES;
 use nonrecursive::Thinning;
-use nonrecursive::nonrecursive_decimator::MAX_NEIGHBOURS;
-use q15::MOST_TAPS;
 use refusal::{Moved, Refusal};
 
 // The settings of a line, and the numbers that feeds change.
@@ -83,111 +80,50 @@ impl LineNumbers {
 // One step, where the span has a place or not, with the sample at `at` of those lent as the next, if there is one. Refusal 15.
 pub fn step_lent(
     n: &mut LineNumbers,
-    integrators: &mut [i32; MAX_STAGES],
-    combs: &mut [i32; MAX_STAGES],
-    neighbours: &mut [i32; MAX_NEIGHBOURS],
-    taps: &[i16; MOST_TAPS],
-    fir_delay: &mut [i16; MOST_TAPS],
-    delays: &mut [f32; DEC_CASCADE_DELAYS],
-    held: &mut [f32; MOST_STAGES],
-    counts: &mut [usize; MOST_STAGES],
-    delay: &mut [f32; MOST_PHASE_TAPS],
-    prototype: &[f32; MOST_CELLS],
+    lent: &mut Arrays<'_>,
     samples: &[i32],
     at: usize,
     place: bool,
 ) -> Result<LineStep, Refusal>
-    ensures answer { let before = N.line_of n.old integrators.old combs.old neighbours.old taps.now fir_delay.old delays.old
-        held.old counts.old delay.old prototype.now in
-        let after = N.line_of n.new integrators.new combs.new neighbours.new taps.now fir_delay.new
-        delays.new held.new counts.new delay.new prototype.now in
+    ensures same { Same lent.old lent.new }
+    ensures answer { let before = N.line_in n.old lent.old in
+        let after = N.line_in n.new lent.new in
         L.told_step result after ≡ L.step_outcome before place (head_of (drop at samples.now)) }
 {
     let f = n.fixed();
-    let s = n.changing();
-    if !valid_at(f, s, counts) {
+    let mut s = n.changing();
+    if !valid_at(f, s, lent.counts) {
         return Err(Refusal::State);
     }
-    let thinning = n.thinning;
-    let on = step_on(
-        thinning,
-        f,
-        s,
-        integrators,
-        combs,
-        neighbours,
-        taps,
-        fir_delay,
-        delays,
-        held,
-        counts,
-        delay,
-        prototype,
-        samples,
-        at,
-        place,
-    );
-    n.go_on(on.numbers);
-    Ok(on.step)
+    let step = step_on(n.thinning, f, &mut s, lent, samples, at, place);
+    n.go_on(s);
+    Ok(step)
 }
 
 // Steps until stopped. The clause `demand3` is the whole claim over every list of feeds from an opening; alone it leaves a line open that no feeds lead to,
 // with `answer` and `span` it is exact. Refusal 15, and no other.
 pub fn feed_lent(
     n: &mut LineNumbers,
-    integrators: &mut [i32; MAX_STAGES],
-    combs: &mut [i32; MAX_STAGES],
-    neighbours: &mut [i32; MAX_NEIGHBOURS],
-    taps: &[i16; MOST_TAPS],
-    fir_delay: &mut [i16; MOST_TAPS],
-    delays: &mut [f32; DEC_CASCADE_DELAYS],
-    held: &mut [f32; MOST_STAGES],
-    counts: &mut [usize; MOST_STAGES],
-    delay: &mut [f32; MOST_PHASE_TAPS],
-    prototype: &[f32; MOST_CELLS],
+    lent: &mut Arrays<'_>,
     samples: &[i32],
     out: &mut [f32],
 ) -> Result<Moved, Refusal>
-    ensures answer { let before = N.line_of n.old integrators.old combs.old neighbours.old taps.now fir_delay.old delays.old
-        held.old counts.old delay.old prototype.now in
-        let after = N.line_of n.new integrators.new combs.new neighbours.new taps.now fir_delay.new
-        delays.new held.new counts.new delay.new prototype.now in
+    ensures same { Same lent.old lent.new }
+    ensures answer { let before = N.line_in n.old lent.old in
+        let after = N.line_in n.new lent.new in
         told_on none_moved result after ≡ L.feed_outcome before samples.now (length out.old) }
-    ensures span { let before = N.line_of n.old integrators.old combs.old neighbours.old taps.now fir_delay.old delays.old
-        held.old counts.old delay.old prototype.now in
+    ensures span { let before = N.line_in n.old lent.old in
         out.new ≡ L.feed_span before samples.now out.old }
-    ensures demand3 { let before = N.line_of n.old integrators.old combs.old neighbours.old taps.now fir_delay.old delays.old
-        held.old counts.old delay.old prototype.now in
-        let after = N.line_of n.new integrators.new combs.new neighbours.new taps.now fir_delay.new
-        delays.new held.new counts.new delay.new prototype.now in
+    ensures demand3 { let before = N.line_in n.old lent.old in
+        let after = N.line_in n.new lent.new in
         Demand3 before samples.now out.old out.new (told_on none_moved result after) }
 {
     let f = n.fixed();
-    let s = n.changing();
-    if !valid_at(f, s, counts) {
+    let mut s = n.changing();
+    if !valid_at(f, s, lent.counts) {
         return Err(Refusal::State);
     }
-    let thinning = n.thinning;
-    let ran = feed_by(
-        thinning,
-        f,
-        s,
-        integrators,
-        combs,
-        neighbours,
-        taps,
-        fir_delay,
-        delays,
-        held,
-        counts,
-        delay,
-        prototype,
-        samples,
-        out,
-    );
-    n.go_on(ran.numbers);
-    Ok(Moved {
-        taken: ran.taken,
-        written: ran.written,
-    })
+    let moved = feed_by(n.thinning, f, &mut s, lent, samples, out);
+    n.go_on(s);
+    Ok(moved)
 }

@@ -17,6 +17,7 @@ use refusal::Refusal;
 // 01, section 1: "for g up to 31".
 pub const MAX_BITS: u32 = 31;
 
+#[tactic(auto, unfolding(nonrecursive::specs::EitherKind::settings_number))]
 fn thinning_answer(thinning: Thinning, stages: usize, r: usize) -> Result<(), Refusal>
     ensures { number_in result ≡ settings_number thinning stages r }
 {
@@ -47,6 +48,7 @@ fn depth_answer(depth: usize) -> Result<(), Refusal>
 }
 
 // No phases: off, and nothing else is looked at.
+#[tactic(auto, unfolding(crate::specs::Line::resampler_number), using(float::proofs::PolyphaseOutput::few_cells, float::proofs::PolyphaseOutput::limits_say))]
 fn resampler_answer(phases: usize, taps: usize, cells: usize, step: f32) -> Result<(), Refusal>
     ensures { number_in result ≡ L.resampler_number phases taps cells step }
 {

@@ -1,26 +1,27 @@
-// A sample on its way through sections 1 to 5, the numbers by value and the arrays lent.
+// A sample on its way through sections 1 to 5, the numbers and the arrays lent.
 ghost use Rattle.std.specs.Prelude.{◌≡◌, cond, List, ◌+◌, Float};
 ghost use Rattle.theory.specs.Tally.{held_sum};
 ghost use Rattle.integer.specs.Gain.{gain_bits};
 ghost use Rattle.nonrecursive.specs.EitherKind as E;
-ghost use Rattle.q15.specs.FirDecimator.{fir_sum_out, cut_in};
+ghost use Rattle.q15.specs.FirDecimator.{fir_sum_out};
 ghost use Rattle.half_band.specs.HbfStream.{stream_of, hbf_stream};
 ghost use Rattle.line.specs.Outputs.{most_cuts};
 ghost use Rattle.chain.specs.Chain as C;
 ghost use Rattle.line.specs.Line as L;
 ghost use Rattle.chain.specs.Parts as P;
+ghost use Rattle.chain.specs.Lending as A;
+ghost use Rattle.chain.specs.Lending.{Same, ThinnerStays};
 ghost use Rattle.line.specs.Together as T;
 
+use chain::arrays::Arrays;
 use chain::fixed::Fixed;
 use float::due::shift_in;
 use float::q15_to_f32;
 use float::settings::MOST_TAPS as MOST_PHASE_TAPS;
 use half_band::{DEC_CASCADE_DELAYS, MOST_STAGES, hbf_stream_at};
 use integer::gain::scaled;
-use integer::limits::MAX_STAGES;
-use nonrecursive::nonrecursive_decimator::MAX_NEIGHBOURS;
 use nonrecursive::thinning::thin_at;
-use q15::{MOST_TAPS, Q15, cut_q15, fir_at};
+use q15::{Q15, cut_q15, fir_at};
 
 // Where the count of cut values holds.
 pub const MOST_CUTS: u32 = 4294967295;
@@ -34,48 +35,27 @@ pub struct Numbers {
     pub cuts: u32,
 }
 
-// What came of a level: nothing, or a level that is written at once.
-#[derive(Drop)]
-struct Resampled {
-    out: Option<f32>,
-    mu: f32,
-}
-
-// The same of a value before the FIR, and whether the FIR's sum was cut.
-#[derive(Drop)]
-struct Filtered {
-    out: Option<f32>,
-    cut: bool,
-    wait: usize,
-    mu: f32,
-}
-
-// And of a sample.
-#[derive(Drop)]
-pub struct Sampled {
-    pub out: Option<f32>,
-    pub numbers: Numbers,
-}
-
 // A level into the resampler, or past it where it is off.
-fn resampler_in(f: Fixed, mu: f32, delay: &mut [f32; MOST_PHASE_TAPS], level: f32) -> Resampled
+#[tactic(auto, unfolding(float::specs::PolyphaseResamp::in_line, float::specs::PolyphaseResamp::is_on, float::specs::PolyphaseResamp::consumed))]
+fn resampler_in(
+    f: Fixed,
+    mu: &mut f32,
+    delay: &mut [f32; MOST_PHASE_TAPS],
+    level: f32,
+) -> Option<f32>
     ensures { (h : List Float) →
-        T.Takes C.from5 (P.resampler_of f mu delay.old h) level result.out (P.resampler_of f result.mu delay.new h) }
+        T.Takes C.from5 (P.resampler_of f mu.old delay.old h) level result (P.resampler_of f mu.new delay.new h) }
 {
     if f.phases == 0 {
-        return Resampled {
-            out: Some(level),
-            mu,
-        };
+        return Some(level);
     }
     shift_in(delay, f.taps, level);
-    Resampled {
-        out: None,
-        mu: mu - 1.0,
-    }
+    *mu -= 1.0;
+    None
 }
 
 // A level into the half-band stages, or past them where there are none.
+#[tactic(auto, unfolding(half_band::specs::HbfStream::hbf_stream, half_band::specs::HbfStream::stream, half_band::specs::HbfStream::through))]
 fn stages_in(
     depth: usize,
     delays: &mut [f32; DEC_CASCADE_DELAYS],
@@ -88,77 +68,23 @@ fn stages_in(
         ≡ hbf_stream.next (stream_of depth delays.old held.old counts.old) level }
 {
     if depth == 0 {
-        return Some(level);
+        Some(level)
+    } else {
+        hbf_stream_at(depth, delays, held, counts, level)
     }
-    hbf_stream_at(depth, delays, held, counts, level)
 }
 
 // A level into the half-band stages, and what they make into the resampler.
-fn half_band_in(
-    f: Fixed,
-    mu: f32,
-    delays: &mut [f32; DEC_CASCADE_DELAYS],
-    held: &mut [f32; MOST_STAGES],
-    counts: &mut [usize; MOST_STAGES],
-    delay: &mut [f32; MOST_PHASE_TAPS],
-    level: f32,
-) -> Resampled
-    ensures { (h : List Float) →
-        let half_band = P.half_band_of f delays.old held.old counts.old in
-        let resampler = P.resampler_of f mu delay.old h in
-        let next_half_band = P.half_band_of f delays.new held.new counts.new in
-        let next_resampler = P.resampler_of f result.mu delay.new h in
-        T.Takes C.from4 (half_band, resampler) level result.out (next_half_band, next_resampler) }
+fn half_band_in(f: Fixed, mu: &mut f32, lent: &mut Arrays<'_>, level: f32) -> Option<f32>
+    ensures same { Same lent.old lent.new }
+    ensures stays { ThinnerStays lent.old lent.new × (lent.new.fir_delay.now ≡ lent.old.fir_delay.now) }
+    ensures takes { T.Takes C.from4 (A.half_band_in f lent.old, A.resampler_in f mu.old lent.old) level result
+        (A.half_band_in f lent.new, A.resampler_in f mu.new lent.new) }
 {
-    let made = stages_in(f.depth, delays, held, counts, level);
+    let made = stages_in(f.depth, lent.delays, lent.held, lent.counts, level);
     match made {
-        None => Resampled { out: None, mu },
-        Some(y) => resampler_in(f, mu, delay, y),
-    }
-}
-
-// A value into the FIR, and what it makes into the half-band stages.
-fn fir_in(
-    f: Fixed,
-    wait: usize,
-    mu: f32,
-    taps: &[i16; MOST_TAPS],
-    fir_delay: &mut [i16; MOST_TAPS],
-    delays: &mut [f32; DEC_CASCADE_DELAYS],
-    held: &mut [f32; MOST_STAGES],
-    counts: &mut [usize; MOST_STAGES],
-    delay: &mut [f32; MOST_PHASE_TAPS],
-    value: Q15,
-) -> Filtered
-    ensures takes { (h : List Float) →
-        let fir = P.fir_of f wait taps.now fir_delay.old in
-        let half_band = P.half_band_of f delays.old held.old counts.old in
-        let resampler = P.resampler_of f mu delay.old h in
-        let next_fir = P.fir_of f result.wait taps.now fir_delay.new in
-        let next_half_band = P.half_band_of f delays.new held.new counts.new in
-        let next_resampler = P.resampler_of f result.mu delay.new h in
-        T.Takes C.from3 (fir, (tt, (half_band, resampler))) value.0 result.out
-        (next_fir, (tt, (next_half_band, next_resampler))) }
-    ensures cut { result.cut ≡ cut_in (fir_sum_out (P.fir_of f wait taps.now fir_delay.old) value.0) }
-{
-    let at = fir_at(fir_delay, taps, f.tap_count, f.factor, wait, value);
-    match at.made {
-        None => Filtered {
-            out: None,
-            cut: false,
-            wait: at.wait,
-            mu,
-        },
-        Some(y) => {
-            let level = q15_to_f32(y.value);
-            let on = half_band_in(f, mu, delays, held, counts, delay, level);
-            Filtered {
-                out: on.out,
-                cut: y.cut,
-                wait: at.wait,
-                mu: on.mu,
-            }
-        }
+        None => None,
+        Some(y) => resampler_in(f, mu, lent.delay, y),
     }
 }
 
@@ -169,82 +95,71 @@ pub(crate) fn held_sum(cuts: u32, more: u32) -> u32
     cuts.saturating_add(more)
 }
 
-// The same with one more for a scaled sum and for a sum of the FIR that was cut.
-fn counted(cuts: u32, scaled: bool, filtered: bool) -> u32
-    ensures { result ≡ held_sum most_cuts cuts (cond scaled 1 0 + cond filtered 1 0) }
+// The same with one more for a value that was cut.
+fn counted(cuts: u32, cut: bool) -> u32
+    ensures { result ≡ held_sum most_cuts cuts (cond cut 1 0) }
 {
-    held_sum(cuts, u32::from(scaled) + u32::from(filtered))
+    held_sum(cuts, u32::from(cut))
+}
+
+// A value into the FIR, and what it makes, counted where it was cut, into the half-band stages.
+fn fir_in(f: Fixed, s: &mut Numbers, lent: &mut Arrays<'_>, value: Q15) -> Option<f32>
+    ensures same { Same lent.old lent.new }
+    ensures stays { ThinnerStays lent.old lent.new }
+    ensures takes { T.Takes C.from3 (A.from_fir_in f s.old.wait s.old.mu lent.old) value.0 result
+        (A.from_fir_in f s.new.wait s.new.mu lent.new) }
+    ensures cuts { let sum = fir_sum_out (A.fir_in f s.old.wait lent.old) value.0 in
+        s.new.cuts ≡ held_sum most_cuts s.old.cuts (L.sum_cut sum) }
+    ensures counter { s.new.sample_counter ≡ s.old.sample_counter }
+{
+    let made = fir_at(
+        lent.fir_delay,
+        lent.taps,
+        f.tap_count,
+        f.factor,
+        &mut s.wait,
+        value,
+    );
+    match made {
+        None => None,
+        Some(y) => {
+            s.cuts = counted(s.cuts, y.cut);
+            let level = q15_to_f32(y.value);
+            half_band_in(f, &mut s.mu, lent, level)
+        }
+    }
 }
 
 // A sample into the decimator of this kind, and what it makes, scaled and cut, into the FIR.
 pub(crate) fn sample_in(
     by_neighbours: bool,
     f: Fixed,
-    s: Numbers,
-    integrators: &mut [i32; MAX_STAGES],
-    combs: &mut [i32; MAX_STAGES],
-    neighbours: &mut [i32; MAX_NEIGHBOURS],
-    taps: &[i16; MOST_TAPS],
-    fir_delay: &mut [i16; MOST_TAPS],
-    delays: &mut [f32; DEC_CASCADE_DELAYS],
-    held: &mut [f32; MOST_STAGES],
-    counts: &mut [usize; MOST_STAGES],
-    delay: &mut [f32; MOST_PHASE_TAPS],
+    s: &mut Numbers,
+    lent: &mut Arrays<'_>,
     x: i32,
-) -> Sampled
+) -> Option<f32>
     requires { f.bits ≡ gain_bits f.stages f.r }
-    ensures { (h : List Float) →
-        let before = T.together (E.kind_of by_neighbours) f s integrators.old combs.old neighbours.old taps.now fir_delay.old
-        delays.old held.old counts.old delay.old h in
-        let after = T.together (E.kind_of by_neighbours) f result.numbers integrators.new combs.new neighbours.new taps.now fir_delay.new
-        delays.new held.new counts.new delay.new h in
-        T.Takes L.line before x result.out after }
+    ensures same { Same lent.old lent.new }
+    ensures takes { let before = T.line_in (E.kind_of by_neighbours) f s.old lent.old in
+        let after = T.line_in (E.kind_of by_neighbours) f s.new lent.new in
+        T.Takes L.line before x result after }
 {
-    let mut sample_counter = s.sample_counter;
     let made = thin_at(
         by_neighbours,
         f.stages,
         f.r,
-        &mut sample_counter,
-        integrators,
-        combs,
-        neighbours,
+        &mut s.sample_counter,
+        lent.integrators,
+        lent.combs,
+        lent.neighbours,
         x,
     );
     match made {
-        None => Sampled {
-            out: None,
-            numbers: Numbers {
-                sample_counter,
-                wait: s.wait,
-                mu: s.mu,
-                cuts: s.cuts,
-            },
-        },
+        None => None,
         Some(v) => {
             let first = cut_q15(scaled(v, f.bits) as i64);
-            let on = fir_in(
-                f,
-                s.wait,
-                s.mu,
-                taps,
-                fir_delay,
-                delays,
-                held,
-                counts,
-                delay,
-                first.value,
-            );
-            let cuts = counted(s.cuts, first.cut, on.cut);
-            Sampled {
-                out: on.out,
-                numbers: Numbers {
-                    sample_counter,
-                    wait: on.wait,
-                    mu: on.mu,
-                    cuts,
-                },
-            }
+            s.cuts = counted(s.cuts, first.cut);
+            fir_in(f, s, lent, first.value)
         }
     }
 }

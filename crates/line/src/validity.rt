@@ -12,6 +12,7 @@ use nonrecursive::thinning::thinning_valid;
 use q15::fir_valid_in_line;
 
 // The gain bits of a valid decimator; 64 for another, whose gain is not looked at.
+#[tactic(auto, unfolding(crate::specs::Together::bits_at))]
 pub(crate) fn bits_at(thinning: Thinning, stages: usize, r: usize, sample_counter: usize) -> u32
     ensures { result ≡ T.bits_at thinning stages r sample_counter }
 {

@@ -1,28 +1,21 @@
 -- Outputs made from the last group on: the windows of a group lie on the tape or among the samples, and in place nothing that they read is written yet.
-use mathlib.Core.Path.{◌≡◌, refl, sym, ap, ◌∙◌}
+use mathlib.Core.Path.{◌≡◌, refl, sym, ap, ap₂, ◌∙◌}
 use mathlib.Core.Bool.{Bool, true, false}
-use mathlib.Core.List.{List, [], ◌++◌, append-nil}
+use mathlib.Core.List.{List, ◌++◌, append-nil}
 use Prim.Native.Nat.{ℕ, suc, ◌+◌, ◌-◌, ◌≤◌, ◌<◌, min}
 use native.Mathlib.Omega.{arith}
 use borrow.Author.Tests.{ltb-true, ltb-false}
 use lib.Dec.{ltb}
+use Rattle.std.specs.Prelude.{Option, Some, None, unwrap_or}
 use lib.ListN.{length, get_or, take, drop, length-append, length-drop, drop_of_length-le}
-use lib.Seq.{length-take-le, take-add, take-take, take_all, take-append-le, take-append-add, drop_at, drop-append-add, drop-drop}
+use lib.Seq.{length-take-le, take-add, take-take, take-append-le, take-append-add, drop_at, drop-append-add, drop-drop}
 use lib.Ieee.{Float, nan}
 use Rattle.theory.specs.Lists.{listed}
 use Rattle.theory.proofs.Listed.{length_listed}
 use Rattle.q15.proofs.Filling.{listed_more, listed_ext}
 use Rattle.linear_phase.specs.Windows.{centred_value, window_values, put_in_front, picked, window_start, OnTape}
+use Rattle.linear_phase.proofs.SideBySide.{output_at, values_long}
 use Rattle.linear_phase.proofs.Tapes.{taken_from}
-
--- the list that is picked
-pub picked_first : {A : Type 0} (first : Bool) (a b : List A) → first ≡ true → picked first a b ≡ a
-unfolding picked
-picked_first {A} first a b e = ap (λ (t : Bool). picked t a b) e
-
-pub picked_other : {A : Type 0} (first : Bool) (a b : List A) → first ≡ false → picked first a b ≡ b
-unfolding picked
-picked_other {A} first a b e = ap (λ (t : Bool). picked t a b) e
 
 module _ (long : ℕ) (tape v : List Float) (n : ℕ) (room : long + min n (long + 16) ≤ length tape) (on : OnTape long tape v n) where
   -- delay and samples
@@ -36,7 +29,7 @@ module _ (long : ℕ) (tape v : List Float) (n : ℕ) (room : long + min n (long
   line_long = length-append (take long tape) v ∙ omega (arith, delay_long, on.all)
 
   -- a window that begins in the delay
-  pub on_tape : (i : ℕ) → i < n → i < long + 16 → take (suc long) (drop i tape) ≡ take (suc long) (drop i line)
+  on_tape : (i : ℕ) → i < n → i < long + 16 → take (suc long) (drop i tape) ≡ take (suc long) (drop i line)
   on_tape i h g =
       sym (taken_from tape (long + min n (long + 16)) i (suc long) (omega arith) (omega arith))
       ∙ ap (λ (l : List Float). take (suc long) (drop i l)) front
@@ -50,7 +43,7 @@ module _ (long : ℕ) (tape v : List Float) (n : ℕ) (room : long + min n (long
           ∙ ap (λ (k : ℕ). take (k + min n (long + 16)) line) delay_long
 
   -- the outputs of windows that all begin there
-  pub few_values : (centre antisymmetric : Bool) (c : List Float) (end : ℕ) → end ≤ n → end ≤ long + 16
+  few_values : (centre antisymmetric : Bool) (c : List Float) (end : ℕ) → end ≤ n → end ≤ long + 16
       → window_values centre antisymmetric c long tape end ≡ listed end (λ i. centred_value centre antisymmetric c (take (suc long) (drop i line)))
   unfolding window_values
   few_values centre antisymmetric c end h g =
@@ -62,27 +55,27 @@ module _ (long : ℕ) (tape v : List Float) (n : ℕ) (room : long + min n (long
   among i = sym (drop-append-add (take long tape) v i) ∙ ap (λ (k : ℕ). drop (k + i) line) delay_long
 
   -- the k-th window of the group before `end`, which begins at output `at`; of the span e the places before `end` are as they were
-  module _ (front own : Bool) (at end : ℕ) (e src : List Float) (is_front : front ≡ ltb at long) (begins : at ≡ end - 16) (whole : 16 ≤ end) (most : end ≤ n)
-      (source : own ≡ false → src ≡ v) (unwritten : own ≡ true → take end e ≡ take end v) (same : length e ≡ n) where
+  module _ (front : Bool) (src : Option (List Float)) (at end : ℕ) (e : List Float) (is_front : front ≡ ltb at long) (begins : at ≡ end - 16) (whole : 16 ≤ end) (most : end ≤ n)
+      (source : (s : List Float) → src ≡ Some s → s ≡ v) (unwritten : src ≡ None → take end e ≡ take end v) (same : length e ≡ n) where
     early : front ≡ true → at < long
     early f = ltb-true at long (sym is_front ∙ f)
 
     late : front ≡ false → long ≤ at
     late f = ltb-false at long (sym is_front ∙ f)
 
-    pub group_window : (k : ℕ) → k < end - at → take (suc long) (drop (window_start front at long + k) (picked front tape (picked own e src))) ≡ take (suc long) (drop (at + k) line)
+    group_window : (k : ℕ) → k < end - at → take (suc long) (drop (window_start front at long + k) (picked front tape (unwrap_or src e))) ≡ take (suc long) (drop (at + k) line)
     unfolding window_start picked
-    group_window k l = cases front own refl refl
+    group_window k l = cases front src refl refl
       where
         later : long ≤ at → take (suc long) (drop (at - long + k) v) ≡ take (suc long) (drop (at + k) line)
         later h =
             let i : long + (at - long + k) ≡ at + k = omega arith in
             ap (take (suc long)) (among (at - long + k)) ∙ ap (λ (j : ℕ). take (suc long) (drop j line)) i
 
-        cases : (f o : Bool) → front ≡ f → own ≡ o → take (suc long) (drop (window_start f at long + k) (picked f tape (picked o e src))) ≡ take (suc long) (drop (at + k) line)
+        cases : (f : Bool) (o : Option (List Float)) → front ≡ f → src ≡ o → take (suc long) (drop (window_start f at long + k) (picked f tape (unwrap_or o e))) ≡ take (suc long) (drop (at + k) line)
         cases true o p q = let h = early p in on_tape (at + k) (omega arith) (omega arith)
-        cases false false p q = ap (λ (s : List Float). take (suc long) (drop (at - long + k) s)) (source q) ∙ later (late p)
-        cases false true p q =
+        cases false (Some s) p q = ap (λ (s : List Float). take (suc long) (drop (at - long + k) s)) (source s q) ∙ later (late p)
+        cases false None p q =
             let h = late p in
             sym (taken_from e end (at - long + k) (suc long) (omega arith) (omega arith))
             ∙ ap (λ (s : List Float). take (suc long) (drop (at - long + k) s)) (unwritten q)
@@ -90,97 +83,148 @@ module _ (long : ℕ) (tape v : List Float) (n : ℕ) (room : long + min n (long
             ∙ later h
 
     -- a whole group of windows fits
-    pub group_fits : 1 ≤ long → window_start front at long + (long + 16) ≤ length (picked front tape (picked own e src))
+    group_fits : 1 ≤ long → window_start front at long + (long + 16) ≤ length (picked front tape (unwrap_or src e))
     unfolding window_start picked
-    group_fits some_delay = cases front own refl refl
+    group_fits some_delay = cases front src refl refl
       where
-        cases : (f o : Bool) → front ≡ f → own ≡ o → window_start f at long + (long + 16) ≤ length (picked f tape (picked o e src))
+        cases : (f : Bool) (o : Option (List Float)) → front ≡ f → src ≡ o → window_start f at long + (long + 16) ≤ length (picked f tape (unwrap_or o e))
         cases true o p q = let h = early p in omega arith
-        cases false false p q = let h = late p in omega (arith, ap length (source q), on.all)
-        cases false true p q = let h = late p in omega arith
+        cases false (Some s) p q = let h = late p in omega (arith, ap length (source s q), on.all)
+        cases false None p q = let h = late p in omega arith
 
--- ---- a span whose places from `end` on are written
-module _ (g : ℕ → Float) (d : List Float) where
-  -- the outputs from `end` on
-  abbrev pub from : ℕ → List Float
-  from end = listed (length d - end) (λ k. g (end + k))
+-- ---- a span d whose places from `end` on are written: they are outputs g
+abbrev from : (ℕ → Float) → List Float → ℕ → List Float
+from g d end = listed (length d - end) (λ k. g (end + k))
 
-  pub none_back : d ≡ take (length d) d ++ from (length d)
-  none_back =
-      sym (append-nil d)
-      ∙ ap (λ (l : List Float). l ++ []) (sym (take_all (length d) d (omega arith)))
-      ∙ ap (λ (k : ℕ). take (length d) d ++ listed k (λ k. g (length d + k))) (zero_left (length d))
+pub record Written (g : ℕ → Float) (d e : List Float) (end : ℕ) : Type 0 where
+  pub most : end ≤ length d
+  pub is : e ≡ take end d ++ from g d end
+
+module _ (g : ℕ → Float) (d e : List Float) (end : ℕ) (w : Written g d e end) where
+  front_long : length (take end d) ≡ end
+  front_long = length-take-le end d w.most
+
+  back_long : length e ≡ length d
+  back_long = ap length w.is ∙ length-append (take end d) (from g d end) ∙ omega (arith, w.most, front_long, length_listed (length d - end) (λ k. g (end + k)))
+
+  still : take end e ≡ take end d
+  still = ap (take end) w.is ∙ take-append-le end (take end d) (from g d end) (omega (arith, front_long)) ∙ take-take end end d (omega arith)
+
+  written_behind : drop end e ≡ from g d end
+  written_behind = ap (drop end) w.is ∙ drop_at (take end d) (from g d end) end front_long
+
+  -- a group more
+  group_back : (y part : List Float) (at : ℕ) → at ≤ end → end - at ≤ length y → ((k : ℕ) → k < end - at → get_or y k nan ≡ g (at + k))
+      → part ≡ put_in_front y (take (end - at) (drop at e)) → Written g d (take at e ++ (part ++ drop (end - at) (drop at e))) at
+  unfolding put_in_front
+  group_back y part at before enough each p =
+      record {
+        most = omega (arith, w.most);
+        is =
+            ap (λ (l : List Float). l ++ (part ++ drop (end - at) (drop at e))) (sym (take-take at end e before) ∙ ap (take at) still ∙ take-take at end d before)
+            ∙ ap (λ (l : List Float). take at d ++ (part ++ l)) behind
+            ∙ ap (λ (l : List Float). take at d ++ (l ++ from g d end)) written
+            ∙ ap (λ (l : List Float). take at d ++ l) joined;
+      }
     where
-      zero_left : (k : ℕ) → 0 ≡ k - k
-      zero_left k = omega arith
+      places : length (take (end - at) (drop at e)) ≡ end - at
+      places = length-take-le (end - at) (drop at e) (simp length-drop (omega (arith, w.most, back_long)))
 
-  module _ (e : List Float) (end : ℕ) (most : end ≤ length d) (q : e ≡ take end d ++ from end) where
-    front_long : length (take end d) ≡ end
-    front_long = length-take-le end d most
+      behind : drop (end - at) (drop at e) ≡ from g d end
+      behind =
+          drop-drop (end - at) at e
+          ∙ ap (λ (k : ℕ). drop k e) (up at end before)
+          ∙ written_behind
+        where
+          up : (a b : ℕ) → a ≤ b → a + (b - a) ≡ b
+          up a b h = omega arith
 
-    pub back_long : length e ≡ length d
-    back_long = ap length q ∙ length-append (take end d) (from end) ∙ omega (arith, front_long, length_listed (length d - end) (λ k. g (end + k)))
+      few : min (length y) (length (take (end - at) (drop at e))) ≡ end - at
+      few = omega (arith, places)
 
-    pub still : take end e ≡ take end d
-    still = ap (take end) q ∙ take-append-le end (take end d) (from end) (omega (arith, front_long)) ∙ take-take end end d (omega arith)
+      written : part ≡ listed (end - at) (λ k. g (at + k))
+      written =
+          p
+          ∙ ap (λ (k : ℕ). listed k (λ k. get_or y k nan) ++ drop k (take (end - at) (drop at e))) few
+          ∙ ap (λ (l : List Float). listed (end - at) (λ k. get_or y k nan) ++ l) (drop_of_length-le (take (end - at) (drop at e)) {i = end - at} (omega (arith, places)))
+          ∙ append-nil (listed (end - at) (λ k. get_or y k nan))
+          ∙ listed_ext (end - at) (λ k. get_or y k nan) (λ k. g (at + k)) each
 
-    -- a group more
-    pub group_back : (y part : List Float) (at : ℕ) → at ≤ end → end - at ≤ length y → ((k : ℕ) → k < end - at → get_or y k nan ≡ g (at + k))
-        → part ≡ put_in_front y (take (end - at) (drop at e)) → take at e ++ (part ++ drop (end - at) (drop at e)) ≡ take at d ++ from at
-    unfolding put_in_front
-    group_back y part at before enough each p =
-        ap (λ (l : List Float). l ++ (part ++ drop (end - at) (drop at e))) (sym (take-take at end e before) ∙ ap (take at) still ∙ take-take at end d before)
-        ∙ ap (λ (l : List Float). take at d ++ (part ++ l)) behind
-        ∙ ap (λ (l : List Float). take at d ++ (l ++ from end)) written
-        ∙ ap (λ (l : List Float). take at d ++ l) joined
-      where
-        places : length (take (end - at) (drop at e)) ≡ end - at
-        places = length-take-le (end - at) (drop at e) (simp length-drop (omega (arith, back_long)))
+      joined : listed (end - at) (λ k. g (at + k)) ++ from g d end ≡ from g d at
+      joined =
+          ap (λ (l : List Float). listed (end - at) (λ k. g (at + k)) ++ l)
+          (listed_ext (length d - end) (λ k. g (end + k)) (λ k. g (at + (end - at + k))) (λ k l. ap g (let i : end + k ≡ at + (end - at + k) = omega arith in i)))
+          ∙ listed_more (λ k. g (at + k)) (end - at) (length d - end)
+          ∙ ap (λ (k : ℕ). listed k (λ k. g (at + k))) (let i : end - at + (length d - end) ≡ length d - at = omega (arith, w.most) in i)
 
-        behind : drop (end - at) (drop at e) ≡ from end
-        behind =
-            drop-drop (end - at) at e
-            ∙ ap (λ (k : ℕ). drop k e) (up at end before)
-            ∙ ap (drop end) q
-            ∙ drop_at (take end d) (from end) end front_long
-          where
-            up : (a b : ℕ) → a ≤ b → a + (b - a) ≡ b
-            up a b h = omega arith
+  -- none is left
+  none_back : end ≡ 0 → e ≡ listed (length d) g
+  none_back z =
+      w.is
+      ∙ ap (λ (k : ℕ). take k d ++ from g d k) z
+      ∙ listed_ext (length d - 0) (λ k. g (0 + k)) g (λ k l. ap g (let i : 0 + k ≡ k = omega arith in i))
+      ∙ ap (λ (m : ℕ). listed m g) (let i : length d - 0 ≡ length d = omega arith in i)
 
-        few : min (length y) (length (take (end - at) (drop at e))) ≡ end - at
-        few = omega (arith, places)
+  -- the rest of them, in front
+  all_back : (part : List Float) → part ≡ listed end g → part ++ drop end e ≡ listed (length d) g
+  all_back part p =
+      let k : end + (length d - end) ≡ length d = omega (arith, w.most) in
+      ap (λ (l : List Float). part ++ l) written_behind
+      ∙ ap (λ (l : List Float). l ++ from g d end) p
+      ∙ listed_more g end (length d - end)
+      ∙ ap (λ (m : ℕ). listed m g) k
 
-        written : part ≡ listed (end - at) (λ k. g (at + k))
-        written =
-            p
-            ∙ ap (λ (k : ℕ). listed k (λ k. get_or y k nan) ++ drop k (take (end - at) (drop at e))) few
-            ∙ ap (λ (l : List Float). listed (end - at) (λ k. get_or y k nan) ++ l) (drop_of_length-le (take (end - at) (drop at e)) {i = end - at} (omega (arith, places)))
-            ∙ append-nil (listed (end - at) (λ k. get_or y k nan))
-            ∙ listed_ext (end - at) (λ k. get_or y k nan) (λ k. g (at + k)) each
+-- ---- the outputs of `outputs_back`: of the samples src, or, where none are lent, of the span d itself
+abbrev pub output : Bool → Bool → List Float → ℕ → List Float → Option (List Float) → List Float → ℕ → Float
+output centre minus c long tape src d i = centred_value centre minus c (take (suc long) (drop i (take long tape ++ unwrap_or src d)))
 
-        joined : listed (end - at) (λ k. g (at + k)) ++ from end ≡ from at
-        joined =
-            ap (λ (l : List Float). listed (end - at) (λ k. g (at + k)) ++ l)
-            (listed_ext (length d - end) (λ k. g (end + k)) (λ k. g (at + (end - at + k))) (λ k l. ap g (let i : end + k ≡ at + (end - at + k) = omega arith in i)))
-            ∙ listed_more (λ k. g (at + k)) (end - at) (length d - end)
-            ∙ ap (λ (k : ℕ). listed k (λ k. g (at + k))) (let i : end - at + (length d - end) ≡ length d - at = omega arith in i)
+module _ (centre minus : Bool) (c : List Float) (long : ℕ) (tape : List Float) (src : Option (List Float)) (d e : List Float) (end : ℕ)
+    (b : (1 ≤ length c) × (length c ≤ long) × (long + min (length d) (long + 16) ≤ length tape) × (long + 16 ≤ length tape)) (on : OnTape long tape (unwrap_or src d) (length d))
+    (w : Written (output centre minus c long tape src d) d e end) where
+  abbrev g : ℕ → Float
+  g = output centre minus c long tape src d
 
-    -- none is left
-    pub none_left : end ≡ 0 → e ≡ listed (length d) g
-    none_left z =
-        q
-        ∙ ap (λ (k : ℕ). take k d ++ from k) z
-        ∙ listed_ext (length d - 0) (λ k. g (0 + k)) g (λ k l. ap g (let i : 0 + k ≡ k = omega arith in i))
-        ∙ ap (λ (m : ℕ). listed m g) (let i : length d - 0 ≡ length d = omega arith in i)
+  source : (s : List Float) → src ≡ Some s → s ≡ unwrap_or src d
+  source s q = sym (ap (λ (o : Option (List Float)). unwrap_or o d) q)
 
-    -- the rest of them, in front
-    pub all_back : (part : List Float) → part ≡ listed end g → part ++ drop end e ≡ listed (length d) g
-    all_back part p =
-        let k : end + (length d - end) ≡ length d = omega arith in
-        ap (λ (l : List Float). part ++ l) (ap (drop end) q ∙ drop_at (take end d) (from end) end front_long)
-        ∙ ap (λ (l : List Float). l ++ from end) p
-        ∙ listed_more g end (length d - end)
-        ∙ ap (λ (m : ℕ). listed m g) k
+  unwritten : src ≡ None → take end e ≡ take end (unwrap_or src d)
+  unwritten q = still g d e end w ∙ ap (λ (o : Option (List Float)). take end (unwrap_or o d)) (sym q)
 
-    pub all_back_long : (part : List Float) → length part ≡ end → length (part ++ drop end e) ≡ length d
-    all_back_long part h = length-append part (drop end e) ∙ omega (arith, length-drop end e, back_long)
+  -- the group before `end`: the line that it reads, and where its first window begins there
+  module _ (whole : 16 ≤ end) (samples line : List Float) (start : ℕ) (samples_are : samples ≡ unwrap_or src e) (line_read : line ≡ picked (ltb (end - 16) long) tape samples)
+      (start_is : start ≡ window_start (ltb (end - 16) long) (end - 16) long) where
+    line_is : line ≡ picked (ltb (end - 16) long) tape (unwrap_or src e)
+    line_is = line_read ∙ ap (picked (ltb (end - 16) long) tape) samples_are
+
+    -- its windows lie on the line
+    pub group_room : start + (long + 16) ≤ length line
+    group_room =
+        let fit = group_fits long tape (unwrap_or src d) (length d) b.2 on (ltb (end - 16) long) src (end - 16) end e refl refl whole w.most source unwritten (back_long g d e end w) (omega (arith, b)) in
+        omega (arith, start_is, ap length line_is, fit)
+
+    -- and its outputs are written
+    pub group_written : (y part : List Float) → y ≡ window_values centre minus c long (drop start line) 16 → part ≡ put_in_front y (take (end - (end - 16)) (drop (end - 16) e))
+        → Written g d (take (end - 16) e ++ (part ++ drop (end - (end - 16)) (drop (end - 16) e))) (end - 16)
+    group_written y part q p =
+        group_back g d e end w y part (end - 16) (omega arith) (omega (arith, whole, ap length q, values_long centre minus c long (drop start line) 16))
+        (λ k i. ap (λ (l : List Float). get_or l k nan) q
+        ∙ output_at centre minus c long line 16 start k (omega (arith, i, whole))
+        ∙ ap (centred_value centre minus c)
+        (ap₂ {C = List Float} (λ (f : ℕ) (l : List Float). take (suc long) (drop (f + k) l)) start_is line_is
+        ∙ group_window long tape (unwrap_or src d) (length d) b.2 on (ltb (end - 16) long) src (end - 16) end e refl refl whole w.most source unwritten (back_long g d e end w) k i))
+        p
+
+  -- at last all are
+  pub all_written : end ≡ 0 → e ≡ window_values centre minus c long (take long tape ++ unwrap_or src d) (length d)
+  unfolding window_values
+  all_written z = none_back g d e end w z
+
+  pub few_written : (part : List Float) → end < 16 → part ≡ window_values centre minus c long tape (length (take end e))
+      → part ++ drop end e ≡ window_values centre minus c long (take long tape ++ unwrap_or src d) (length d)
+  unfolding window_values
+  few_written part few p =
+      let n : length (take end e) ≡ end = length-take-le end e (omega (arith, w.most, back_long g d e end w)) in
+      all_back g d e end w part
+      (p
+      ∙ ap (window_values centre minus c long tape) n
+      ∙ few_values long tape (unwrap_or src d) (length d) b.2 on centre minus c end w.most (omega (arith, few)))

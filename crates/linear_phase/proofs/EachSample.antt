@@ -1,11 +1,11 @@
 -- Samples v one by one through a delay d: those that went in have made the first outputs, and the delay makes the others of what is left.
-use mathlib.Core.Path.{◌≡◌, refl, sym, ap, ◌∙◌}
+use mathlib.Core.Path.{◌≡◌, sym, ap, ◌∙◌}
 use mathlib.Core.Bool.{Bool}
-use mathlib.Core.List.{List, [], ◌∷◌, ◌++◌, append-nil}
+use mathlib.Core.List.{List, [], ◌∷◌, ◌++◌}
 use Prim.Native.Nat.{ℕ, suc, ◌+◌, ◌≤◌, ◌<◌}
 use native.Mathlib.Numerals.{add-one}
 use native.Mathlib.Omega.{arith}
-use lib.ListN.{length, get_or, drop, drop_of_length-le}
+use lib.ListN.{length, get_or, drop}
 use lib.Seq.{get_or_at, drop-cons, append_snoc}
 use lib.Ieee.{Float, nan}
 use Rattle.theory.specs.Lists.{listed}
@@ -27,9 +27,6 @@ module _ (odd antisymmetric : Bool) (c d v : List Float) where
     pub made : outs f d v ≡ listed i output ++ outs f delay (drop i v)
     pub left : state f delay (drop i v) ≡ state f d v
     pub long : length delay ≡ length d
-
-  pub at_first : Midway d 0
-  at_first = record { made = refl; left = refl; long = refl }
 
   -- the output of the next one
   pub next_value : (delay : List Float) (i : ℕ) → i < length v → Midway delay i → window_value odd antisymmetric c (delay ++ (get_or v i nan ∷ [])) ≡ output i
@@ -59,17 +56,3 @@ module _ (odd antisymmetric : Bool) (c d v : List Float) where
 
   pub next_midway : (delay next : List Float) (i : ℕ) → i < length v → 1 ≤ length d → next ≡ slid delay (get_or v i nan ∷ []) → Midway delay i → Midway next (i + 1)
   next_midway delay next i h some q m = rw q (slid_midway delay i h some m)
-
-  -- all went in
-  pub last_delay : (delay : List Float) (i : ℕ) → length v ≤ i → Midway delay i → delay ≡ state f d v
-  unfolding linear_phase
-  last_delay delay i h m = ap (state f delay) (sym (drop_of_length-le v {i = i} h)) ∙ m.left
-
-  pub all_made : (delay : List Float) (i : ℕ) → i ≡ length v → Midway delay i → listed i output ≡ outs f d v
-  unfolding linear_phase
-  all_made delay i e m =
-      sym (
-      m.made
-      ∙ ap (λ (r : List Float). listed i output ++ outs f delay r) (drop_of_length-le v {i = i} (omega (arith, e)))
-      ∙ append-nil (listed i output)
-      )

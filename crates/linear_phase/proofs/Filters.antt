@@ -1,10 +1,9 @@
 -- `LinearPhaseFir` runs as the filter of its taps with its delay as the state, so from an opening it makes what 02, §2, says of the whole list.
 use mathlib.Core.Path.{◌≡◌, refl, sym, ap, ap₂, ◌∙◌}
-use mathlib.Core.Bool.{Bool, true, false, not}
+use mathlib.Core.Bool.{Bool}
 use mathlib.Core.List.{List, [], ◌∷◌, ◌++◌}
 use Prim.Native.Nat.{ℕ, ◌-◌, ◌≤◌}
 use native.Mathlib.Omega.{arith}
-use borrow.Author.Tests.{ne_eqb, eq-eqb}
 use lib.ListN.{length, get_or, take, drop, replicate, set}
 use lib.Seq.{take_at}
 use lib.Ieee.{Float, nan}
@@ -18,21 +17,15 @@ use Rattle.half_band.proofs.Moving.{length_slid}
 use Rattle.half_band.proofs.Stored as stored
 use Rattle.linear_phase.specs.LinearPhase.{reach, phase_filtered}
 use Rattle.linear_phase.specs.Windows.{window_value, linear_phase}
-use Rattle.linear_phase.specs.LinearPhaseFir.{phase_taps, phase_delay, with_delay, phase_next, phase_out, phase_fir, phase_fresh, phase_refused, lengths_differ, PhaseStreams}
+use Rattle.linear_phase.specs.LinearPhaseFir.{phase_of, phase_taps, phase_delay, with_delay, phase_next, phase_out, phase_fir, phase_fresh, phase_refused, PhaseStreams}
 use Rattle.linear_phase.specs.declared.linear_phase_fir.LinearPhaseFir.{LinearPhaseFir}
 use Rattle.linear_phase.proofs.WholeList.{reaches, from_zeros, cuts}
 
 abbrev pub Usable : LinearPhaseFir → Type 0
 Usable d = stored.Usable 46 d.m d.taps d.delay
 
-pub room : (d : LinearPhaseFir) → Usable d → reach d.odd d.m ≤ 46
+room : (d : LinearPhaseFir) → Usable d → reach d.odd d.m ≤ 46
 room d u = omega (arith, (reaches d.odd d.m u.least).most, u.most)
-
-pub taps_long : (d : LinearPhaseFir) → Usable d → length (phase_taps d) ≡ d.m
-taps_long d u = stored.taps_long (reach d.odd d.m) 46 d.m d.taps d.delay u (room d u)
-
-pub delay_long : (d : LinearPhaseFir) → Usable d → length (phase_delay d) ≡ reach d.odd d.m
-delay_long d u = stored.window_long (reach d.odd d.m) 46 d.m d.taps d.delay u (room d u)
 
 module _ (d : LinearPhaseFir) (u : Usable d) where
   abbrev build : ℕ → List Float → List Float → LinearPhaseFir
@@ -53,35 +46,34 @@ module _ (d : LinearPhaseFir) (u : Usable d) where
   unfolding phase_fir phase_next phase_out linear_phase
   state_delay v = stored.state_stored (reach d.odd d.m) 46 d.m d.taps d.delay u (room d u) build phase_fir by (λ t a. refl) (λ t a. refl) kept v
 
-  -- with as many places of the delay as `reach` answers
-  module _ (long : ℕ) (e : long ≡ reach d.odd d.m) where
-    pub ready : (1 ≤ length (phase_taps d)) × (length (phase_taps d) ≤ 23) × (length (take long d.delay) ≡ reach d.odd (length (phase_taps d)))
-    ready =
-        let t = taps_long d u in
-        (omega (arith, t, u.least), omega (arith, t, u.most), ap (λ (n : ℕ). length (take n d.delay)) e ∙ delay_long d u ∙ ap (reach d.odd) (sym t))
+-- ---- a half inside its limits, its arrays as long as their types say, and as many places of the delay as `reach` answers
+module _ (M : ℕ) (odd antisymmetric : Bool) (taps delay : List Float) (inside : (1 ≤ M) × (M ≤ 23)) (taps_long : length taps ≡ 23) (delay_long : length delay ≡ 46)
+    (long : ℕ) (e : long ≡ reach odd M) where
+  u : Usable (phase_of M odd antisymmetric taps delay)
+  u = record { least = inside.0; most = inside.1; coeffs_long = taps_long; delay_long = delay_long }
 
-    pub lent : long ≤ length d.delay
-    lent = omega (arith, e, room d u, u.delay_long)
+  abbrev f : Section (List Float) Float Float
+  f = linear_phase odd antisymmetric (take M taps)
 
-    pub outs_are : (v o : List Float) → o ≡ outs (by (phase_taps d)) (take long d.delay) v → o ≡ outs phase_fir d v
-    outs_are v o h = h ∙ ap (λ (n : ℕ). outs (by (phase_taps d)) (take n d.delay) v) e ∙ sym (outs_delay v)
+  pub outs_are : (v o : List Float) → o ≡ outs f (take long delay) v → o ≡ outs phase_fir (phase_of M odd antisymmetric taps delay) v
+  outs_are v o h = h ∙ ap (λ (n : ℕ). outs f (take n delay) v) e ∙ sym (outs_delay (phase_of M odd antisymmetric taps delay) u v)
 
-    pub state_is : (v w : List Float) → w ≡ state (by (phase_taps d)) (take long d.delay) v → build d.m d.taps (w ++ drop long d.delay) ≡ state phase_fir d v
-    state_is v w h =
-        ap (λ (n : ℕ). build d.m d.taps (w ++ drop n d.delay)) e
-        ∙ ap (with_delay d) (h ∙ ap (λ (n : ℕ). state (by (phase_taps d)) (take n d.delay) v) e)
-        ∙ sym (state_delay v)
+  pub state_is : (v w : List Float) → w ≡ state f (take long delay) v → phase_of M odd antisymmetric taps (w ++ drop long delay) ≡ state phase_fir (phase_of M odd antisymmetric taps delay) v
+  state_is v w h =
+      ap (λ (n : ℕ). phase_of M odd antisymmetric taps (w ++ drop n delay)) e
+      ∙ ap (λ (l : List Float). phase_of M odd antisymmetric taps (l ++ drop (reach odd M) delay)) (h ∙ ap (λ (n : ℕ). state f (take n delay) v) e)
+      ∙ sym (state_delay (phase_of M odd antisymmetric taps delay) u v)
 
-    -- one sample
-    pub next_is : (x : Float) (w : List Float) → w ≡ slid (take long d.delay) (x ∷ []) → build d.m d.taps (w ++ drop long d.delay) ≡ phase_next d x
-    unfolding phase_next
-    next_is x w h =
-        ap (λ (n : ℕ). build d.m d.taps (w ++ drop n d.delay)) e
-        ∙ ap (with_delay d) (h ∙ ap (λ (n : ℕ). slid (take n d.delay) (x ∷ [])) e)
+  -- one sample
+  pub next_is : (x : Float) (w : List Float) → w ≡ slid (take long delay) (x ∷ []) → phase_of M odd antisymmetric taps (w ++ drop long delay) ≡ phase_next (phase_of M odd antisymmetric taps delay) x
+  unfolding phase_next
+  next_is x w h =
+      ap (λ (n : ℕ). phase_of M odd antisymmetric taps (w ++ drop n delay)) e
+      ∙ ap (λ (l : List Float). phase_of M odd antisymmetric taps (l ++ drop (reach odd M) delay)) (h ∙ ap (λ (n : ℕ). slid (take n delay) (x ∷ [])) e)
 
-    pub out_is : (x y : Float) → y ≡ window_value d.odd d.antisymmetric (phase_taps d) (take long d.delay ++ (x ∷ [])) → y ≡ phase_out d x
-    unfolding phase_out
-    out_is x y h = h ∙ ap (λ (n : ℕ). window_value d.odd d.antisymmetric (phase_taps d) (take n d.delay ++ (x ∷ []))) e
+  pub out_is : (x y : Float) → y ≡ window_value odd antisymmetric (take M taps) (take long delay ++ (x ∷ [])) → y ≡ phase_out (phase_of M odd antisymmetric taps delay) x
+  unfolding phase_out
+  out_is x y h = h ∙ ap (λ (n : ℕ). window_value odd antisymmetric (take M taps) (take n delay ++ (x ∷ []))) e
 
 -- ---- one sample, or two, one after the other
 only : {A : Type 0} (z : A) (l : List A) → length l ≡ 1 → l ≡ get_or l 0 z ∷ []
@@ -115,15 +107,6 @@ module _ (d : LinearPhaseFir) (v : List Float) where
       ap (λ (s : List Float). set (set s 0 y) 1 z) (both nan span l)
       ∙ ap₂ {C = List Float} (λ (a b : Float). a ∷ b ∷ []) p (r ∙ ap (λ (s : LinearPhaseFir). phase_out s (get_or v 1 nan)) q)
       ∙ ap (outs phase_fir d) (sym (both nan v h))
-
--- the test of 20
-pub differ : (a b : ℕ) → (a ≡ b → ⊥) → lengths_differ a b ≡ true
-unfolding lengths_differ
-differ a b h = ap not (ne_eqb a b h)
-
-pub same_lengths : (a b : ℕ) → a ≡ b → lengths_differ a b ≡ false
-unfolding lengths_differ
-same_lengths a b h = ap not (eq-eqb a b h)
 
 -- an opening
 pub fresh_streams : (odd antisymmetric : Bool) (c : List Float) → Between 1 (length c) 23 → PhaseStreams odd antisymmetric c (phase_fresh odd antisymmetric c)

@@ -3,8 +3,8 @@ use mathlib.Core.Path.{◌≡◌, sym, ap, ap₂, ◌∙◌}
 use mathlib.Core.List.{List, ◌++◌, append-nil, append_assoc}
 use Prim.Native.Nat.{ℕ, ◌+◌, ◌-◌, ◌≤◌, min}
 use native.Mathlib.Omega.{arith}
-use lib.ListN.{length, get_or, take, drop, length-append, length-drop, drop_of_length-le, take-append-drop}
-use lib.Seq.{length-take-le, take_at, take-add, take-take, take_all, take-append-le, drop-drop, drop-append-le, take-append-add}
+use lib.ListN.{length, get_or, take, drop, length-append, length-drop, drop_of_length-le}
+use lib.Seq.{length-take-le, take_at, take-add, take-take, take_all, take-append-le, drop-drop, take-append-add}
 use lib.Ieee.{Float, nan}
 use Rattle.theory.specs.Lists.{listed}
 use Rattle.q15.proofs.Filling.{listed_take}
@@ -29,17 +29,6 @@ put_exact w y s p long room q =
 
 pub put_first : (w : ℕ) (y d s p : List Float) → y ≡ take w d → w ≤ length d → w ≤ length s → p ≡ put_in_front y s → p ≡ take w d ++ drop w s
 put_first w y d s p e h room q = put_whole w y s p (ap length e ∙ length-take-le w d h) room q ∙ ap (λ (l : List Float). l ++ drop w s) e
-
--- the first w of d, put back after their first k have become others
-pub put_back : (w k : ℕ) (d y p next : List Float) → k ≤ w → w ≤ length d → length next ≡ k → y ≡ next ++ drop k (take w d) → p ≡ put_in_front y d → p ≡ next ++ drop k d
-put_back w k d y p next h room long e q =
-    put_whole w y d p (ap length e ∙ y_long) room q
-    ∙ ap (λ (l : List Float). l ++ drop w d) e
-    ∙ append_assoc next (drop k (take w d)) (drop w d)
-    ∙ ap (λ (l : List Float). next ++ l) (sym (drop-append-le k (take w d) (drop w d) (omega (arith, length-take-le w d room))) ∙ ap (drop k) (take-append-drop w d))
-  where
-    y_long : length (next ++ drop k (take w d)) ≡ w
-    y_long = omega (arith, length-append next (drop k (take w d)), length-drop k (take w d), length-take-le w d room)
 
 pub put_from : (w : ℕ) (t y d part : List Float) (k : ℕ) → y ≡ take w d → w ≤ length d → k + w ≤ length t → part ≡ put_in_front y (take (length t - k) (drop k t))
     → take k t ++ (part ++ drop (length t - k) (drop k t)) ≡ take k t ++ (take w d ++ drop (k + w) t)

@@ -4,7 +4,7 @@ use mathlib.Core.List.{List, ◌++◌, append-nil, append_assoc}
 use Prim.Native.Nat.{ℕ, ◌+◌, ◌-◌, ◌≤◌, ◌<◌}
 use native.Mathlib.Nat.{add_comm}
 use native.Mathlib.Omega.{arith}
-use lib.ListN.{length, take, drop, length-append, length-drop, take-append-drop, drop_of_length-le}
+use lib.ListN.{length, take, drop, length-drop, take-append-drop, drop_of_length-le}
 use lib.Seq.{length-take-le, take_at, take-add, drop_at, drop-drop}
 use lib.Ieee.{Float}
 use Rattle.half_band.proofs.Moving.{moved}
@@ -19,9 +19,6 @@ group_put d y part to h e p = put_from 16 d y (drop (to + 1) d) part to (e ∙ a
 module _ (d : List Float) (i : ℕ) (within : i < length d) where
   front : length (take i (drop 1 d)) ≡ i
   front = length-take-le i (drop 1 d) (simp length-drop (omega arith))
-
-  pub moved_long : length (moved d 1 i) ≡ length d
-  moved_long = length-append (take i (drop 1 d)) (drop i d) ∙ omega (arith, front, length-drop i d)
 
   -- what lies from place i on is as it was
   behind : (k : ℕ) → drop (i + k) (moved d 1 i) ≡ drop (i + k) d

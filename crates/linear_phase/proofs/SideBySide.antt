@@ -92,10 +92,6 @@ module _ (long : ℕ) (line : List Float) (n : ℕ) (room : long + n ≤ length 
       sum : ℕ → Float
       sum i = window_acc antisymmetric c (take (suc long) (drop i line)) t
 
-  pub sums_long : (antisymmetric : Bool) (c : List Float) (t : ℕ) → length (window_sums antisymmetric c long line n t) ≡ n
-  unfolding window_sums
-  sums_long antisymmetric c t = length_listed n (λ i. window_acc antisymmetric c (window i) t)
-
   -- no centre
   pub values_plain : (antisymmetric : Bool) (c : List Float) → window_sums antisymmetric c long line n (length c) ≡ window_values false antisymmetric c long line n
   unfolding window_sums window_values centred_value

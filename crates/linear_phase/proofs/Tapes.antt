@@ -1,20 +1,20 @@
 -- Delay and samples in a row: the window of each output lies along them, and the last of them are the next delay.
-use mathlib.Core.Path.{◌≡◌, refl, sym, ap, ◌∙◌}
+use mathlib.Core.Path.{◌≡◌, refl, sym, ap, ap₂, ◌∙◌, subst}
 use mathlib.Core.Bool.{Bool}
 use mathlib.Core.List.{List, [], ◌∷◌, ◌++◌, append-nil, append_assoc}
 use Prim.Native.Nat.{ℕ, zero, suc, ◌+◌, ◌-◌, ◌*◌, ◌≤◌, ◌<◌, min}
 use native.Mathlib.Numerals.{add-one}
 use native.Mathlib.Omega.{arith}
 use lib.ListN.{length, get_or, take, drop, length-drop, take-append-drop}
-use lib.Seq.{length-take-le, take-add, take_all, take-append-le, take-append-add, drop-append-le, drop-append-add, drop-drop}
+use lib.Seq.{length-take-le, take-add, take-take, take_all, take-append-le, take-append-add, drop-append-le, drop-append-add, drop-drop}
 use lib.Ieee.{Float, nan}
 use Rattle.theory.specs.Sections.{Section, outs, state}
 use Rattle.q15.proofs.Filling.{listed_ext, listed_take}
-use Rattle.float.proofs.Laid.{tape_last}
+use Rattle.float.proofs.Laid.{delay_in_front, samples_behind, tape_last}
 use Rattle.half_band.specs.Windows.{slid}
 use Rattle.half_band.proofs.Blocks.{outs_length}
 use Rattle.half_band.proofs.Moving.{length_slid}
-use Rattle.linear_phase.specs.Windows.{has_centre, window_value, window_values, linear_phase, OnTape}
+use Rattle.linear_phase.specs.Windows.{has_centre, window_value, window_values, linear_phase, OnTape, InRow}
 use Rattle.linear_phase.proofs.SideBySide.{rest}
 
 pub outs_long : (odd antisymmetric : Bool) (c d v : List Float) → length (outs (linear_phase odd antisymmetric c) d v) ≡ length v
@@ -64,6 +64,36 @@ module _ (odd antisymmetric : Bool) (c : List Float) where
       made : length (outs (linear_phase odd antisymmetric c) d v) ≡ length v
       made = outs_long odd antisymmetric c d v
 
+-- of what code makes: the samples by another name, and the delay as it stands on a tape
+pub next_of : (odd antisymmetric : Bool) (c d : List Float) {v samples next : List Float} → samples ≡ v → 1 ≤ length d → next ≡ drop (length samples) (d ++ samples)
+    → next ≡ state (linear_phase odd antisymmetric c) d v
+next_of odd antisymmetric c d {v} {samples} e some q = q ∙ ap (λ (l : List Float). drop (length l) (d ++ l)) e ∙ sym (state_on odd antisymmetric c v d some)
+
+pub outs_of : (odd antisymmetric : Bool) (c v tape : List Float) {centre : Bool} {d y : List Float} {long n : ℕ} → centre ≡ has_centre odd antisymmetric → long ≡ length d → length v ≡ n → 1 ≤ length d
+    → take (length d) tape ≡ d → y ≡ window_values centre antisymmetric c long (take long tape ++ v) n → y ≡ outs (linear_phase odd antisymmetric c) d v
+outs_of odd antisymmetric c v tape {centre} {d} {y} {long} {n} b e l some front q =
+    q
+    ∙ ap (λ (k : ℕ). window_values centre antisymmetric c k (take k tape ++ v) n) e
+    ∙ ap (λ (t : List Float). window_values centre antisymmetric c (length d) (t ++ v) n) front
+    ∙ ap₂ {C = List Float} (λ (k : Bool) (m : ℕ). window_values k antisymmetric c (length d) (d ++ v) m) b (sym l)
+    ∙ values_on odd antisymmetric c v d some
+
+-- delay and first samples stand on a tape
+pub in_row : (tape d samples part : List Float) → part ≡ take (length part) samples → min (length samples) (length d + 16) ≤ length part → take (length d + length part) tape ≡ d ++ part
+    → InRow tape d samples
+in_row tape d samples part e h q = record { front = delay_in_front tape d part q; on = record { all = refl; same = behind (min (length samples) (length d + 16)) h } }
+  where
+    behind : (k : ℕ) → k ≤ length part → take k (drop (length d) tape) ≡ take k samples
+    behind k h =
+        sym (take-take k (length part) (drop (length d) tape) h)
+        ∙ ap (take k) (samples_behind tape d part q ∙ e)
+        ∙ take-take k (length part) samples h
+
+-- the same samples by another name
+pub renamed : {tape samples v : List Float} {long k n : ℕ} → samples ≡ v → length v ≡ n → k ≡ long → OnTape k tape samples (length samples) → OnTape long tape v n
+renamed {tape} {samples} {v} {long} {k} {n} e l g on =
+    subst (OnTape long tape v) l (subst (λ (s : List Float). OnTape long tape s (length s)) e (subst (λ (j : ℕ). OnTape j tape samples (length samples)) g on))
+
 -- a window of one that is cut off behind it
 pub taken_from : (l : List Float) (m k s : ℕ) → k + s ≤ m → m ≤ length l → take s (drop k (take m l)) ≡ take s (drop k l)
 taken_from l m k s h g =
@@ -73,19 +103,19 @@ taken_from l m k s h g =
     ∙ ap (λ (z : List Float). take s (drop k z)) (take-append-drop m l)
 
 -- where they are fewer than the delay has, it is a part of the tape
-pub few_last : (tape d v : List Float) → length v < length d → 2 * length d ≤ length tape → take (length d) tape ≡ d → OnTape (length d) tape v (length v)
+pub few_last : (tape d v : List Float) → length v < length d → 2 * length d ≤ length tape → InRow tape d v
     → take (length v + length d - length v) (drop (length v) tape) ≡ drop (length v) (d ++ v)
-few_last tape d v few room front on =
+few_last tape d v few room row =
     tape_last tape d v (omega arith) whole
   where
     all : min (length v) (length d + 16) ≡ length v
     all = omega arith
 
     behind : take (length v) (drop (length d) tape) ≡ v
-    behind = ap (λ (k : ℕ). take k (drop (length d) tape)) (sym all) ∙ on.same ∙ ap (λ (k : ℕ). take k v) all ∙ take_all (length v) v (omega arith)
+    behind = ap (λ (k : ℕ). take k (drop (length d) tape)) (sym all) ∙ row.on.same ∙ ap (λ (k : ℕ). take k v) all ∙ take_all (length v) v (omega arith)
 
     whole : take (length d + length v) tape ≡ d ++ v
-    whole = take-add (length d) (length v) tape ∙ ap (λ (l : List Float). l ++ take (length v) (drop (length d) tape)) front ∙ ap (λ (l : List Float). d ++ l) behind
+    whole = take-add (length d) (length v) tape ∙ ap (λ (l : List Float). l ++ take (length v) (drop (length d) tape)) row.front ∙ ap (λ (l : List Float). d ++ l) behind
 
 pub many_last : (d v : List Float) → length d ≤ length v → take (length v - (length v - length d)) (drop (length v - length d) v) ≡ drop (length v) (d ++ v)
 many_last d v h =

@@ -72,6 +72,11 @@ pub record OnTape (long : ℕ) (tape samples : List Float) (n : ℕ) : Type 0 wh
   pub all : length samples ≡ n
   pub same : take (min n (long + 16)) (drop long tape) ≡ take (min n (long + 16)) samples
 
+-- the delay d in front, and such samples behind it
+pub record InRow (tape d samples : List Float) : Type 0 where
+  pub front : take (length d) tape ≡ d
+  pub on : OnTape (length d) tape samples (length samples)
+
 -- ---- sample by sample, with the delay as the state
 unfoldable pub linear_phase : Bool → Bool → List Float → Section (List Float) Float Float
 linear_phase odd antisymmetric c =

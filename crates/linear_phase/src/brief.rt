@@ -36,9 +36,7 @@ fn push(delay: &mut [f32], x: f32)
     ensures { delay.new ≡ slid delay.old (x ∷ []) }
 {
     let mut later = x;
-    let mut i = delay.len();
-    while 0 < i {
-        i -= 1;
+    for i in (0..delay.len()).rev() {
         let old = delay[i];
         delay[i] = later;
         later = old;

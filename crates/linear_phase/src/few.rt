@@ -2,6 +2,7 @@
 ghost use Rattle.std.specs.Prelude.{◌≡◌, ◌++◌, ◌+◌, ◌-◌, ◌≤◌, length, take};
 ghost use Rattle.linear_phase.specs.Windows as W;
 
+use crate::kinds::Folded;
 use crate::lanes::{outputs_at, put_group};
 use crate::one::sum_with;
 
@@ -33,12 +34,12 @@ fn put_some(span: &mut [f32], y: &[f32], w: usize)
     put_both(span, &y[..w], &y[last..past]);
 }
 
-fn one_four(tape: &[f32], taps: &[f32], long: usize, minus: bool, centre: bool, span: &mut [f32])
-    requires { (length taps.now ≤ long) × (long + 16 ≤ length tape.now) × (2 ≤ length span.old) × (length span.old ≤ 4) }
-    ensures { span.new ≡ W.window_values centre minus taps.now long tape.now (length span.old) }
+fn one_four(tape: &[f32], fir: Folded<'_>, span: &mut [f32])
+    requires { (length fir.taps.now ≤ fir.long) × (fir.long + 16 ≤ length tape.now) × (2 ≤ length span.old) × (length span.old ≤ 4) }
+    ensures { span.new ≡ W.window_values fir.entry.centre fir.entry.minus fir.entry.taps.now fir.entry.long tape.now (length span.old) }
 {
     let mut y = [0.0f32; FOUR];
-    outputs_at(&mut y, tape, taps, long, minus, centre);
+    outputs_at(&mut y, tape, fir);
     if span.len() == FOUR {
         return put_group(span, &y);
     }
@@ -46,63 +47,53 @@ fn one_four(tape: &[f32], taps: &[f32], long: usize, minus: bool, centre: bool, 
 }
 
 // Two groups of N, the second of which ends with the span.
-fn two_of<const N: usize>(
-    tape: &[f32],
-    taps: &[f32],
-    long: usize,
-    minus: bool,
-    centre: bool,
-    span: &mut [f32],
-)
-    requires { (N ≤ 8) × (length taps.now ≤ long) × (long + 16 ≤ length tape.now) × (N ≤ length span.old) × (length span.old ≤ N + N) }
-    ensures { span.new ≡ W.window_values centre minus taps.now long tape.now (length span.old) }
+fn two_of<const N: usize>(tape: &[f32], fir: Folded<'_>, span: &mut [f32])
+    requires { (N ≤ 8) × (length fir.taps.now ≤ fir.long) × (fir.long + 16 ≤ length tape.now) × (N ≤ length span.old) × (length span.old ≤ N + N) }
+    ensures { span.new ≡ W.window_values fir.entry.centre fir.entry.minus fir.entry.taps.now fir.entry.long tape.now (length span.old) }
 {
     let last = span.len() - N;
     let mut y = [0.0f32; N];
-    outputs_at(&mut y, tape, taps, long, minus, centre);
+    outputs_at(&mut y, tape, fir);
     let mut z = [0.0f32; N];
-    outputs_at(&mut z, &tape[last..], taps, long, minus, centre);
+    outputs_at(&mut z, &tape[last..], fir);
     put_both(span, &y, &z);
 }
 
 // The output at the window in front of a line; the centre is added last.
-fn value_at(line: &[f32], taps: &[f32], long: usize, minus: bool, centre: bool) -> f32
-    requires { (1 ≤ length taps.now) × (length taps.now ≤ long) × (long + 1 ≤ length line.now) }
-    ensures { result ≡ W.centred_value centre minus taps.now (take (long + 1) line.now) }
+fn value_at(line: &[f32], fir: Folded<'_>) -> f32
+    requires { (1 ≤ length fir.taps.now) × (length fir.taps.now ≤ fir.long) × (fir.long + 1 ≤ length line.now) }
+    ensures { result ≡ W.centred_value fir.entry.centre fir.entry.minus fir.entry.taps.now (take (fir.entry.long + 1) line.now) }
 {
-    let acc = sum_with(&line[..long], taps, minus, line[long]);
-    if centre { acc + line[taps.len()] } else { acc }
+    let acc = sum_with(&line[..fir.long], fir.taps, fir.minus, line[fir.long]);
+    if fir.centre {
+        acc + line[fir.taps.len()]
+    } else {
+        acc
+    }
 }
 
 // Outputs at the windows from the front of the tape on, one by one.
-fn singles(tape: &[f32], taps: &[f32], long: usize, minus: bool, centre: bool, span: &mut [f32])
-    requires { (1 ≤ length taps.now) × (length taps.now ≤ long) × (long + length span.old ≤ length tape.now) }
-    ensures { span.new ≡ W.window_values centre minus taps.now long tape.now (length span.old) }
+fn singles(tape: &[f32], fir: Folded<'_>, span: &mut [f32])
+    requires { (1 ≤ length fir.taps.now) × (length fir.taps.now ≤ fir.long) × (fir.long + length span.old ≤ length tape.now) }
+    ensures { span.new ≡ W.window_values fir.entry.centre fir.entry.minus fir.entry.taps.now fir.entry.long tape.now (length span.old) }
 {
     for i in 0..span.len() {
-        span[i] = value_at(&tape[i..], taps, long, minus, centre);
+        span[i] = value_at(&tape[i..], fir);
     }
 }
 
-pub(crate) fn few_outputs(
-    tape: &[f32],
-    taps: &[f32],
-    long: usize,
-    minus: bool,
-    centre: bool,
-    span: &mut [f32],
-)
-    requires { (1 ≤ length taps.now) × (length taps.now ≤ long) × (long + 16 ≤ length tape.now) × (length span.old ≤ 16) }
-    ensures { span.new ≡ W.window_values centre minus taps.now long tape.now (length span.old) }
+pub(crate) fn few_outputs(tape: &[f32], fir: Folded<'_>, span: &mut [f32])
+    requires { (1 ≤ length fir.taps.now) × (length fir.taps.now ≤ fir.long) × (fir.long + 16 ≤ length tape.now) × (length span.old ≤ 16) }
+    ensures { span.new ≡ W.window_values fir.entry.centre fir.entry.minus fir.entry.taps.now fir.entry.long tape.now (length span.old) }
 {
     if span.len() <= SINGLES {
-        return singles(tape, taps, long, minus, centre, span);
+        return singles(tape, fir, span);
     }
     if span.len() <= FOUR {
-        return one_four(tape, taps, long, minus, centre, span);
+        return one_four(tape, fir, span);
     }
     if span.len() <= EIGHT {
-        return two_of::<FOUR>(tape, taps, long, minus, centre, span);
+        return two_of::<FOUR>(tape, fir, span);
     }
-    two_of::<EIGHT>(tape, taps, long, minus, centre, span);
+    two_of::<EIGHT>(tape, fir, span);
 }

@@ -1,12 +1,12 @@
 // A block of samples through a delay of the last ones, the oldest first.
-ghost use Rattle.std.specs.Prelude.{◌≡◌, true, ◌++◌, ◌+◌, ◌-◌, ◌*◌, ◌≤◌, ◌<◌, min, length, take, drop, replicate};
+ghost use Rattle.std.specs.Prelude.{◌≡◌, true, ◌++◌, ◌+◌, ◌-◌, ◌*◌, ◌≤◌, ◌<◌, min, length, take, drop, replicate, unwrap_or, option_copied};
 ghost use Rattle.theory.specs.Sections.{state, outs};
 ghost use Rattle.float.specs.F32.{zero32};
 ghost use Rattle.linear_phase.specs.LinearPhase as P;
 ghost use Rattle.linear_phase.specs.Windows as W;
 
-use crate::kinds::Kind;
-use crate::lanes::{LANES, outputs_back, picked, put_all, taken};
+use crate::kinds::{Folded, Kind};
+use crate::lanes::{LANES, outputs_back, put_all, samples_of, taken};
 use crate::limits::{LINEAR_PHASE_DELAYS, MOST_LINEAR_PHASE_TAPS};
 use float::span::{lay, put_at_end};
 
@@ -15,8 +15,8 @@ const TAPE: usize = 2 * LINEAR_PHASE_DELAYS + LANES;
 
 // The last samples are the next delay; where there are fewer than it has places, they stand on the tape behind it.
 fn last_in(delay: &mut [f32], tape: &[f32], samples: &[f32])
-    requires delay_in_bounds { (2 * length delay.old ≤ length tape.now) × (take (length delay.old) tape.now ≡ delay.old) }
-    requires on_tape { W.OnTape (length delay.old) tape.now samples.now (length samples.now) }
+    requires room { 2 * length delay.old ≤ length tape.now }
+    requires on_tape { W.InRow tape.now delay.old samples.now }
     ensures { delay.new ≡ drop (length samples.now) (delay.old ++ samples.now) }
 {
     let n = samples.len();
@@ -29,39 +29,36 @@ fn last_in(delay: &mut [f32], tape: &[f32], samples: &[f32])
     put_at_end(delay, &samples[newest..]);
 }
 
-// The samples of src, or (own) of the span itself, go through the filter, and their outputs into the span.
+// The lent samples, or else those of the span itself, go through the filter, and their outputs into the span. A call of its own would be some 80 instructions of a block.
+#[inline(always)]
 pub(crate) fn filter(
     delay: &mut [f32],
     taps: &[f32],
     kind: Kind,
-    src: &[f32],
-    own: bool,
+    src: Option<&[f32]>,
     span: &mut [f32],
 )
     requires in_bounds { (1 ≤ length taps.now) × (length taps.now ≤ 23) × (length delay.old ≡ P.reach kind.odd (length taps.now)) }
-    requires src_len { length (W.picked own span.old src.now) ≡ length span.old }
-    ensures delay { let samples = W.picked own span.old src.now in
+    requires src_len { length (unwrap_or (option_copied src) span.old) ≡ length span.old }
+    ensures delay { let samples = unwrap_or (option_copied src.entry) span.old in
         delay.new ≡ state (W.linear_phase kind.odd kind.antisymmetric taps.now) delay.old samples }
-    ensures span { let samples = W.picked own span.old src.now in
+    ensures span { let samples = unwrap_or (option_copied src.entry) span.old in
         span.new ≡ outs (W.linear_phase kind.odd kind.antisymmetric taps.now) delay.old samples }
 {
     let long = delay.len();
     let head = span.len().min(long + LANES);
     let centre = kind.has_centre();
-    let samples = picked(own, span, src);
+    let samples = samples_of(src, span);
     let mut tape = [0.0f32; TAPE];
     lay(&mut tape, delay, &samples[..head]);
     last_in(delay, &tape, samples);
-    outputs_back(
-        &tape,
-        src,
-        own,
+    let fir = Folded {
         taps,
         long,
-        kind.antisymmetric,
+        minus: kind.antisymmetric,
         centre,
-        span,
-    );
+    };
+    outputs_back(&tape, src, fir, span);
 }
 
 // Whether the delay is no longer than a group, and the samples are a group at least.
@@ -96,33 +93,30 @@ pub(crate) fn filter_short(
     long: usize,
     taps: &[f32],
     kind: Kind,
-    src: &[f32],
-    own: bool,
+    src: Option<&[f32]>,
     span: &mut [f32],
 )
-    requires in_bounds { (1 ≤ length taps.now) × (length taps.now ≤ 23) × (long ≡ P.reach kind.odd (length taps.now)) × (length delay.old ≡ 46) }
-    requires long_bound { (long ≤ 16) × (16 ≤ length span.old) × (length (W.picked own span.old src.now) ≡ length span.old) }
-    ensures delay { let samples = W.picked own span.old src.now in
+    requires in_bounds { (1 ≤ length taps.now) × (length taps.now ≤ 23) × (long ≡ P.reach kind.odd (length taps.now)) }
+    requires long_bound { (long ≤ 16) × (length delay.old ≡ 46) }
+    requires src_len { (length (unwrap_or (option_copied src) span.old) ≡ length span.old) × (16 ≤ length span.old) }
+    ensures delay { let samples = unwrap_or (option_copied src.entry) span.old in
         let next = state (W.linear_phase kind.odd kind.antisymmetric taps.now) (take long delay.old) samples in
         delay.new ≡ next ++ drop long delay.old }
-    ensures span { let samples = W.picked own span.old src.now in
+    ensures span { let samples = unwrap_or (option_copied src.entry) span.old in
         span.new ≡ outs (W.linear_phase kind.odd kind.antisymmetric taps.now) (take long delay.old) samples }
 {
     let centre = kind.has_centre();
-    let line = picked(own, span, src);
+    let line = samples_of(src, span);
     let mut tape = [0.0f32; SHORT_TAPE];
     lay_groups(&mut tape, delay, long, line);
     last_in(&mut delay[..long], &tape, line);
-    outputs_back(
-        &tape,
-        src,
-        own,
+    let fir = Folded {
         taps,
         long,
-        kind.antisymmetric,
+        minus: kind.antisymmetric,
         centre,
-        span,
-    );
+    };
+    outputs_back(&tape, src, fir, span);
 }
 
 // The places for the longest delay, and for fewer samples than a group: a multiple of sixteen, which the compiler clears without a call.
@@ -133,35 +127,31 @@ pub(crate) fn filter_few(
     delay: &mut [f32],
     taps: &[f32],
     kind: Kind,
-    src: &[f32],
-    own: bool,
+    src: Option<&[f32]>,
     span: &mut [f32],
 )
     requires in_bounds { (1 ≤ length taps.now) × (length taps.now ≤ 23) × (length delay.old ≡ P.reach kind.odd (length taps.now)) }
-    requires src_len { (length (W.picked own span.old src.now) ≡ length span.old) × (length span.old < 16) }
-    ensures delay { let samples = W.picked own span.old src.now in
+    requires src_len { (length (unwrap_or (option_copied src) span.old) ≡ length span.old) × (length span.old < 16) }
+    ensures delay { let samples = unwrap_or (option_copied src.entry) span.old in
         delay.new ≡ state (W.linear_phase kind.odd kind.antisymmetric taps.now) delay.old samples }
-    ensures span { let samples = W.picked own span.old src.now in
+    ensures span { let samples = unwrap_or (option_copied src.entry) span.old in
         span.new ≡ outs (W.linear_phase kind.odd kind.antisymmetric taps.now) delay.old samples }
 {
     let long = delay.len();
     let n = span.len();
     let past = n + long;
     let centre = kind.has_centre();
-    let lent = picked(own, span, src);
+    let lent = samples_of(src, span);
     let mut tape = [0.0f32; FEW_TAPE];
     lay(&mut tape, delay, lent);
     put_at_end(delay, &tape[n..past]);
-    outputs_back(
-        &tape,
-        src,
-        own,
+    let fir = Folded {
         taps,
         long,
-        kind.antisymmetric,
+        minus: kind.antisymmetric,
         centre,
-        span,
-    );
+    };
+    outputs_back(&tape, src, fir, span);
 }
 
 // The taps in front, and zeros behind them.

@@ -1,9 +1,9 @@
 // The four kinds of filters, how far a delay reaches back, and a pair of samples as far from a window's two ends.
-ghost use Rattle.std.specs.Prelude.{◌≡◌, ◌≤◌};
+ghost use Rattle.std.specs.Prelude.{◌≡◌, ◌*◌, ◌≤◌};
 ghost use Rattle.linear_phase.specs.LinearPhase as P;
 ghost use Rattle.linear_phase.specs.Windows.{has_centre};
 
-// Of odd length, with a centre sample, or of even; the earlier sample of a pair subtracted, or added.
+// Of odd length, with a centre sample, or of even; the earlier sample of a pair subtracted, or added. Two booleans, not one enum of four: so the state that C holds has them, and the definitions.
 #[derive(Clone, Copy)]
 pub struct Kind {
     pub odd: bool,
@@ -15,7 +15,8 @@ impl Kind {
     #[tactic(auto, unfolding(crate::specs::LinearPhase::reach))]
     pub(crate) fn reach(self, m: usize) -> usize
         requires { (1 ≤ m) × (m ≤ 23) }
-        ensures { result ≡ P.reach self.odd m }
+        ensures value { result ≡ P.reach self.odd m }
+        ensures bounds { (m ≤ result) × (result ≤ 2 * m) }
     {
         if self.odd { 2 * m } else { 2 * m - 1 }
     }
@@ -27,6 +28,15 @@ impl Kind {
     {
         self.odd && !self.antisymmetric
     }
+}
+
+// What an output is made with: the taps of one half, the delay's length, whether the earlier sample of a pair is subtracted, and whether there is a centre sample.
+#[derive(Clone, Copy)]
+pub(crate) struct Folded<'a> {
+    pub taps: &'a [f32],
+    pub long: usize,
+    pub minus: bool,
+    pub centre: bool,
 }
 
 // new ± old

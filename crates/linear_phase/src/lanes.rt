@@ -1,9 +1,9 @@
 // Outputs of samples in a row, so many sums side by side that the machine adds several at once; each sum keeps its own order.
-ghost use Rattle.std.specs.Prelude.{◌≡◌, false, ◌++◌, ◌+◌, ◌≤◌, min, length, take};
+ghost use Rattle.std.specs.Prelude.{◌≡◌, false, ◌++◌, ◌+◌, ◌≤◌, min, length, take, drop, unwrap_or, option_copied};
 ghost use Rattle.linear_phase.specs.Windows as W;
 
 use crate::few::few_outputs;
-use crate::kinds::pair;
+use crate::kinds::{Folded, pair};
 
 // The sums of a whole group, which go side by side.
 pub(crate) const LANES: usize = 16;
@@ -29,41 +29,36 @@ fn add_centres(acc: &mut [f32], centres: &[f32])
 }
 
 // The sums of pairs at the windows that begin at the first places of the line, as many as there are zeros to begin with, t ascending.
-fn sums_at(acc: &mut [f32], line: &[f32], taps: &[f32], long: usize, minus: bool)
-    requires { (length taps.now ≤ long) × (long + length acc.old ≤ length line.now) × (acc.old ≡ W.no_sums (length acc.old)) }
-    ensures { acc.new ≡ W.window_sums minus taps.now long line.now (length acc.old) (length taps.now) }
+fn sums_at(acc: &mut [f32], line: &[f32], fir: Folded<'_>)
+    requires { (length fir.taps.now ≤ fir.long) × (fir.long + length acc.old ≤ length line.now) × (acc.old ≡ W.no_sums (length acc.old)) }
+    ensures { acc.new ≡ W.window_sums fir.entry.minus fir.entry.taps.now fir.entry.long line.now (length acc.old) (length fir.entry.taps.now) }
 {
+    let taps = fir.taps;
+    let long = fir.long;
     for t in 0..taps.len() {
-        add_pairs(acc, &line[t..], &line[long - t..], taps[t], minus);
+        add_pairs(acc, &line[t..], &line[long - t..], taps[t], fir.minus);
     }
 }
 
 // The outputs at these windows; the centre is added last. How many there are is known where the array of them is made: so one body serves groups of any size, and the compiler keeps each in
 // registers.
-pub(crate) fn outputs_at(
-    acc: &mut [f32],
-    line: &[f32],
-    taps: &[f32],
-    long: usize,
-    minus: bool,
-    centre: bool,
-)
-    requires { (length taps.now ≤ long) × (long + length acc.old ≤ length line.now) × (acc.old ≡ W.no_sums (length acc.old)) }
-    ensures { acc.new ≡ W.window_values centre minus taps.now long line.now (length acc.old) }
+pub(crate) fn outputs_at(acc: &mut [f32], line: &[f32], fir: Folded<'_>)
+    requires { (length fir.taps.now ≤ fir.long) × (fir.long + length acc.old ≤ length line.now) × (acc.old ≡ W.no_sums (length acc.old)) }
+    ensures { acc.new ≡ W.window_values fir.entry.centre fir.entry.minus fir.entry.taps.now fir.entry.long line.now (length acc.old) }
 {
-    sums_at(acc, line, taps, long, minus);
-    if centre {
-        add_centres(acc, &line[taps.len()..]);
+    sums_at(acc, line, fir);
+    if fir.centre {
+        add_centres(acc, &line[fir.taps.len()..]);
     }
 }
 
-// A whole group of them.
-fn group_at(line: &[f32], taps: &[f32], long: usize, minus: bool, centre: bool) -> [f32; LANES]
-    requires { (length taps.now ≤ long) × (long + 16 ≤ length line.now) }
-    ensures { result ≡ W.window_values centre minus taps.now long line.now 16 }
+// A whole group of them, at the windows from a place of the line on.
+fn group_at(line: &[f32], from: usize, fir: Folded<'_>) -> [f32; LANES]
+    requires { (length fir.taps.now ≤ fir.long) × (from + (fir.long + 16) ≤ length line.now) }
+    ensures { result ≡ W.window_values fir.entry.centre fir.entry.minus fir.entry.taps.now fir.entry.long (drop from line.now) 16 }
 {
     let mut y = [0.0f32; LANES];
-    outputs_at(&mut y, line, taps, long, minus, centre);
+    outputs_at(&mut y, &line[from..], fir);
     y
 }
 
@@ -77,7 +72,7 @@ pub(crate) fn taken(line: &[f32]) -> [f32; LANES]
     y
 }
 
-// All of a group in front of a span.
+// All of a group in front of a span. By hand: with copy_from_slice, three outputs of a filter take 24 instructions more.
 pub(crate) fn put_group(span: &mut [f32], y: &[f32])
     requires { length y.now ≤ length span.old }
     ensures { span.new ≡ W.put_in_front y.now span.old }
@@ -97,10 +92,20 @@ pub(crate) fn put_all(span: &mut [f32], y: [f32; LANES])
 
 // One of two lines.
 #[tactic(auto, unfolding(crate::specs::Windows::picked))]
-pub(crate) fn picked<'a>(first: bool, a: &'a [f32], b: &'a [f32]) -> &'a [f32]
+fn picked<'a>(first: bool, a: &'a [f32], b: &'a [f32]) -> &'a [f32]
     ensures { result.now ≡ W.picked first a.now b.now }
 {
     if first { a } else { b }
+}
+
+// The lent samples, or else those of the span itself.
+pub(crate) fn samples_of<'a>(src: Option<&'a [f32]>, span: &'a [f32]) -> &'a [f32]
+    ensures { result.now ≡ unwrap_or (option_copied src.entry) span.now }
+{
+    match src {
+        Some(lent) => lent,
+        None => span,
+    }
 }
 
 // Where the window of output `at` begins: on the tape, which has the delay in front, or among the samples.
@@ -112,37 +117,34 @@ fn window_start(front: bool, at: usize, long: usize) -> usize
     if front { at } else { at - long }
 }
 
-// An output of each sample into the span, the last whole group first. The samples are those of src, or (own) of the span itself, whose places before the group
-// are still samples. The windows that begin in the delay are read on the tape, which has the delay and the first samples; so are those of the few outputs
+// An output of each sample into the span, the last whole group first. The samples are the lent ones, or else those of the span itself, whose places before the
+// group are still samples. The windows that begin in the delay are read on the tape, which has the delay and the first samples; so are those of the few outputs
 // before the first whole group.
 pub(crate) fn outputs_back<'a>(
     tape: &'a [f32],
-    src: &'a [f32],
-    own: bool,
-    taps: &[f32],
-    long: usize,
-    minus: bool,
-    centre: bool,
+    src: Option<&'a [f32]>,
+    fir: Folded<'_>,
     span: &mut [f32],
 )
-    requires in_bounds { (1 ≤ length taps.now) × (length taps.now ≤ long) × (long + min (length span.old) (long + 16) ≤ length tape.now) × (long + 16 ≤ length tape.now) }
-    requires on_tape { W.OnTape long tape.now (W.picked own span.old src.now) (length span.old) }
-    ensures { let z = take long tape.now ++ W.picked own span.old src.now in
-        span.new ≡ W.window_values centre minus taps.now long z (length span.old) }
+    requires in_bounds { (1 ≤ length fir.taps.now) × (length fir.taps.now ≤ fir.long) × (fir.long + min (length span.old) (fir.long + 16) ≤ length tape.now) × (fir.long + 16 ≤ length tape.now) }
+    requires on_tape { W.OnTape fir.long tape.now (unwrap_or (option_copied src) span.old) (length span.old) }
+    ensures { let z = take fir.entry.long tape.now ++ unwrap_or (option_copied src.entry) span.old in
+        span.new ≡ W.window_values fir.entry.centre fir.entry.minus fir.entry.taps.now fir.entry.long z (length span.old) }
 {
+    // By hand: it goes by groups from the end on, and while one is written the samples before it are read; `end` tells what is left in front.
     let mut end = span.len();
     while LANES <= end {
         let at = end - LANES;
-        let front = at < long;
-        let from = window_start(front, at, long);
-        let samples = picked(own, span, src);
+        let front = at < fir.long;
+        let from = window_start(front, at, fir.long);
+        let samples = samples_of(src, span);
         let line = picked(front, tape, samples);
-        let y = group_at(&line[from..], taps, long, minus, centre);
+        let y = group_at(line, from, fir);
         put_all(&mut span[at..end], y);
         end = at;
     }
     if end == 0 {
         return;
     }
-    few_outputs(tape, taps, long, minus, centre, &mut span[..end]);
+    few_outputs(tape, fir, &mut span[..end]);
 }

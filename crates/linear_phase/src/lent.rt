@@ -1,8 +1,7 @@
 // Samples through a filter inside its limits, whose taps and delay are lent: the roads that they take, by how many they are.
-ghost use Rattle.std.specs.Prelude.{◌≡◌, ◌≤◌, length};
+ghost use Rattle.std.specs.Prelude.{◌≡◌, ◌≤◌, length, unwrap_or, option_copied};
 ghost use Rattle.theory.specs.Sections.{state, outs};
 ghost use Rattle.linear_phase.specs.LinearPhaseFir as P;
-ghost use Rattle.linear_phase.specs.Windows as W;
 
 use crate::brief::{filter_brief, is_brief};
 use crate::filter::{filter, filter_few, filter_short, is_short};
@@ -56,8 +55,7 @@ impl Half {
             span[0] = self.process(taps, delay, span[0]);
             return;
         }
-        // No other line is read, so the taps are lent as one.
-        self.along(taps, delay, taps, true, span);
+        self.along(taps, delay, None, span);
     }
 
     // The samples of src, likewise, an output of each in the span: one or two in the lent delay, and a few through a short one in registers.
@@ -89,33 +87,33 @@ impl Half {
             span[1] = z;
             return;
         }
-        self.along(taps, delay, src, false, span);
+        self.along(taps, delay, Some(src), span);
     }
 
-    // The samples of src, or (own) of the span itself, likewise, along a tape.
+    // The lent samples, or else those of the span itself, likewise, along a tape. Two calls, and by itself the compiler inlines neither: that is some 80 instructions of a short block.
+    #[inline(always)]
     fn along(
         self,
         taps: &[f32; MOST_LINEAR_PHASE_TAPS],
         delay: &mut [f32; LINEAR_PHASE_DELAYS],
-        src: &[f32],
-        own: bool,
+        src: Option<&[f32]>,
         span: &mut [f32],
     )
-        requires { length (W.picked own span.old src.now) ≡ length span.old }
+        requires { length (unwrap_or (option_copied src) span.old) ≡ length span.old }
         ensures delay { let before = P.phase_of self.m self.kind.odd self.kind.antisymmetric taps.now delay.old in
             let after = P.phase_of self.m self.kind.odd self.kind.antisymmetric taps.now delay.new in
-            after ≡ state P.phase_fir before (W.picked own span.old src.now) }
+            after ≡ state P.phase_fir before (unwrap_or (option_copied src.entry) span.old) }
         ensures span { let before = P.phase_of self.m self.kind.odd self.kind.antisymmetric taps.now delay.old in
-            span.new ≡ outs P.phase_fir before (W.picked own span.old src.now) }
+            span.new ≡ outs P.phase_fir before (unwrap_or (option_copied src.entry) span.old) }
     {
         let m = self.m;
         let long = self.kind.reach(m);
         if span.len() < LANES {
-            return filter_few(&mut delay[..long], &taps[..m], self.kind, src, own, span);
+            return filter_few(&mut delay[..long], &taps[..m], self.kind, src, span);
         }
         if is_short(long, span.len()) {
-            return filter_short(delay, long, &taps[..m], self.kind, src, own, span);
+            return filter_short(delay, long, &taps[..m], self.kind, src, span);
         }
-        filter(&mut delay[..long], &taps[..m], self.kind, src, own, span);
+        filter(&mut delay[..long], &taps[..m], self.kind, src, span);
     }
 }

@@ -1,6 +1,6 @@
 // 02, §2: linear-phase FIR filters of even or odd length, symmetric or antisymmetric, whose two halves share M taps.
 ghost use Rattle.std.specs.Prelude.{◌≡◌, true, false, length};
-ghost use Rattle.refusal.specs.Outcome.{told, told_on, told_opened, number_in};
+ghost use Rattle.refusal.specs.Outcome.{told, told_on, told_opened, told_reset, number_in};
 ghost use Rattle.float.specs.F32.{zero32};
 ghost use Rattle.linear_phase.specs.LinearPhaseFir as P;
 
@@ -185,7 +185,7 @@ impl LinearPhaseFir {
         process_at(self.m, kind, &self.taps, &mut self.delay, x)
     }
 
-    // The samples of the span, their outputs in their places. Refusal 15.
+    // The samples of the span, their outputs in their places. Refusal 15. As one sample it hands the state's parts on.
     pub fn inplace(&mut self, span: &mut [f32]) -> Result<usize, Refusal>
         ensures answer { told_on 0 result self.new ≡ P.phase_inplace self.old span.old }
         ensures span { span.new ≡ P.phase_inplace_span self.old span.old }
@@ -205,7 +205,7 @@ impl LinearPhaseFir {
 
     // A fresh opening with the same taps, of the same kind. Refusal 15: the state stays.
     pub fn reset(&mut self) -> Result<(), Refusal>
-        ensures answer { record { number = number_in result; state = self.new } ≡ P.phase_reset self.old }
+        ensures answer { told_reset result self.new ≡ P.phase_reset self.old }
     {
         if outside(self.m, 1, MOST_LINEAR_PHASE_TAPS) {
             return Err(Refusal::State);

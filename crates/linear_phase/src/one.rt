@@ -43,7 +43,7 @@ fn move_group(delay: &mut [f32], to: usize)
     put_all(&mut delay[to..], y);
 }
 
-// The places of whole groups move down by one; where these end.
+// The places of whole groups move down by one; where these end. The loop counts by hand: it goes by groups, and the answer is the count that it ends with.
 fn move_groups(delay: &mut [f32]) -> usize
     requires { 1 ≤ length delay.old }
     ensures { (result < length delay.old) × (delay.new ≡ take result (drop 1 delay.old) ++ drop result delay.old) }
@@ -61,10 +61,7 @@ fn move_down(delay: &mut [f32])
     requires { 1 ≤ length delay.old }
     ensures { delay.new ≡ drop 1 delay.old ++ drop (length delay.old - 1) delay.old }
 {
-    let last = delay.len() - 1;
-    for i in 0..last {
-        delay[i] = delay[i + 1];
-    }
+    delay.copy_within(1.., 0);
 }
 
 // The delay moves down by one place, and x stands at its end.

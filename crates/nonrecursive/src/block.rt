@@ -94,7 +94,7 @@ pub(crate) struct Progress {
     pub place: usize,
 }
 
-// The samples up to `to`, one by one, while the span has a place.
+// The samples up to `to`, one by one, while the span has a place. No range: how many samples a place needs is known as they come.
 fn one_by_one(
     stages: usize,
     r: usize,
@@ -142,7 +142,7 @@ fn lay(tape: &mut [i32], samples: &[i32])
     }
 }
 
-// So many frames from `taken` on, where the place is 0, go through the halvings on a tape.
+// So many frames from `taken` on, where the place is 0, go through the halvings on a tape. Both slices are lent whole, since the clauses speak of the block's.
 fn chunk(
     stages: usize,
     r: usize,
@@ -164,7 +164,7 @@ fn chunk(
     dst[written..written + count].copy_from_slice(&tape[..count]);
 }
 
-// Whole frames, where the place is 0: as many as the samples and the span have room for.
+// Whole frames, where the place is 0: as many as the samples and the span have room for. No range: a turn has as many as the tape holds of those that are left.
 fn frames(
     stages: usize,
     r: usize,

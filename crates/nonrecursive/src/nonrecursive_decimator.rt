@@ -48,7 +48,7 @@ pub(crate) fn sum_neighbours(stages: usize, neighbours: &mut [i32], input: i32) 
     pass::<Neighbour>(stages, neighbours, input)
 }
 
-// A value goes through the halvings of r: the first of two ends at its halving, the second goes on.
+// A value goes through the halvings of r: the first of two ends at its halving, the second goes on. No range: r is halved until it is used up.
 fn thin(stages: usize, r: usize, place: usize, neighbours: &mut [i32], input: i32) -> Option<i32>
     ensures { (neighbours.new ≡ (D.thinned stages (D.halvings r) neighbours.old place input).state) × (result ≡ (D.thinned stages (D.halvings r) neighbours.old place input).out) }
 {

@@ -51,7 +51,7 @@ pub fn prototype_by_phase(
     Ok(written)
 }
 
-// The inverse: rows, one for each phase, put back into a prototype with tap t of phase p at t × P + p. Refused by 12 and 13.
+// The inverse: rows, one for each phase, put back into a prototype with tap t of phase p at t × P + p. Refused by 12 and 13. Two names of the paper over one turn.
 pub fn prototype_by_tap(
     phases: usize,
     taps: usize,

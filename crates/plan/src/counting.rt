@@ -16,7 +16,7 @@ pub struct Clock {
     pub left: usize,
     // Samples from one such value to the next.
     pub period: usize,
-    // Whether there is a resampler. Without one a value is written as it comes.
+    // Whether there is a resampler. Without one a value is written as it comes; step and mu are zeros then, as the definition has them, and no Option.
     pub on: bool,
     pub step: f32,
     pub mu: f32,

@@ -158,13 +158,12 @@ fn one_by_one(
     let mut cuts = 0;
     let mut next = wait;
     for i in 0..src.len() {
-        let step = fir_at(delay, taps, t, factor, next, Q15(src[i]));
-        if let Some(y) = step.made {
+        let step = fir_at(delay, taps, t, factor, &mut next, Q15(src[i]));
+        if let Some(y) = step {
             dst[made] = y.value.0;
             made += 1;
             cuts += usize::from(y.cut);
         }
-        next = step.wait;
     }
     FirBlockAt {
         made,

@@ -1,7 +1,7 @@
 // 01, section 3: FIR decimation of a stream, the line's part.
 ghost use Rattle.std.specs.Prelude.{◌≡◌, cond, ◌≤◌, length, IfOk};
 ghost use Rattle.std.specs.Int.{w16};
-ghost use Rattle.refusal.specs.Outcome.{number_in, told_opened};
+ghost use Rattle.refusal.specs.Outcome.{number_in, told_opened, told_reset};
 ghost use Rattle.q15.specs.Fixed.{is_cut};
 ghost use Rattle.q15.specs.PolyphaseDecimate.{window_sum, filtered};
 ghost use Rattle.q15.specs.FirDecimator.{most_taps, fir_state, fir_zeros, stored, moved, fir_next, fir_out, fir_sum_out, cut_in, settings_number, settings_number_in_line, bad_wait, fir_valid, fir_valid_in_line, fir_step, padded, fresh, fir_opened, fir_reset, made_value, made_cut, told_step, Streams};
@@ -23,13 +23,6 @@ pub struct FirDecimator {
     pub tap_count: usize,
     pub factor: usize,
     pub delay: [i16; MOST_TAPS],
-    pub wait: usize,
-}
-
-// What comes of a sample, and the next wait.
-#[derive(Clone, Copy, Debug)]
-pub struct FirAt {
-    pub made: Option<Cut>,
     pub wait: usize,
 }
 
@@ -69,40 +62,33 @@ pub fn fir_at(
     taps: &[i16; MOST_TAPS],
     t: usize,
     factor: usize,
-    wait: usize,
+    wait: &mut usize,
     sample: Q15,
-) -> FirAt
-    ensures answer { made_value result.made ≡ fir_out (fir_state taps.now t factor delay.old wait) sample.0 }
-    ensures state { fir_state taps.now t factor delay.new result.wait ≡ fir_next (fir_state taps.now t factor delay.old wait) sample.0 }
-    ensures cut { made_cut result.made ≡ cut_in (fir_sum_out (fir_state taps.now t factor delay.old wait) sample.0) }
+) -> Option<Cut>
+    ensures answer { made_value result ≡ fir_out (fir_state taps.now t factor delay.old wait.old) sample.0 }
+    ensures state { fir_state taps.now t factor delay.new wait.new ≡ fir_next (fir_state taps.now t factor delay.old wait.old) sample.0 }
+    ensures cut { made_cut result ≡ cut_in (fir_sum_out (fir_state taps.now t factor delay.old wait.old) sample.0) }
 {
     if t == 0 {
         let handed_on = Cut {
             value: sample,
             cut: false,
         };
-        return FirAt {
-            made: Some(handed_on),
-            wait,
-        };
+        return Some(handed_on);
     }
     // No state that an opening takes: there is no window.
     if MOST_TAPS < t {
-        return FirAt { made: None, wait };
+        return None;
     }
-    store(delay, t, wait, sample.0);
-    if wait > 1 {
-        return FirAt {
-            made: None,
-            wait: wait - 1,
-        };
+    store(delay, t, *wait, sample.0);
+    if *wait > 1 {
+        *wait -= 1;
+        return None;
     }
     let y = fir_output(delay, taps, t);
     move_down(delay, t, factor);
-    FirAt {
-        made: Some(y),
-        wait: factor,
-    }
+    *wait = factor;
+    Some(y)
 }
 
 // Rows 5 and 6.
@@ -222,7 +208,7 @@ impl FirDecimator {
     // A fresh opening of the state's own taps and factor. Refusal 15, and the state stays.
     #[tactic(auto, using(crate::proofs::FirOpenings::valid_taps))]
     pub fn reset(&mut self) -> Result<(), Refusal>
-        ensures answer { record { number = number_in result; state = self.new } ≡ fir_reset self.old }
+        ensures answer { told_reset result self.new ≡ fir_reset self.old }
     {
         let t = self.tap_count;
         let factor = self.factor;
@@ -237,15 +223,14 @@ impl FirDecimator {
     {
         let t = self.tap_count;
         state_row(t, self.factor, self.wait)?;
-        let next = fir_at(
+        let made = fir_at(
             &mut self.delay,
             &self.taps,
             t,
             self.factor,
-            self.wait,
+            &mut self.wait,
             sample,
         );
-        self.wait = next.wait;
-        Ok(next.made)
+        Ok(made)
     }
 }

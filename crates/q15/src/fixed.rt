@@ -7,7 +7,7 @@ ghost use Rattle.q15.specs.Fixed.{floored_product, cut, is_cut};
 #[derive(Clone, Copy, PartialEq, Eq, PartialOrd, Ord, Debug)]
 pub struct Q15(pub i16);
 
-// What the cut to 16 bits makes of a number, and whether it cut.
+// What the cut to 16 bits makes of a number, and whether it cut. No Option: what was cut has a value too.
 #[derive(Clone, Copy, PartialEq, Eq, Debug)]
 pub struct Cut {
     pub value: Q15,

@@ -12,7 +12,7 @@ pub mod resample_linear;
 
 pub use crate::block::{FirBlock, MOST_FACTOR};
 pub use crate::fir_block::{FirBlockAt, MOST_FIR_BLOCK, fir_block_at};
-pub use crate::fir_decimator::{FirAt, FirDecimator, MOST_TAPS, fir_at, fir_valid_in_line};
+pub use crate::fir_decimator::{FirDecimator, MOST_TAPS, fir_at, fir_valid_in_line};
 pub use crate::fixed::{Cut, Q15, cut_q15};
 pub use crate::polyphase_decimate::polyphase_decimate_q15;
 pub use crate::polyphase_interpolate::polyphase_interpolate_q15;

@@ -26,9 +26,8 @@ fn places<W: Write>(out: &mut W, n: u64) -> io::Result<()>
         (decimal (n / 100) ++ codes "." ++ decimal (n / 10 % 10) ++ decimal (n % 10))) }
 {
     let whole = n / 100;
-    let tenths = n / 10 % 10;
-    let hundredths = n % 10;
-    write!(out, "{whole}.{tenths}{hundredths}")
+    let rest = n % 100;
+    write!(out, "{whole}.{rest:02}")
 }
 
 // A space and a level to two places.

@@ -1,1 +1,2 @@
 mod Compares
+mod Floats

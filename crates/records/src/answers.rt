@@ -4,8 +4,8 @@ ghost use Rattle.refusal.specs.Outcome.{number_in, value_in};
 ghost use Rattle.refusal.specs.Table.{number_of};
 ghost use Rattle.records.specs.Comparison.{Compares, after};
 
+use crate::record::Words;
 use crate::value::Value;
-use crate::words::Words;
 use refusal::Refusal;
 
 impl Words<'_> {

@@ -4,6 +4,8 @@ ghost use Rattle.std.specs.Int.{w16, w32};
 ghost use Rattle.std.proofs.Common.{to_z};
 ghost use Rattle.records.specs.Comparison.{float_of, bits_of, same_bits};
 
+use words::{bits_of_f32, f32_of_bits};
+
 pub trait Element: Copy {
     // What a word stands for.
     ghost meant: { ℕ → Self };
@@ -96,42 +98,21 @@ impl Element for u8 {
 }
 
 // The bits; those of every NaN are one NaN.
+#[tactic(auto, using(crate::proofs::Floats::bits_are, crate::proofs::Floats::float_is))]
 impl Element for f32 {
     ghost meant = { float_of };
 
     ghost recorded = { λ x word. word == bits_of x };
 
     fn from_word(word: u32) -> f32 {
-        if INFINITY_BITS < word % SIGN {
-            return f32::NAN;
-        }
-        f32::from_bits(word)
+        f32_of_bits(word)
     }
 
     fn is_recorded_as(self, word: u32) -> bool {
-        word == bits(self)
+        word == bits_of_f32(self)
     }
 
     fn is_same(self, other: f32) -> bool {
-        bits(self) == bits(other)
+        bits_of_f32(self) == bits_of_f32(other)
     }
-}
-
-// The bits of infinity: those of a NaN are above them, but for the sign.
-const INFINITY_BITS: u32 = 2139095040;
-
-// The weight of the sign.
-const SIGN: u32 = 2147483648;
-
-// The bits that every NaN has in an answer.
-const NAN_BITS: u32 = 2143289344;
-
-// An f32's bits, those of every NaN being one.
-fn bits(x: f32) -> u32
-    ensures { result ≡ bits_of x }
-{
-    if x.is_nan() {
-        return NAN_BITS;
-    }
-    x.to_bits()
 }

@@ -2,10 +2,13 @@
 #![tactic(auto)]
 
 pub mod answers;
+pub mod block;
 pub mod element;
 pub mod lent;
+pub mod linear;
+pub mod record;
 pub mod reset;
+pub mod sample;
 pub mod span;
 pub mod state;
 pub mod value;
-pub mod words;

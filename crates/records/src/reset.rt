@@ -1,6 +1,6 @@
 // A reset takes a state, and answers as an opening does.
+use crate::record::Words;
 use crate::state::State;
-use crate::words::Words;
 use refusal::Refusal;
 
 pub trait Reset: State {

@@ -3,7 +3,7 @@ ghost use Rattle.std.specs.Prelude.{◌≡◌, IfOk, min, vec_len};
 
 use crate::element::Element;
 use crate::lent::Lent;
-use crate::words::Words;
+use crate::record::Words;
 use std::alloc::{AllocError, Global};
 
 #[derive(Drop)]

@@ -1,5 +1,5 @@
 // A converter's state as a record has it. A replaying crate wraps the states of its layer in structs of its own, for which it writes this.
-use crate::words::Words;
+use crate::record::Words;
 use refusal::Refusal;
 
 pub trait State: Drop {

@@ -7,7 +7,7 @@ ghost use Rattle.records.specs.Places.{Moves, after_option};
 ghost use Rattle.records.specs.PlaceLaws.{nowhere_moves, after_moves, long_moves, option_moves, then_moves};
 
 use crate::element::Element;
-use crate::words::Words;
+use crate::record::Words;
 use refusal::Moved;
 
 pub trait Value: Drop {

@@ -42,7 +42,7 @@ pub struct Moved {
 }
 
 impl Refusal {
-    // 01's number.
+    // 01's number, under the name that callers have for it.
     pub fn number(self) -> u8
         ensures { result ≡ number_of self }
     {

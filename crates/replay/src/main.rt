@@ -8,7 +8,7 @@ ghost use Rattle.std.specs.Prelude.{◌≡◌, ◌+◌, ◌%◌, ◌^◌, IsOkAn
 
 use crate::tally::Tally;
 use crate::text::{ReadError, read_record};
-use records::words::Words;
+use records::record::Words;
 use std::alloc::{AllocError, Global};
 use std::io;
 use std::io::BufReader;

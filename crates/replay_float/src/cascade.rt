@@ -1,9 +1,9 @@
 // The cascades of half-band converters. Each operation takes the words behind its code: its inputs, then the answers.
-use crate::block::Block;
 use half_band::{HbfDecCascade, HbfIntCascade};
+use records::block::Block;
+use records::record::Words;
 use records::reset::Reset;
 use records::state::{State, same_opened};
-use records::words::Words;
 use refusal::Refusal;
 use std::marker::PhantomData;
 
@@ -47,6 +47,10 @@ impl Reset for DecCascade {
 }
 
 impl Block for DecCascade {
+    type Sample = f32;
+
+    type Counts = usize;
+
     fn process(&mut self, samples: &[f32], span: &mut [f32]) -> Result<usize, Refusal> {
         self.0.process(samples, span)
     }
@@ -81,6 +85,10 @@ impl Reset for IntCascade {
 }
 
 impl Block for IntCascade {
+    type Sample = f32;
+
+    type Counts = usize;
+
     fn process(&mut self, samples: &[f32], span: &mut [f32]) -> Result<usize, Refusal> {
         self.0.process(samples, span)
     }

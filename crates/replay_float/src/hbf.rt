@@ -1,9 +1,10 @@
 // The half-band converters. Each operation takes the words behind its code: its inputs, then the answers.
-use crate::block::Block;
-use half_band::{HbfDec, HbfInt};
+use half_band::{DEC_DELAYS, HbfDec, HbfInt, INT_DELAYS, MOST_HALF_BAND_TAPS};
+use records::block::Block;
+use records::record::Words;
 use records::reset::Reset;
+use records::sample::Sampled;
 use records::state::{State, same_opened};
-use records::words::Words;
 use refusal::Refusal;
 use std::alloc::{AllocError, Global};
 
@@ -16,22 +17,48 @@ pub(crate) fn new<S: HalfBand>(mut words: Words<'_>, alloc: Global) -> Result<bo
     Ok(same_opened(words, S::opened(&taps)))
 }
 
+// The state of either converter; how long the delay is, is its own.
 #[derive(Drop)]
-pub(crate) struct Dec(HbfDec);
+struct Parts<const N: usize> {
+    m: usize,
+    coeffs: [f32; MOST_HALF_BAND_TAPS],
+    delay: [f32; N],
+}
 
-impl State for Dec {
-    fn from_words(words: &mut Words<'_>) -> Dec {
-        Dec(HbfDec {
+impl<const N: usize> State for Parts<N> {
+    fn from_words(words: &mut Words<'_>) -> Parts<N> {
+        Parts {
             m: words.long(),
             coeffs: words.slice().array(),
             delay: words.slice().array(),
-        })
+        }
+    }
+
+    fn is_same(&self, answers: &mut Words<'_>, before: &Parts<N>) -> bool {
+        answers.same_long(self.m)
+            && answers.same_places(&self.coeffs, &before.coeffs)
+            && answers.same_places(&self.delay, &before.delay)
+    }
+}
+
+#[derive(Drop)]
+pub(crate) struct Dec(HbfDec);
+
+impl Dec {
+    fn parts(&self) -> Parts<DEC_DELAYS> {
+        let HbfDec { m, coeffs, delay } = self.0;
+        Parts { m, coeffs, delay }
+    }
+}
+
+impl State for Dec {
+    fn from_words(words: &mut Words<'_>) -> Dec {
+        let Parts { m, coeffs, delay } = Parts::from_words(words);
+        Dec(HbfDec { m, coeffs, delay })
     }
 
     fn is_same(&self, answers: &mut Words<'_>, before: &Dec) -> bool {
-        answers.same_long(self.0.m)
-            && answers.same_places(&self.0.coeffs, &before.0.coeffs)
-            && answers.same_places(&self.0.delay, &before.0.delay)
+        self.parts().is_same(answers, &before.parts())
     }
 }
 
@@ -48,6 +75,10 @@ impl Reset for Dec {
 }
 
 impl Block for Dec {
+    type Sample = f32;
+
+    type Counts = usize;
+
     fn process(&mut self, samples: &[f32], span: &mut [f32]) -> Result<usize, Refusal> {
         self.0.process(samples, span)
     }
@@ -56,19 +87,21 @@ impl Block for Dec {
 #[derive(Drop)]
 pub(crate) struct Int(HbfInt);
 
+impl Int {
+    fn parts(&self) -> Parts<INT_DELAYS> {
+        let HbfInt { m, coeffs, delay } = self.0;
+        Parts { m, coeffs, delay }
+    }
+}
+
 impl State for Int {
     fn from_words(words: &mut Words<'_>) -> Int {
-        Int(HbfInt {
-            m: words.long(),
-            coeffs: words.slice().array(),
-            delay: words.slice().array(),
-        })
+        let Parts { m, coeffs, delay } = Parts::from_words(words);
+        Int(HbfInt { m, coeffs, delay })
     }
 
     fn is_same(&self, answers: &mut Words<'_>, before: &Int) -> bool {
-        answers.same_long(self.0.m)
-            && answers.same_places(&self.0.coeffs, &before.0.coeffs)
-            && answers.same_places(&self.0.delay, &before.0.delay)
+        self.parts().is_same(answers, &before.parts())
     }
 }
 
@@ -85,8 +118,23 @@ impl Reset for Int {
 }
 
 impl Block for Int {
+    type Sample = f32;
+
+    type Counts = usize;
+
     fn process(&mut self, samples: &[f32], span: &mut [f32]) -> Result<usize, Refusal> {
         self.0.process(samples, span)
+    }
+}
+
+// The even output, and then the odd one.
+impl Sampled for Int {
+    type Sample = f32;
+
+    type Made = (f32, f32);
+
+    fn process_sample(&mut self, sample: f32) -> Result<(f32, f32), Refusal> {
+        self.0.process_sample(sample)
     }
 }
 
@@ -96,12 +144,4 @@ pub(crate) fn process_pair(words: Words<'_>) -> bool {
     let first = answers.value();
     let second = answers.value();
     answers.same_answer(state.0.process_pair(first, second)) && state.is_last(answers, words)
-}
-
-// The even output, and then the odd one.
-pub(crate) fn process_sample(words: Words<'_>) -> bool {
-    let mut answers = words;
-    let mut state = Int::from_words(&mut answers);
-    let sample = answers.value();
-    answers.same_answer(state.0.process_sample(sample)) && state.is_last(answers, words)
 }

@@ -1,9 +1,10 @@
-// The operations of HbfStream. Each takes the words behind its code: its inputs, then the answers.
+// The half-band stream as records have it.
 use crate::cascade::Cascade;
 use half_band::HbfStream;
+use records::record::Words;
 use records::reset::Reset;
+use records::sample::Sampled;
 use records::state::State;
-use records::words::Words;
 use refusal::Refusal;
 
 #[derive(Drop)]
@@ -39,9 +40,12 @@ impl Reset for Stream {
     }
 }
 
-pub(crate) fn process_sample(words: Words<'_>) -> bool {
-    let mut answers = words;
-    let mut state = Stream::from_words(&mut answers);
-    let sample = answers.value();
-    answers.same_answer(state.0.process_sample(sample)) && state.is_last(answers, words)
+impl Sampled for Stream {
+    type Sample = f32;
+
+    type Made = Option<f32>;
+
+    fn process_sample(&mut self, sample: f32) -> Result<Option<f32>, Refusal> {
+        self.0.process_sample(sample)
+    }
 }

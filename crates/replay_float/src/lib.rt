@@ -1,7 +1,6 @@
 // The float layer's operations, compared with records of what the Rust answered.
 #![tactic(auto)]
 
-mod block;
 mod cascade;
 mod hbf;
 mod hbf_stream;

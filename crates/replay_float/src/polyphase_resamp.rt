@@ -1,10 +1,11 @@
-// The operations of PolyphaseResampF32. Each takes the words behind its code: its inputs, then the answers.
+// The resampler as records have it, and its openings.
 use float::PolyphaseResampF32;
+use records::block::Block;
+use records::record::Words;
 use records::reset::Reset;
-use records::span::Span;
+use records::sample::Pushed;
 use records::state::{State, same_opened};
-use records::words::Words;
-use refusal::Refusal;
+use refusal::{Moved, Refusal};
 use std::alloc::{AllocError, Global};
 
 #[derive(Drop)]
@@ -41,6 +42,24 @@ impl Reset for Resampler {
     }
 }
 
+impl Block for Resampler {
+    type Sample = f32;
+
+    type Counts = Moved;
+
+    fn process(&mut self, samples: &[f32], span: &mut [f32]) -> Result<Moved, Refusal> {
+        self.0.process_block(samples, span)
+    }
+}
+
+impl Pushed for Resampler {
+    type Sample = f32;
+
+    fn push(&mut self, sample: f32, span: &mut [f32]) -> Result<usize, Refusal> {
+        self.0.push(sample, span)
+    }
+}
+
 // An opening of either kind: phases, taps, the prototype and the step.
 pub(crate) fn new<F>(mut words: Words<'_>, alloc: Global, opening: F) -> Result<bool, AllocError>
 where
@@ -53,22 +72,4 @@ where
     let prototype: Vec<f32> = words.slice().elements(alloc)?;
     let opened = opening(phases, taps, &prototype, step);
     Ok(same_opened(words, opened.map(Resampler)))
-}
-
-pub(crate) fn process_block(words: Words<'_>, alloc: Global) -> Result<bool, AllocError> {
-    let mut answers = words;
-    let mut state = Resampler::from_words(&mut answers);
-    let samples: Vec<f32> = answers.slice().elements(alloc)?;
-    let mut span = Span::of(answers.slice(), alloc)?;
-    let moved = state.0.process_block(&samples, &mut span.places);
-    Ok(answers.same_answer(moved) && span.is_same(&mut answers) && state.is_last(answers, words))
-}
-
-pub(crate) fn push(words: Words<'_>, alloc: Global) -> Result<bool, AllocError> {
-    let mut answers = words;
-    let mut state = Resampler::from_words(&mut answers);
-    let sample = answers.value();
-    let mut span = Span::of(answers.slice(), alloc)?;
-    let written = state.0.push(sample, &mut span.places);
-    Ok(answers.same_answer(written) && span.is_same(&mut answers) && state.is_last(answers, words))
 }

@@ -3,17 +3,20 @@
 use float::{q15_to_f32, resample_linear_f32};
 use half_band::hbf_tap_table;
 use q15::Q15;
-use records::span::Span;
-use records::words::Words;
+use records::linear::Linear;
+use records::record::Words;
 use refusal::Refusal;
-use std::alloc::{AllocError, Global};
 
-pub(crate) fn linear(mut words: Words<'_>, alloc: Global) -> Result<bool, AllocError> {
-    let ratio = words.value();
-    let samples: Vec<f32> = words.slice().elements(alloc)?;
-    let mut span = Span::of(words.slice(), alloc)?;
-    let count = resample_linear_f32(&samples, &mut span.places, ratio);
-    Ok(words.same_answer(count) && span.is_same(&mut words) && words.is_empty())
+pub(crate) struct LinearF32;
+
+impl Linear for LinearF32 {
+    type Sample = f32;
+
+    type Ratio = f32;
+
+    fn resample(samples: &[f32], span: &mut [f32], ratio: f32) -> Result<usize, Refusal> {
+        resample_linear_f32(samples, span, ratio)
+    }
 }
 
 pub(crate) fn to_f32(mut words: Words<'_>) -> bool {

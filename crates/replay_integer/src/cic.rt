@@ -1,6 +1,6 @@
 // What both CIC converters have: an opening, the gain and its bits. Each operation takes the words behind its code: its inputs, then the answers.
+use records::record::Words;
 use records::state::{State, same_opened};
-use records::words::Words;
 use refusal::Refusal;
 
 pub(crate) trait Cic: State {

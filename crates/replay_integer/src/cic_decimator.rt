@@ -2,10 +2,11 @@
 use crate::cic::Cic;
 use integer::CicDecimator;
 use nonrecursive::NonrecursiveDecimator;
+use records::block::{Block, replay_block};
+use records::record::Words;
 use records::span::Span;
 use records::state::State;
-use records::words::Words;
-use refusal::Refusal;
+use refusal::{Moved, Refusal};
 use std::alloc::{AllocError, Global};
 
 #[derive(Drop)]
@@ -46,6 +47,16 @@ impl Cic for Decimator {
     }
 }
 
+impl Block for Decimator {
+    type Sample = i32;
+
+    type Counts = Moved;
+
+    fn process(&mut self, samples: &[i32], span: &mut [i32]) -> Result<Moved, Refusal> {
+        self.0.process_block(samples, span)
+    }
+}
+
 // A sample through either call.
 pub(crate) fn sample<F>(mut words: Words<'_>, process: F) -> bool
 where
@@ -55,14 +66,6 @@ where
     let mut state = Decimator::from_words(&mut words);
     let sample = words.value();
     words.same_answer(process(&mut state.0, sample)) && state.is_last(words, Words::none())
-}
-
-pub(crate) fn process_block(mut words: Words<'_>, alloc: Global) -> Result<bool, AllocError> {
-    let mut state = Decimator::from_words(&mut words);
-    let samples: Vec<i32> = words.slice().elements(alloc)?;
-    let mut span = Span::of(words.slice(), alloc)?;
-    let moved = state.0.process_block(&samples, &mut span.places);
-    Ok(words.same_answer(moved) && span.is_same(&mut words) && state.is_last(words, Words::none()))
 }
 
 // The same samples from an opening of the sums of neighbours: the same counts and span. A call on a refused opening is refused for its state.
@@ -79,5 +82,5 @@ fn thinned(mut words: Words<'_>, alloc: Global) -> Result<bool, AllocError> {
 
 // A block of a state as it is opened, of a factor that is a power of two.
 pub(crate) fn fresh_block(words: Words<'_>, alloc: Global) -> Result<bool, AllocError> {
-    Ok(process_block(words, alloc)? && thinned(words, alloc)?)
+    Ok(replay_block::<Decimator>(words, alloc)? && thinned(words, alloc)?)
 }

@@ -1,11 +1,10 @@
-// The operations of CicInterpolator. Each takes the words behind its code: its inputs, then the answers.
+// The interpolator as records have it.
 use crate::cic::Cic;
 use integer::CicInterpolator;
-use records::span::Span;
+use records::record::Words;
+use records::sample::Pushed;
 use records::state::State;
-use records::words::Words;
 use refusal::Refusal;
-use std::alloc::{AllocError, Global};
 
 #[derive(Drop)]
 pub(crate) struct Interpolator(CicInterpolator);
@@ -43,14 +42,10 @@ impl Cic for Interpolator {
     }
 }
 
-pub(crate) fn process_sample(mut words: Words<'_>, alloc: Global) -> Result<bool, AllocError> {
-    let mut state = Interpolator::from_words(&mut words);
-    let sample = words.value();
-    let mut span = Span::of(words.slice(), alloc)?;
-    let written = state.0.process_sample(sample, &mut span.places);
-    Ok(
-        words.same_answer(written)
-            && span.is_same(&mut words)
-            && state.is_last(words, Words::none()),
-    )
+impl Pushed for Interpolator {
+    type Sample = i32;
+
+    fn push(&mut self, sample: i32, span: &mut [i32]) -> Result<usize, Refusal> {
+        self.0.process_sample(sample, span)
+    }
 }

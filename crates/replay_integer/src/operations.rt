@@ -3,9 +3,11 @@ ghost use Rattle.std.specs.Prelude.{Ok, false, ◌≡◌, ◌<◌};
 
 use crate::cic;
 use crate::cic_decimator::{self, Decimator};
-use crate::cic_interpolator::{self, Interpolator};
+use crate::cic_interpolator::Interpolator;
 use integer::CicDecimator;
-use records::words::Words;
+use records::block::replay_block;
+use records::record::Words;
+use records::sample::replay_push;
 use std::alloc::{AllocError, Global};
 
 // Whether the converters answer as a record says; `words` is what follows the operation's code. A code that is none of this layer's agrees with nothing.
@@ -20,10 +22,10 @@ pub fn agrees(operation: u32, words: Words<'_>, alloc: Global) -> Result<bool, A
         0x13 => Ok(cic_decimator::sample(words, CicDecimator::process_sample_scaled)),
         0x14 => Ok(cic::gain::<Decimator>(words)),
         0x15 => Ok(cic::gain_bits::<Decimator>(words)),
-        0x16 => cic_decimator::process_block(words, alloc),
+        0x16 => replay_block::<Decimator>(words, alloc),
         0x17 => cic_decimator::fresh_block(words, alloc),
         0x21 => Ok(cic::new::<Interpolator>(words)),
-        0x22 => cic_interpolator::process_sample(words, alloc),
+        0x22 => replay_push::<Interpolator>(words, alloc),
         0x23 => Ok(cic::gain::<Interpolator>(words)),
         0x24 => Ok(cic::gain_bits::<Interpolator>(words)),
         _ => Ok(false),

@@ -2,8 +2,8 @@
 use crate::numbers::{read_numbers, same_numbers};
 use line::{Line, LineStep, Settings, zeros};
 use nonrecursive::Thinning;
+use records::record::Words;
 use records::span::Span;
-use records::words::Words;
 use refusal::Refusal;
 use std::alloc::{AllocError, Global};
 

@@ -1,6 +1,6 @@
 // The numbers of a line that row 15 looks at, and its count of cut values.
 use line::Line;
-use records::words::Words;
+use records::record::Words;
 
 // Gives the line other numbers.
 pub(crate) fn read_numbers(words: &mut Words<'_>, line: &mut Line) {

@@ -2,7 +2,7 @@
 ghost use Rattle.std.specs.Prelude.{Ok, false, ◌≡◌, ◌<◌};
 
 use crate::gauge_line;
-use records::words::Words;
+use records::record::Words;
 use std::alloc::{AllocError, Global};
 
 // Whether the line answers as a record says; `words` is what follows the operation's code. A code that is none of this layer's agrees with nothing. A code

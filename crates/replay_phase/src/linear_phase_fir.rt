@@ -1,9 +1,11 @@
 // The operations of LinearPhaseFir. Each takes the words behind its code: its inputs, then the answers.
 use linear_phase::LinearPhaseFir;
+use records::block::Block;
+use records::record::Words;
 use records::reset::Reset;
+use records::sample::Sampled;
 use records::span::Span;
 use records::state::{State, same_opened};
-use records::words::Words;
 use refusal::Refusal;
 use std::alloc::{AllocError, Global};
 
@@ -37,6 +39,26 @@ impl Reset for Filter {
     }
 }
 
+impl Sampled for Filter {
+    type Sample = f32;
+
+    type Made = f32;
+
+    fn process_sample(&mut self, sample: f32) -> Result<f32, Refusal> {
+        self.0.process(sample)
+    }
+}
+
+impl Block for Filter {
+    type Sample = f32;
+
+    type Counts = usize;
+
+    fn process(&mut self, samples: &[f32], span: &mut [f32]) -> Result<usize, Refusal> {
+        self.0.block(samples, span)
+    }
+}
+
 pub(crate) fn new(mut words: Words<'_>, alloc: Global) -> Result<bool, AllocError> {
     let odd = words.long() != 0;
     let antisymmetric = words.long() != 0;
@@ -49,22 +71,6 @@ pub(crate) fn response_length(words: Words<'_>) -> bool {
     let mut answers = words;
     let state = Filter::from_words(&mut answers);
     answers.same_answer(state.0.response_length()) && state.is_last(answers, words)
-}
-
-pub(crate) fn process(words: Words<'_>) -> bool {
-    let mut answers = words;
-    let mut state = Filter::from_words(&mut answers);
-    let sample = answers.value();
-    answers.same_answer(state.0.process(sample)) && state.is_last(answers, words)
-}
-
-pub(crate) fn block(words: Words<'_>, alloc: Global) -> Result<bool, AllocError> {
-    let mut answers = words;
-    let mut state = Filter::from_words(&mut answers);
-    let samples: Vec<f32> = answers.slice().elements(alloc)?;
-    let mut span = Span::of(answers.slice(), alloc)?;
-    let written = state.0.block(&samples, &mut span.places);
-    Ok(answers.same_answer(written) && span.is_same(&mut answers) && state.is_last(answers, words))
 }
 
 // A block whose samples stand in its span.

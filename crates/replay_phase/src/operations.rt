@@ -2,8 +2,10 @@
 ghost use Rattle.std.specs.Prelude.{Ok, false, ◌≡◌, ◌<◌};
 
 use crate::linear_phase_fir::{self, Filter};
+use records::block::replay_block;
+use records::record::Words;
 use records::reset::replay_reset;
-use records::words::Words;
+use records::sample::replay_sample;
 use std::alloc::{AllocError, Global};
 
 // Whether a filter answers as a record says; `words` is what follows the operation's code. A code that is none of its own agrees with nothing. A code stands
@@ -14,8 +16,8 @@ pub fn agrees(operation: u32, words: Words<'_>, alloc: Global) -> Result<bool, A
 {
     match operation {
         0xe1 => linear_phase_fir::new(words, alloc),
-        0xe2 => Ok(linear_phase_fir::process(words)),
-        0xe3 => linear_phase_fir::block(words, alloc),
+        0xe2 => Ok(replay_sample::<Filter>(words)),
+        0xe3 => replay_block::<Filter>(words, alloc),
         0xe4 => linear_phase_fir::inplace(words, alloc),
         0xe5 => Ok(linear_phase_fir::response_length(words)),
         0xe6 => Ok(replay_reset::<Filter>(words)),

@@ -1,8 +1,9 @@
-// The operations of FirDecimator. Each takes the words behind its code: its inputs, then the answers.
+// FirDecimator as records have it, and its opening.
 use q15::{Cut, FirDecimator, Q15};
+use records::record::Words;
 use records::reset::Reset;
+use records::sample::Sampled;
 use records::state::{State, same_opened};
-use records::words::Words;
 use refusal::Refusal;
 use std::alloc::{AllocError, Global};
 
@@ -51,10 +52,12 @@ fn told_cut(made: Option<Cut>) -> (Option<i16>, bool) {
     }
 }
 
-pub(crate) fn process_sample(words: Words<'_>) -> bool {
-    let mut answers = words;
-    let mut state = Decimator::from_words(&mut answers);
-    let sample = Q15(answers.value());
-    let made = state.0.process_sample(sample);
-    answers.same_answer(made.map(told_cut)) && state.is_last(answers, words)
+impl Sampled for Decimator {
+    type Sample = i16;
+
+    type Made = (Option<i16>, bool);
+
+    fn process_sample(&mut self, sample: i16) -> Result<(Option<i16>, bool), Refusal> {
+        self.0.process_sample(Q15(sample)).map(told_cut)
+    }
 }

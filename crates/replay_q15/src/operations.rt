@@ -2,10 +2,12 @@
 ghost use Rattle.std.specs.Prelude.{Ok, false, ◌≡◌, ◌<◌};
 
 use crate::fir_decimator::{self, Decimator};
-use crate::q15_blocks;
+use crate::q15_blocks::{self, LinearQ15};
 use q15::{polyphase_decimate_q15, polyphase_interpolate_q15};
+use records::linear::replay_linear;
+use records::record::Words;
 use records::reset::replay_reset;
-use records::words::Words;
+use records::sample::replay_sample;
 use std::alloc::{AllocError, Global};
 
 // Whether the converters answer as a record says; `words` is what follows the operation's code. A code that is none of this layer's agrees with nothing.
@@ -17,10 +19,10 @@ pub fn agrees(operation: u32, words: Words<'_>, alloc: Global) -> Result<bool, A
     match operation {
         0x31 => q15_blocks::fir(words, alloc, polyphase_decimate_q15),
         0x32 => q15_blocks::fir(words, alloc, polyphase_interpolate_q15),
-        0x33 => q15_blocks::linear(words, alloc),
+        0x33 => replay_linear::<LinearQ15>(words, alloc),
         0x34 => Ok(q15_blocks::cut(words)),
         0x41 => fir_decimator::new(words, alloc),
-        0x42 => Ok(fir_decimator::process_sample(words)),
+        0x42 => Ok(replay_sample::<Decimator>(words)),
         0x43 => Ok(replay_reset::<Decimator>(words)),
         _ => Ok(false),
     }

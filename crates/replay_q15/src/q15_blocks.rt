@@ -1,7 +1,8 @@
 // The Q15 blocks and the cut. Each takes the words behind its code: its inputs, then the answers.
 use q15::{FirBlock, cut_q15, resample_linear_q15};
+use records::linear::Linear;
+use records::record::Words;
 use records::span::Span;
-use records::words::Words;
 use refusal::Refusal;
 use std::alloc::{AllocError, Global};
 
@@ -20,12 +21,16 @@ where
     Ok(words.same_answer(counts) && span.is_same(&mut words) && words.is_empty())
 }
 
-pub(crate) fn linear(mut words: Words<'_>, alloc: Global) -> Result<bool, AllocError> {
-    let ratio = words.value();
-    let samples: Vec<i16> = words.slice().elements(alloc)?;
-    let mut span = Span::of(words.slice(), alloc)?;
-    let count = resample_linear_q15(&samples, &mut span.places, ratio);
-    Ok(words.same_answer(count) && span.is_same(&mut words) && words.is_empty())
+pub(crate) struct LinearQ15;
+
+impl Linear for LinearQ15 {
+    type Sample = i16;
+
+    type Ratio = i32;
+
+    fn resample(samples: &[i16], span: &mut [i16], ratio: i32) -> Result<usize, Refusal> {
+        resample_linear_q15(samples, span, ratio)
+    }
 }
 
 pub(crate) fn cut(mut words: Words<'_>) -> bool {

@@ -2,7 +2,7 @@
 ghost use Rattle.std.specs.Prelude.{Ok, false, ◌≡◌, ◌<◌};
 
 use crate::tap_sheet;
-use records::words::Words;
+use records::record::Words;
 use std::alloc::{AllocError, Global};
 
 // Whether reader and writer answer as a record says; `words` is what follows the operation's code. A code that is none of theirs agrees with nothing. A code

@@ -1,7 +1,7 @@
 // The operations on tap sheets. Each takes the words behind its code: its inputs, then the answers.
 use records::lent::Lent;
+use records::record::Words;
 use records::span::Span;
-use records::words::Words;
 use sheet::{TapSheet, sheet_count, write_sheet};
 use std::alloc::{AllocError, Global};
 

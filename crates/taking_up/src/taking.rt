@@ -1,6 +1,6 @@
 // 02, request 6, and 13 for eight entries: a parked sheet taken up. Refusals 16, 17, 21, 15.
-ghost use Rattle.std.specs.Prelude.{◌≡◌, ◌*◌, ◌+◌, length};
-ghost use Rattle.refusal.specs.Outcome.{told_opened};
+ghost use Rattle.std.specs.Prelude.{◌≡◌, ◌*◌, ◌+◌, length, IfErr};
+ghost use Rattle.refusal.specs.Outcome.{told_opened, told_reset};
 ghost use Rattle.line.specs.Line as L;
 ghost use Rattle.sheet.specs.Sheet as S;
 ghost use Rattle.taking_up.specs.AsParked.{AsParked};
@@ -20,7 +20,7 @@ use crate::reading::{
 };
 use crate::rows::are_floats;
 use integer::CicDecimator;
-use line::{Line, line_valid};
+use line::{Line, line_valid, zeros};
 use nonrecursive::Thinning;
 use nonrecursive::nonrecursive_decimator::MAX_NEIGHBOURS;
 use parking::settings::{ParkedSettings, half_band_bytes, halvings};
@@ -90,15 +90,11 @@ fn line_from(thinning: Thinning, q: ParkedSettings, e: Entries) -> Line
     requires { (InLimits (numbers_of q)) × (Long thinning (numbers_of q) (told e)) }
     ensures { result ≡ line_by thinning (numbers_of q) (told e.entry) }
 {
-    match thinning {
-        Thinning::Integrators => {
-            line_with(thinning, cic_from(q, e.cic), [0; MAX_NEIGHBOURS], q, e)
-        }
-        Thinning::Neighbours => {
-            let neighbours = neighbours_from(q, e.last);
-            line_with(thinning, place_from(q, e.last), neighbours, q, e)
-        }
-    }
+    let (cic, neighbours) = match thinning {
+        Thinning::Integrators => (cic_from(q, e.cic), [0; MAX_NEIGHBOURS]),
+        Thinning::Neighbours => (place_from(q, e.last), neighbours_from(q, e.last)),
+    };
+    line_with(thinning, cic, neighbours, q, e)
 }
 
 // Whether the floats of the entries are words that parking writes.
@@ -115,12 +111,12 @@ fn floats_written(q: ParkedSettings, half_band: &[u8], cells: &[u8], resampler: 
 
 // Whether the line that was read is one that parking writes. Refusal 15.
 #[tactic(auto, unfolding(crate::specs::Taking::line_fine, crate::specs::Taking::written_of))]
-fn line_fine(line: Line, q: ParkedSettings, e: Entries) -> bool
+fn line_fine(line: &Line, q: ParkedSettings, e: Entries) -> bool
     requires { (InLimits (numbers_of q)) × (length e.half_band.now ≡ P.half_band_bytes q.depth) ×
         (length e.cells.now ≡ 4 * (q.phases * q.cells)) × (length e.resampler.now ≡ 4 + 4 * q.cells) }
-    ensures { result ≡ T.line_fine line (numbers_of q) e.entry.delay.now e.entry.half_band.now e.entry.cells.now e.entry.resampler.now }
+    ensures { result ≡ T.line_fine line.now (numbers_of q) e.entry.delay.now e.entry.half_band.now e.entry.cells.now e.entry.resampler.now }
 {
-    line_valid(&line)
+    line_valid(line)
         && q.straight <= 1
         && is_f32_bits(q.step)
         && fir_written(q, e.delay)
@@ -128,24 +124,33 @@ fn line_fine(line: Line, q: ParkedSettings, e: Entries) -> bool
         && floats_written(q, e.half_band, e.cells, e.resampler)
 }
 
-// What entries of the right lengths answer.
-fn open_parts(thinning: Thinning, q: ParkedSettings, e: Entries) -> Result<Line, Refusal>
-    requires { Long thinning (numbers_of q) (told e) }
-    ensures { told_opened L.zeros result ≡ opened_in_by thinning (numbers_of q) (told e.entry) }
+// What entries of the right lengths answer; the line, zeros before, is read where it lies, which spares the stack copies.
+fn open_parts(
+    thinning: Thinning,
+    q: ParkedSettings,
+    e: Entries,
+    line: &mut Line,
+) -> Result<(), Refusal>
+    requires { (Long thinning (numbers_of q) (told e)) × (line.old ≡ L.zeros) }
+    ensures answer { told_reset result line.new ≡ opened_in_by thinning (numbers_of q) (told e.entry) }
+    ensures refused { IfErr result (λ why. line.new ≡ L.zeros) }
 {
     if !in_limits(q) {
         return Err(Refusal::State);
     }
-    let line = line_from(thinning, q, e);
+    *line = line_from(thinning, q, e);
     if !line_fine(line, q, e) {
+        *line = zeros();
         return Err(Refusal::State);
     }
-    Ok(line)
+    Ok(())
 }
 
 // What the entries answer.
-fn open_entries(thinning: Thinning, e: Entries) -> Result<Line, Refusal>
-    ensures { told_opened L.zeros result ≡ opened_by thinning (told e.entry) }
+fn open_entries(thinning: Thinning, e: Entries, line: &mut Line) -> Result<(), Refusal>
+    requires { line.old ≡ L.zeros }
+    ensures answer { told_reset result line.new ≡ opened_by thinning (told e.entry) }
+    ensures refused { IfErr result (λ why. line.new ≡ L.zeros) }
 {
     if e.settings.len() != 24 {
         return Err(Refusal::Parked);
@@ -154,7 +159,7 @@ fn open_entries(thinning: Thinning, e: Entries) -> Result<Line, Refusal>
     if !long(thinning, q, e) {
         return Err(Refusal::Parked);
     }
-    open_parts(thinning, q, e)
+    open_parts(thinning, q, e, line)
 }
 
 // The line of a parked sheet. Refusals 16, 17, 21, then 15. The clause `back`: of what parking left in front of a span, after any feeds and parkings, the line never
@@ -166,10 +171,13 @@ pub fn take_up(bytes: &[u8]) -> Result<Line, Refusal>
     ensures parked { AsParked bytes.now (told_opened L.zeros result) }
     ensures earlier { StillTaken bytes.now (told_opened L.zeros result) }
 {
-    let sheet = TapSheet::open(bytes)?;
-    match sheet.count {
-        7 => open_entries(Thinning::Integrators, Entries::of(sheet)),
-        8 => open_entries(Thinning::Neighbours, Entries::of(sheet)),
-        _ => Err(Refusal::Parked),
-    }
+    let sheet = TapSheet::checked(bytes)?;
+    let thinning = match sheet.count {
+        7 => Thinning::Integrators,
+        8 => Thinning::Neighbours,
+        _ => return Err(Refusal::Parked),
+    };
+    let mut line = zeros();
+    open_entries(thinning, Entries::of(sheet), &mut line)?;
+    Ok(line)
 }

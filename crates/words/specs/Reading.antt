@@ -15,9 +15,9 @@ use Rattle.sheet.specs.Sheet.{le16, bytes16}
 use Rattle.sheet.proofs.RoundTrip.{found_at}
 use Rattle.words.specs.Fields.{Reads, i16_bytes, i32_bytes, f32_bytes, i16_at, i32_at, f32_at, IsFloat}
 
-two_at : (b : List ℕ) (p v : ℕ) (rest : List ℕ) → drop p b ≡ bytes16 v ++ rest → v < 65536 → le16 b p ≡ v
+pub word_at : (b : List ℕ) (p v : ℕ) (rest : List ℕ) → drop p b ≡ bytes16 v ++ rest → v < 65536 → le16 b p ≡ v
 unfolding le16
-two_at b p v rest e h =
+word_at b p v rest e h =
     let f₀ : get_or b p 0 ≡ v % 256 = ap (λ (k : ℕ). get_or b k 0) (sym (add-zero p)) ∙ sym (get_or-drop p b 0 0) ∙ ap (λ (l : List ℕ). get_or l 0 0) e in
     let f₁ : get_or b (p + 1) 0 ≡ v / 256 % 256 = sym (get_or-drop p b 1 0) ∙ ap (λ (l : List ℕ). get_or l 1 0) e in
     rw (f₀, f₁) (digits v h)
@@ -25,11 +25,8 @@ two_at b p v rest e h =
     digits : (n : ℕ) → n < 65536 → n % 256 + 256 * (n / 256 % 256) ≡ n
     digits n l = omega arith
 
-pub word_at : (b : List ℕ) (p v : ℕ) (rest : List ℕ) → drop p b ≡ bytes16 v ++ rest → v < 65536 → le16 b p ≡ v
-word_at = two_at
-
 pub reads_i16 : Reads i16_bytes i16_at 2 (SFits w16)
-reads_i16 = record { long = λ x. refl; reads = λ b at x rest p e. ap (to_z w16) (two_at b at (of_z w16 x) rest e (Fits-of_z p).fits) ∙ to_z-of_z p }
+reads_i16 = record { long = λ x. refl; reads = λ b at x rest p e. ap (to_z w16) (word_at b at (of_z w16 x) rest e (Fits-of_z p).fits) ∙ to_z-of_z p }
 
 pub reads_i32 : Reads i32_bytes i32_at 4 (SFits w32)
 reads_i32 = record { long = λ x. refl; reads = λ b at x rest p e. ap (to_z w32) (found_at b at (of_z w32 x) rest e (Fits-of_z p).fits) ∙ to_z-of_z p }

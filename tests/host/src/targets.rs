@@ -1,5 +1,5 @@
 //! The test program of targets/, on x86-64: compiled as C99, run and run under valgrind; it calls every function of the archive, and compare.sh finds a difference.
-//! calls.awk finds what makes a stack boundless.
+//! calls.awk finds what makes a stack boundless, recompile.sh what a machine of 32 bits would lay out otherwise.
 
 use crate::support::{archive, command, fails, files, filtered, have, printed, same, scratch};
 use crate::symbols::archived;
@@ -99,6 +99,35 @@ fn a_difference_is_found() {
     assert!(fails(
         command("targets/compare.sh").args(["/dev/null", "/dev/null"])
     ));
+}
+
+// A pair with a pointer whose places anywhere.sed does not say ends the recompilation; those that it knows get as far as the compiler, of which there is none here.
+#[test]
+fn an_unknown_pair_is_found() {
+    let to = scratch("targets_pairs");
+    fs::create_dir_all(to.join("targets")).unwrap();
+    for (pair, known) in [
+        ("{ ptr, i64 }", true),
+        ("{ i8, ptr }", true),
+        ("{ i16, ptr }", false),
+        ("{ ptr, ptr }", false),
+    ] {
+        let text = format!("  %r0 = load {pair}, ptr %a0, align 8\n");
+        fs::write(to.join("targets/module.ll"), text).unwrap();
+        let ended = command("targets/recompile.sh")
+            .env("GAUGE_TARGET", &to)
+            .arg("wasm32-unknown-unknown")
+            .arg(to.join("module.o"))
+            .output()
+            .unwrap();
+        let said = String::from_utf8_lossy(&ended.stderr);
+        assert!(!ended.status.success());
+        assert_eq!(
+            said.contains(&format!("these stand: {pair}")),
+            !known,
+            "{said}"
+        );
+    }
 }
 
 // A value more in a line, another last digit, no last line, a NaN of certain bits, nothing.

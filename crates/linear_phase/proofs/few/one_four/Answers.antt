@@ -11,9 +11,9 @@ returns-then-span-eq-FOUR c =
     let a = c.args in
     let four = c.if-span-eq-FOUR.true in
     let o = c.outputs_at in
-    put_exact 4 o.new.acc a.span.now _ (ap length o.ensures ∙ values_long a.centre a.minus a.taps.now a.long a.tape.now 4) four c.put_group.ensures
+    put_exact 4 o.new.acc a.span.now _ (ap length o.ensures ∙ values_long a.fir.centre a.fir.minus a.fir.taps.now a.fir.long a.tape.now 4) four c.put_group.ensures
     ∙ o.ensures
-    ∙ ap (window_values a.centre a.minus a.taps.now a.long a.tape.now) (sym four)
+    ∙ ap (window_values a.fir.centre a.fir.minus a.fir.taps.now a.fir.long a.tape.now) (sym four)
 
 pub returns : goal.returns
 returns c =
@@ -21,4 +21,4 @@ returns c =
     let n = length a.span.now in
     c.put_some.ensures
     ∙ ap (take n) c.outputs_at.ensures
-    ∙ sym (values_front a.centre a.minus a.taps.now a.long a.tape.now 4 n c.requires.3)
+    ∙ sym (values_front a.fir.centre a.fir.minus a.fir.taps.now a.fir.long a.tape.now 4 n c.requires.3)

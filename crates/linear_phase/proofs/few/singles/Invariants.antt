@@ -5,4 +5,4 @@ use Rattle.linear_phase.specs.Windows.{centred_value}
 use Rattle.linear_phase.proofs.few.singles.Given as goal
 
 abbrev pub invariant-loop-i : goal.invariant-loop-i
-invariant-loop-i l = Filled (λ k. centred_value l.centre l.minus l.taps (take (suc l.long) (drop k l.tape))) l.initial.span (length l.initial.span) l.span l.i
+invariant-loop-i l = Filled (λ k. centred_value l.fir.centre l.fir.minus l.fir.taps.now (take (suc l.fir.long) (drop k l.tape))) l.initial.span (length l.initial.span) l.span l.i

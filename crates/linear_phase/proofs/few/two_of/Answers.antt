@@ -19,12 +19,12 @@ returns g c =
     let a = c.args in
     let n = length a.span.now in
     let w = g.row.N in
-    let second : c.outputs_at-2.new.acc ≡ window_values a.centre a.minus a.taps.now a.long (drop (n - w) a.tape.now) w =
+    let second : c.outputs_at-2.new.acc ≡ window_values a.fir.centre a.fir.minus a.fir.taps.now a.fir.long (drop (n - w) a.tape.now) w =
     c.outputs_at-2.ensures
-    ∙ ap₂ {C = List Float} (λ (l : List Float) (k : ℕ). window_values a.centre a.minus a.taps.now a.long l k) (rest a.tape.now (n - w)) (length-replicate w zero32) in
-    let first : c.outputs_at.new.acc ≡ window_values a.centre a.minus a.taps.now a.long a.tape.now w =
-    c.outputs_at.ensures ∙ ap (window_values a.centre a.minus a.taps.now a.long a.tape.now) (length-replicate w zero32) in
+    ∙ ap₂ {C = List Float} (λ (l : List Float) (k : ℕ). window_values a.fir.centre a.fir.minus a.fir.taps.now a.fir.long l k) (rest a.tape.now (n - w)) (length-replicate w zero32) in
+    let first : c.outputs_at.new.acc ≡ window_values a.fir.centre a.fir.minus a.fir.taps.now a.fir.long a.tape.now w =
+    c.outputs_at.ensures ∙ ap (window_values a.fir.centre a.fir.minus a.fir.taps.now a.fir.long a.tape.now) (length-replicate w zero32) in
     c.put_both.ensures
-    ∙ ap (λ (k : ℕ). take (n - k) c.outputs_at.new.acc ++ c.outputs_at-2.new.acc) (ap length second ∙ values_long a.centre a.minus a.taps.now a.long (drop (n - w) a.tape.now) w)
+    ∙ ap (λ (k : ℕ). take (n - k) c.outputs_at.new.acc ++ c.outputs_at-2.new.acc) (ap length second ∙ values_long a.fir.centre a.fir.minus a.fir.taps.now a.fir.long (drop (n - w) a.tape.now) w)
     ∙ ap₂ {C = List Float} (λ (l r : List Float). take (n - w) l ++ r) first second
-    ∙ two_groups a.centre a.minus a.taps.now a.long a.tape.now n w c.requires.3 c.requires.4
+    ∙ two_groups a.fir.centre a.fir.minus a.fir.taps.now a.fir.long a.tape.now n w c.requires.3 c.requires.4

@@ -3,12 +3,12 @@ use Rattle.std.proofs.Common.{arith}
 use Rattle.linear_phase.proofs.Newest.{front_plain, front_centred}
 use Rattle.linear_phase.proofs.few.value_at.Goals as goal
 
-pub returns-then-centre : goal.returns-then-centre
-returns-then-centre c =
+pub returns-then-fir : goal.returns-then-fir
+returns-then-fir c =
     let a = c.args in
-    front_centred a.minus a.taps.now a.line.now a.long (omega (arith, c.requires)) _ c.sum_with-acc.ensures a.centre c.if-centre.true c.requires.1
+    front_centred a.fir.minus a.fir.taps.now a.line.now a.fir.long (omega (arith, c.requires)) _ c.sum_with-acc.ensures a.fir.centre c.if-fir.true c.requires.1
 
-pub returns-else-centre : goal.returns-else-centre
-returns-else-centre c =
+pub returns-else-fir : goal.returns-else-fir
+returns-else-fir c =
     let a = c.args in
-    front_plain a.minus a.taps.now a.line.now a.long (omega (arith, c.requires)) _ c.sum_with-acc.ensures a.centre c.if-centre.false
+    front_plain a.fir.minus a.fir.taps.now a.line.now a.fir.long (omega (arith, c.requires)) _ c.sum_with-acc.ensures a.fir.centre c.if-fir.false

@@ -8,7 +8,7 @@ returns-then-n-long c =
     let d = c.args.delay.now in
     let v = c.args.samples.now in
     let p = c.requires in
-    put_last d v _ _ (few_last c.args.tape.now d v c.if-n-long.true p.delay_in_bounds.0 p.delay_in_bounds.1 p.on_tape) c.put_at_end.ensures
+    put_last d v _ _ (few_last c.args.tape.now d v c.if-n-long.true p.room p.on_tape) c.put_at_end.ensures
 
 pub returns : goal.returns
 returns c =

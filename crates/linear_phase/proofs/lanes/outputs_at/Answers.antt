@@ -5,20 +5,20 @@ use Rattle.linear_phase.specs.Windows.{centres_added, window_values}
 use Rattle.linear_phase.proofs.SideBySide.{values_plain, values_centred, rest}
 use Rattle.linear_phase.proofs.lanes.outputs_at.Goals as goal
 
-pub returns-then-centre : goal.returns-then-centre
-returns-then-centre c =
+pub returns-then-fir : goal.returns-then-fir
+returns-then-fir c =
     let a = c.args in
     let d = a.line.now in
-    let m = length a.taps.now in
+    let m = length a.fir.taps.now in
     c.add_centres.ensures
     ∙ ap (λ (l : List Float). centres_added l c.sums_at.new.acc) (rest d m)
     ∙ ap (centres_added (drop m d)) c.sums_at.ensures
-    ∙ values_centred a.long d (length a.acc.now) c.requires.1 a.minus a.taps.now c.requires.0
-    ∙ ap (λ (b : Bool). window_values b a.minus a.taps.now a.long d (length a.acc.now)) (sym c.if-centre.true)
+    ∙ values_centred a.fir.long d (length a.acc.now) c.requires.1 a.fir.minus a.fir.taps.now c.requires.0
+    ∙ ap (λ (b : Bool). window_values b a.fir.minus a.fir.taps.now a.fir.long d (length a.acc.now)) (sym c.if-fir.true)
 
-pub returns-else-centre : goal.returns-else-centre
-returns-else-centre c =
+pub returns-else-fir : goal.returns-else-fir
+returns-else-fir c =
     let a = c.args in
     c.sums_at.ensures
-    ∙ values_plain a.long a.line.now (length a.acc.now) c.requires.1 a.minus a.taps.now
-    ∙ ap (λ (b : Bool). window_values b a.minus a.taps.now a.long a.line.now (length a.acc.now)) (sym c.if-centre.false)
+    ∙ values_plain a.fir.long a.line.now (length a.acc.now) c.requires.1 a.fir.minus a.fir.taps.now
+    ∙ ap (λ (b : Bool). window_values b a.fir.minus a.fir.taps.now a.fir.long a.line.now (length a.acc.now)) (sym c.if-fir.false)

@@ -1,7 +1,5 @@
 -- `inplace` meets its contract: one sample is the list of it, and more go along a tape.
-use Rattle.std.proofs.Common.{refl}
 use Rattle.linear_phase.specs.LinearPhaseFir.{phase_of}
-use Rattle.linear_phase.specs.Windows.{picked}
 use Rattle.linear_phase.proofs.Filters.{one_state, one_out}
 use Rattle.linear_phase.proofs.lent.Half.inplace.Goals as goal
 
@@ -12,11 +10,3 @@ returns-then-span-eq1 c =
     let v = a.span.now in
     let one = c.if-span-eq1.true in
     record { delay = one_state d v _ one c.process.ensures.delay; span = one_out d v v _ one one c.process.ensures.value }
-
-pub along-requires : goal.along-requires
-unfolding picked
-along-requires c = refl
-
-pub returns : goal.returns
-unfolding picked
-returns c = c.along.ensures

@@ -1,0 +1,53 @@
+-- The arrays of a line, lent together: the sections of which they are the arrays, and what a call leaves as it was.
+use Rattle.std.specs.Prelude.{◌≡◌, ℕ, Float}
+use Rattle.nonrecursive.specs.EitherKind.{Thinner}
+use Rattle.nonrecursive.specs.declared.thinning.Thinning.{Thinning}
+use Rattle.half_band.specs.declared.hbf_stream.HbfStream.{HbfStream}
+use Rattle.q15.specs.declared.fir_decimator.FirDecimator.{FirDecimator}
+use Rattle.float.specs.declared.polyphase_resamp.PolyphaseResampF32.{PolyphaseResampF32}
+use Rattle.chain.specs.Chain.{PartsLevels, Parts3, Parts2}
+use Rattle.chain.specs.Parts as P
+use Rattle.chain.specs.declared.fixed.Fixed.{Fixed}
+use Rattle.chain.specs.declared.arrays.Arrays.{Arrays}
+
+-- the sections
+abbrev pub thinner_in : Thinning → Fixed → ℕ → Arrays → Thinner
+thinner_in k f counter lent = P.thinner_of k f counter lent.integrators.now lent.combs.now lent.neighbours.now
+
+abbrev pub fir_in : Fixed → ℕ → Arrays → FirDecimator
+fir_in f wait lent = P.fir_of f wait lent.taps.now lent.fir_delay.now
+
+abbrev pub half_band_in : Fixed → Arrays → HbfStream
+half_band_in f lent = P.half_band_of f lent.delays.now lent.held.now lent.counts.now
+
+abbrev pub resampler_in : Fixed → Float → Arrays → PolyphaseResampF32
+resampler_in f mu lent = P.resampler_of f mu lent.delay.now lent.prototype.now
+
+-- a section and those behind it
+abbrev pub levels_in : Fixed → Float → Arrays → PartsLevels
+levels_in f mu lent = P.levels_on (half_band_in f lent) (resampler_in f mu lent)
+
+abbrev pub from_fir_in : Fixed → ℕ → Float → Arrays → Parts3
+from_fir_in f wait mu lent = (fir_in f wait lent, levels_in f mu lent)
+
+abbrev pub from_cut_in : Fixed → ℕ → Float → Arrays → Parts2
+from_cut_in f wait mu lent = (tt, from_fir_in f wait mu lent)
+
+-- the references are those that were lent, so what a call wrote stands where the caller keeps it; what is lent to be read is the same
+pub record Same (before after : Arrays) : Type 0 where
+  pub integrators : after.integrators.ghost_name ≡ before.integrators.ghost_name
+  pub combs : after.combs.ghost_name ≡ before.combs.ghost_name
+  pub neighbours : after.neighbours.ghost_name ≡ before.neighbours.ghost_name
+  pub taps : after.taps.now ≡ before.taps.now
+  pub fir_delay : after.fir_delay.ghost_name ≡ before.fir_delay.ghost_name
+  pub delays : after.delays.ghost_name ≡ before.delays.ghost_name
+  pub held : after.held.ghost_name ≡ before.held.ghost_name
+  pub counts : after.counts.ghost_name ≡ before.counts.ghost_name
+  pub delay : after.delay.ghost_name ≡ before.delay.ghost_name
+  pub prototype : after.prototype.now ≡ before.prototype.now
+
+-- the arrays of section 1 are as they were
+pub record ThinnerStays (before after : Arrays) : Type 0 where
+  pub integrators : after.integrators.now ≡ before.integrators.now
+  pub combs : after.combs.now ≡ before.combs.now
+  pub neighbours : after.neighbours.now ≡ before.neighbours.now

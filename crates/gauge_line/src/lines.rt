@@ -1,0 +1,112 @@
+// The line as a caller in C keeps it, field by field: put together from the fields that were lent, and put back into them.
+ghost use Rattle.std.specs.Prelude.{◌≡◌};
+ghost use Rattle.gauge_line.specs.States.{exit, IsFlag, line_by, line_at};
+
+use crate::states::{
+    decimator, fir, is_set, kind, put_decimator, put_fir, put_resampler, put_stream, put_thinning,
+    resampler, stream,
+};
+use float::settings::{MOST_CELLS, MOST_TAPS as MOST_PHASE_TAPS};
+use half_band::{DEC_CASCADE_DELAYS, MOST_STAGES};
+use integer::limits::MAX_STAGES;
+use line::Line;
+use nonrecursive::nonrecursive_decimator::MAX_NEIGHBOURS;
+use q15::MOST_TAPS;
+
+// The line of fields that were lent.
+pub(crate) fn line_of(
+    stages: usize,
+    r: usize,
+    integrators: [i32; MAX_STAGES],
+    combs: [i32; MAX_STAGES],
+    sample_counter: usize,
+    taps: [i16; MOST_TAPS],
+    tap_count: usize,
+    factor: usize,
+    fir_delay: [i16; MOST_TAPS],
+    wait: usize,
+    depth: usize,
+    delays: [f32; DEC_CASCADE_DELAYS],
+    held: [f32; MOST_STAGES],
+    counts: [usize; MOST_STAGES],
+    phases: usize,
+    phase_taps: usize,
+    straight: usize,
+    mu: f32,
+    step: f32,
+    delay: [f32; MOST_PHASE_TAPS],
+    prototype: [f32; MOST_CELLS],
+    cuts: u32,
+    thinning: usize,
+    neighbours: [i32; MAX_NEIGHBOURS],
+) -> Line
+    ensures { result ≡ line_by stages r integrators combs sample_counter taps tap_count factor fir_delay wait depth delays held counts
+        phases phase_taps straight mu step delay prototype cuts thinning neighbours }
+{
+    Line {
+        thinning: kind(thinning),
+        cic: decimator(stages, r, integrators, combs, sample_counter),
+        neighbours,
+        fir: fir(taps, tap_count, factor, fir_delay, wait),
+        half_band: stream(depth, delays, held, counts),
+        resampler: resampler(
+            phases,
+            phase_taps,
+            is_set(straight),
+            mu,
+            step,
+            delay,
+            prototype,
+        ),
+        cuts,
+    }
+}
+
+// The fields of a line into the places that were lent for them; the line is lent too, which spares the stack a copy.
+pub(crate) fn put_line(
+    next: &Line,
+    stages: &mut usize,
+    r: &mut usize,
+    integrators: &mut [i32; MAX_STAGES],
+    combs: &mut [i32; MAX_STAGES],
+    sample_counter: &mut usize,
+    taps: &mut [i16; MOST_TAPS],
+    tap_count: &mut usize,
+    factor: &mut usize,
+    fir_delay: &mut [i16; MOST_TAPS],
+    wait: &mut usize,
+    depth: &mut usize,
+    delays: &mut [f32; DEC_CASCADE_DELAYS],
+    held: &mut [f32; MOST_STAGES],
+    counts: &mut [usize; MOST_STAGES],
+    phases: &mut usize,
+    phase_taps: &mut usize,
+    straight: &mut usize,
+    mu: &mut f32,
+    step: &mut f32,
+    delay: &mut [f32; MOST_PHASE_TAPS],
+    prototype: &mut [f32; MOST_CELLS],
+    cuts: &mut u32,
+    thinning: &mut usize,
+    neighbours: &mut [i32; MAX_NEIGHBOURS],
+)
+    ensures state { line_at exit stages r integrators combs sample_counter taps tap_count factor fir_delay wait
+        depth delays held counts phases phase_taps straight mu step delay prototype cuts thinning neighbours ≡ next.now }
+    ensures setting { IsFlag straight.new × IsFlag thinning.new }
+{
+    put_decimator(&next.cic, stages, r, integrators, combs, sample_counter);
+    put_fir(&next.fir, taps, tap_count, factor, fir_delay, wait);
+    put_stream(&next.half_band, depth, delays, held, counts);
+    put_resampler(
+        &next.resampler,
+        phases,
+        phase_taps,
+        straight,
+        mu,
+        step,
+        delay,
+        prototype,
+    );
+    *cuts = next.cuts;
+    put_thinning(next.thinning, &next.neighbours, thinning, neighbours);
+}

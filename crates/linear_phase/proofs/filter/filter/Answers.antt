@@ -1,0 +1,42 @@
+-- `linear_phase::filter::filter` meets its contract: delay and first samples stand on the tape, so the last of all are the next delay, and the outputs are those at the windows.
+use Rattle.std.proofs.Common.{◌≡◌, ℕ, ◌+◌, ◌≤◌, min, List, ◌++◌, length, take, sym, refl, ap, ◌∙◌, arith, length-take-le}
+use lib.Ieee.{Float}
+use Rattle.linear_phase.specs.Windows.{InRow}
+use Rattle.linear_phase.proofs.WholeList.{within}
+use Rattle.linear_phase.proofs.Tapes.{in_row, renamed, next_of, outs_of}
+use Rattle.linear_phase.proofs.filter.filter.Goals as goal
+
+-- what `lay` leaves
+laid : {tape d samples v : List Float} {head n : ℕ} → length d ≤ 46 → samples ≡ v → length v ≡ n → head ≡ min n (length d + 16)
+    → (let part = take head samples in length d + length part ≤ 108 → take (length d + length part) tape ≡ d ++ part) → InRow tape d samples
+laid {tape} {d} {samples} {v} {head} {n} most e l h whole =
+    let m : length samples ≡ n = ap length e ∙ l in
+    let first : length (take head samples) ≡ head = length-take-le head samples (omega arith) in
+    in_row tape d samples (take head samples) (ap (λ (k : ℕ). take k samples) (sym first)) (omega (arith, first)) (whole (omega (arith, first)))
+
+pub last_in-requires : goal.last_in-requires
+last_in-requires c =
+    let b = within _ c.requires.in_bounds in
+    record { room = omega (arith, b, c.lay.auto.tape); on_tape = laid b.most c.samples_of-samples.ensures c.requires.src_len c.min-head.ensures c.lay.ensures }
+
+pub outputs_back-requires-clause-in_bounds : goal.outputs_back-requires-clause-in_bounds
+outputs_back-requires-clause-in_bounds c =
+    let b = within _ c.requires.in_bounds in
+    (c.requires.in_bounds.0, b.least, omega (arith, b, c.lay.auto.tape), omega (arith, b, c.lay.auto.tape))
+
+pub outputs_back-requires-clause-on_tape : goal.outputs_back-requires-clause-on_tape
+outputs_back-requires-clause-on_tape c =
+    let b = within _ c.requires.in_bounds in
+    let row = laid b.most c.samples_of-samples.ensures c.requires.src_len c.min-head.ensures c.lay.ensures in
+    renamed c.samples_of-samples.ensures c.requires.src_len refl row.on
+
+pub returns-clause-delay : goal.returns-clause-delay
+returns-clause-delay c =
+    let b = within _ c.requires.in_bounds in
+    next_of _ _ _ _ c.samples_of-samples.ensures b.some c.last_in.ensures
+
+pub returns-clause-span : goal.returns-clause-span
+returns-clause-span c =
+    let b = within _ c.requires.in_bounds in
+    let row = laid b.most c.samples_of-samples.ensures c.requires.src_len c.min-head.ensures c.lay.ensures in
+    outs_of _ _ _ _ _ c.has_centre-centre.ensures refl c.requires.src_len b.some row.front c.outputs_back.ensures

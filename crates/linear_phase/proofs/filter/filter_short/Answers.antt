@@ -1,0 +1,52 @@
+-- `linear_phase::filter::filter_short` meets its contract: delay and first samples stand on the tape, so the last of all are the next delay, and the outputs are those at the windows.
+use Rattle.std.proofs.Common.{◌≡◌, ℕ, ◌+◌, ◌≤◌, min, List, ◌++◌, length, take, drop, sym, ap, ap₂, ◌∙◌, arith, length-take-le}
+use lib.Ieee.{Float}
+use Rattle.linear_phase.specs.Windows.{InRow}
+use Rattle.linear_phase.proofs.WholeList.{within}
+use Rattle.linear_phase.proofs.Tapes.{in_row, renamed, next_of, outs_of}
+use Rattle.linear_phase.proofs.filter.filter_short.Goals as goal
+
+-- the delay
+long_is : {long : ℕ} (delay : List Float) → (long ≤ 16) × (length delay ≡ 46) → length (take long delay) ≡ long
+long_is {long} delay s = length-take-le long delay (omega (arith, s))
+
+-- what `lay_groups` leaves
+laid : (delay : List Float) {tape samples v : List Float} {long n : ℕ} → (long ≤ 16) × (length delay ≡ 46) → samples ≡ v → (length v ≡ n) × (16 ≤ n)
+    → (let k = min (length samples) 32 in take (long + k) tape ≡ take long delay ++ take k samples) → InRow tape (take long delay) samples
+laid delay {tape} {samples} {v} {long} s e l whole =
+    let k = min (length samples) 32 in
+    let first : length (take (min (length samples) 32) samples) ≡ min (length samples) 32 = length-take-le k samples (omega arith) in
+    let is = long_is delay s in
+    in_row tape (take long delay) samples (take k samples) (ap (λ (j : ℕ). take j samples) (sym first)) (omega (arith, first, is, s, l, ap length e))
+    (ap₂ {C = List Float} (λ (i j : ℕ). take (i + j) tape) is first ∙ whole)
+
+pub last_in-requires : goal.last_in-requires
+last_in-requires c =
+    let is = long_is _ c.requires.long_bound in
+    record {
+      room = omega (arith, is, c.requires.long_bound, c.lay_groups.auto.tape);
+      on_tape = laid _ c.requires.long_bound c.samples_of-line.ensures c.requires.src_len c.lay_groups.ensures;
+    }
+
+pub outputs_back-requires-clause-in_bounds : goal.outputs_back-requires-clause-in_bounds
+outputs_back-requires-clause-in_bounds c =
+    let b = within _ c.requires.in_bounds in
+    (c.requires.in_bounds.0, b.least, omega (arith, c.requires.long_bound, c.lay_groups.auto.tape), omega (arith, c.requires.long_bound, c.lay_groups.auto.tape))
+
+pub outputs_back-requires-clause-on_tape : goal.outputs_back-requires-clause-on_tape
+outputs_back-requires-clause-on_tape c =
+    let row = laid _ c.requires.long_bound c.samples_of-line.ensures c.requires.src_len c.lay_groups.ensures in
+    renamed c.samples_of-line.ensures c.requires.src_len.0 (long_is _ c.requires.long_bound) row.on
+
+pub returns-clause-delay : goal.returns-clause-delay
+returns-clause-delay c =
+    let b = within _ c.requires.in_bounds in
+    let is = long_is _ c.requires.long_bound in
+    ap (λ (l : List Float). l ++ drop c.args.long c.args.delay.now) (next_of _ _ _ _ c.samples_of-line.ensures (omega (arith, is, b)) c.last_in.ensures)
+
+pub returns-clause-span : goal.returns-clause-span
+returns-clause-span c =
+    let b = within _ c.requires.in_bounds in
+    let is = long_is _ c.requires.long_bound in
+    let row = laid _ c.requires.long_bound c.samples_of-line.ensures c.requires.src_len c.lay_groups.ensures in
+    outs_of _ _ _ _ _ c.has_centre-centre.ensures (sym is) c.requires.src_len.0 (omega (arith, is, b)) row.front c.outputs_back.ensures
