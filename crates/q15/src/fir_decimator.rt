@@ -4,7 +4,8 @@ ghost use Rattle.std.specs.Int.{w16};
 ghost use Rattle.refusal.specs.Outcome.{number_in, told_opened, told_reset};
 ghost use Rattle.q15.specs.Fixed.{is_cut};
 ghost use Rattle.q15.specs.PolyphaseDecimate.{window_sum, filtered};
-ghost use Rattle.q15.specs.FirDecimator.{most_taps, fir_state, fir_zeros, stored, moved, fir_next, fir_out, fir_sum_out, cut_in, settings_number, settings_number_in_line, bad_wait, fir_valid, fir_valid_in_line, fir_step, padded, fresh, fir_opened, fir_reset, made_value, made_cut, told_step, Streams};
+ghost use Rattle.q15.specs.FirDecimator.{most_taps, fir_state, fir_zeros, stored, moved, fir_next, fir_out, fir_sum_out, cut_in, made_value, made_cut};
+ghost use Rattle.q15.specs.FirDecimator.{settings_number, settings_number_in_line, bad_wait, fir_valid, fir_valid_in_line, padded, fresh, fir_opened, fir_reset, fir_step, told_step, Streams};
 
 use crate::block::MOST_FACTOR;
 use crate::fir_sum::fir_sum;
