@@ -40,7 +40,7 @@ use Rattle.float.specs.F32.{one32}
 use Rattle.float.specs.PolyphaseResamp.{shifted_in, consumed, passed, output_of, is_on, in_line}
 use Rattle.float.specs.declared.polyphase_resamp.PolyphaseResampF32.{PolyphaseResampF32}
 use Rattle.float.proofs.PolyphaseOutput.{outputs_alike}
-use Rattle.line.proofs.Flags.{and_left}
+use Rattle.std.proofs.lemmas.Bool.{and_parts}
 use Rattle.parking.specs.Parked.{neighbour_count}
 use Rattle.parking.proofs.Fronts.{front_at, drop_front, row_front}
 use Rattle.parking.proofs.Thinned.{thinned_long, thinned_front}
@@ -511,8 +511,8 @@ unfolding in_line
 resampler_alike =
     record {
       due = λ p q g s. due_same p q s;
-      val = λ p q g s d. on_output p q s (on_is p (and_left (is_on p) (lt p.mu one32) d));
-      after = λ p q g s d. on_passed p q s (on_is p (and_left (is_on p) (lt p.mu one32) d));
+      val = λ p q g s d. on_output p q s (on_is p (and_parts (is_on p) (lt p.mu one32) d).0);
+      after = λ p q g s d. on_passed p q s (on_is p (and_parts (is_on p) (lt p.mu one32) d).0);
       next = λ p q x g s. subst (λ (b : Bool). ResamplerSame (cond (is_on p) (consumed p x) p) (cond b (consumed q x) q)) (on_same p q s) (next_by_lem p q x s (is_on p) refl);
       now = λ p q x g s. ap (λ (b : Bool). cond b None (Some x)) (on_same p q s);
     }

@@ -22,7 +22,7 @@ use Rattle.float.specs.declared.polyphase_resamp.PolyphaseResampF32.{PolyphaseRe
 use Rattle.line.specs.Line.{valid}
 use Rattle.line.specs.Line as L
 use Rattle.line.specs.declared.gauge_line.Line.{Line}
-use Rattle.line.proofs.Flags.{and_left, and_right, and_both}
+use Rattle.std.proofs.lemmas.Bool.{and_parts, and_from}
 use Rattle.line.proofs.Lawful.{to_parts}
 use Rattle.sheet.specs.Sheet.{Rule, former, present, le16, mark, marked, sum}
 use Rattle.sheet.proofs.Rules.{count_same}
@@ -215,8 +215,8 @@ unfolding fine
 fine_wider most more h es e =
     let t = (settings_of (entry_of es 0)).taps in
     let w = valid (line_from es) && written es in
-    let b = leb-true t most (and_left (leb t most) w e) in
-    and_both (leb t more) w (le-leb t more (omega arith)) (and_right (leb t most) w e)
+    let b = leb-true t most (and_parts (leb t most) w e).0 in
+    and_from (leb t more) w (le-leb t more (omega arith)) (and_parts (leb t most) w e).1
 
 -- a sheet without the mark is taken up as under the former rule
 under_former : (b : List ℕ) → le16 b 0 < mark → taken_up panel b ≡ taken_up (formerly panel) b

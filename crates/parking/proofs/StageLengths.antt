@@ -54,9 +54,3 @@ bytes_most n h = let m = bytes_mono n 5 (omega arith) h in let e : half_band_byt
 
 pub cells_most : (P T : ℕ) → P ≤ 64 → T ≤ 16 → P * T ≤ 1024
 cells_most P T p t = mul-le-mul p t
-
--- neither do a stream's bytes look at its depth
-pub depth_apart : (s : HbfStream) (n : ℕ) → stages_bytes (stream_of 0 s.delays s.held s.counts) n ≡ stages_bytes s n
-unfolding stages_bytes stage_bytes
-depth_apart s zero = refl
-depth_apart s (suc n) = ap (λ (l : List ℕ). l ++ stage_bytes s n) (depth_apart s n)

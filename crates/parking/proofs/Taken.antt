@@ -32,7 +32,7 @@ use Rattle.line.specs.Outputs.{Opening}
 use Rattle.line.specs.Line.{thinner_of, half_band_fine, opened, feed_outcome, feed_span, reset}
 use Rattle.line.specs.Demand3 as D
 use Rattle.line.specs.declared.gauge_line.Line.{Line}
-use Rattle.line.proofs.Flags.{and_both, not_says}
+use Rattle.std.proofs.lemmas.Bool.{and_from, not-true}
 use Rattle.line.proofs.Lawful.{to_parts}
 use Rattle.sheet.specs.Sheet.{le16, le32, sum}
 use Rattle.parking.specs.Parked.{Panel, Settings, settings_bytes, settings_of, half_band_bytes, neighbour_count, sizes, thin_sizes, flat, lengths_of, parked, shaped, take_up_number}
@@ -164,7 +164,7 @@ module _ (l : Line) (g : Sound l) where
 
   counts_small : (k : ℕ) → k < s.depth → get_or s.counts k 0 < 65536
   unfolding half_band_fine
-  counts_small k h = let a = (refused_says s.depth s.counts (line_refused_says s.depth s.counts (omega arith) (not_says _ (to_parts l g.0).1.1.1.1.0))).held k h in omega arith
+  counts_small k h = let a = (refused_says s.depth s.counts (line_refused_says s.depth s.counts (omega arith) (not-true _ (to_parts l g.0).1.1.1.1.0))).held k h in omega arith
 
   depth_min : min s.depth 5 ≡ s.depth
   depth_min = let h = depth_few in omega arith
@@ -281,7 +281,7 @@ module _ (l : Line) (g : Sound l) where
       go : (b : Bool) → eqb f.tap_count 0 ≡ b → cond b (eqb f.factor 0 && eqb (le16 (delay_bytes f) 0) 0) true ≡ true
       go true e =
           let z = zero_wait fn (w.fir.off (eqb-true f.tap_count 0 e)) in
-          and_both (eqb f.factor 0) (eqb (le16 (delay_bytes f) 0) 0) (eq-eqb f.factor 0 z.0) (eq-eqb (le16 (delay_bytes f) 0) 0 z.1)
+          and_from (eqb f.factor 0) (eqb (le16 (delay_bytes f) 0) 0) (eq-eqb f.factor 0 z.0) (eq-eqb (le16 (delay_bytes f) 0) 0 z.1)
       go false e = refl
 
   at_zeros : (eqb (R.zeros).taps 0 && (eqb (cond (R.zeros).straight 1 0) 0 && (eqb (to_bits binary32 (R.zeros).step) 0 && eqb (le32 (resampler_bytes R.zeros) 0) 0))) ≡ true

@@ -28,19 +28,6 @@ use Rattle.parking.proofs.Fronts.{drop_front, row_front, row_typed, row_value}
 
 -- ---- how many
 
-up_to_most : (most r : ℕ) → halvings_up_to most r ≤ most
-unfolding halvings_up_to
-up_to_most zero r = omega arith
-up_to_most (suc most) r = go (leb (2 ^ suc most) r) (up_to_most most r)
-  where
-    go : (b : Bool) → halvings_up_to most r ≤ most → cond b (suc most) (halvings_up_to most r) ≤ suc most
-    go true h = omega arith
-    go false h = omega arith
-
-pub halvings_most : (r : ℕ) → halvings r ≤ 63
-unfolding halvings
-halvings_most r = up_to_most 63 r
-
 up_to_below : (most r m : ℕ) → r < 2 ^ suc m → halvings_up_to most r ≤ m
 unfolding halvings_up_to
 up_to_below zero r m h = omega arith

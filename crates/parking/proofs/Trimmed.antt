@@ -49,7 +49,7 @@ use Rattle.chain.specs.Chain.{Parts, from3, from4, chain}
 use Rattle.line.specs.Line.{thinner_of, parts_of, cuts_for, sum_cut, line, half_band_fine, valid, fed_line, feed_outcome, feed_span}
 use Rattle.line.specs.Demand3.{History, none_yet, fed}
 use Rattle.line.specs.declared.gauge_line.Line.{Line}
-use Rattle.line.proofs.Flags.{not_says, not_is}
+use Rattle.std.proofs.lemmas.Bool.{not-true, not_from_false}
 use Rattle.line.proofs.Lawful.{to_parts, of_parts, line_lawful}
 use Rattle.line.proofs.Demanded.{outcome_is}
 use Rattle.parking.specs.Alike.{LineTyped, fed_on, GoesOnAlike}
@@ -289,9 +289,9 @@ module _ (s : HbfStream) (few : s.depth ≤ 5) (z : Sized s) (ad : All IsFloat s
   half_fine : half_band_fine s ≡ true → half_band_fine t ≡ true
   unfolding half_band_fine
   half_fine v =
-      not_is _ (line_not_refused t.depth t.counts (λ p.
+      not_from_false _ (line_not_refused t.depth t.counts (λ p.
       let q : 1 ≤ s.depth = rw t_depth at p in
-      let f = refused_says s.depth s.counts (line_refused_says s.depth s.counts q (not_says _ v)) in
+      let f = refused_says s.depth s.counts (line_refused_says s.depth s.counts q (not-true _ v)) in
       rw t_depth (not_refused s.depth t.counts (record { some = f.some; few = f.few; held = λ j l. rw (count_is j l) (f.held j l) }))))
 
 -- ---- section 5

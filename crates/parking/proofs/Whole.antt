@@ -11,6 +11,7 @@ use lib.Dec.{T, leb, ltb, eqb}
 use lib.IntN.{ℤ, pos, negsuc}
 use lib.Signed.{lt_z}
 use lib.ListN.{length, take, drop, set, replicate, length-set, length-append, length-drop, length-replicate}
+use Rattle.std.proofs.lemmas.List.{drop-replicate}
 use lib.Seq.{length-take-le}
 use mir.Syntax.{w16, w32}
 use mir.Val.{SFits}
@@ -48,14 +49,9 @@ pub record Used {A : Type 0} (P : A → Type 0) (z : A) (n m : ℕ) (s : List A)
 pub used_kept : {A : Type 0} {P : A → Type 0} {z : A} (n m : ℕ) (s t : List A) → Used P z n m s → length t ≡ length s → drop n t ≡ drop n s → All P t → Used P z n m t
 used_kept n m s t u l d a = record { long = l ∙ u.long; rest = d ∙ u.rest; typed = a }
 
-drop_replicate : {A : Type 0} (n m : ℕ) (z : A) → drop n (replicate m z) ≡ replicate (m - n) z
-drop_replicate zero m z = ap (λ (k : ℕ). replicate k z) (let q : m ≡ m - 0 = omega arith in q)
-drop_replicate (suc n) zero z = ap (λ (k : ℕ). replicate k z) (let q : 0 ≡ 0 - suc n = omega arith in q)
-drop_replicate (suc n) (suc m) z = drop_replicate n m z ∙ ap (λ (k : ℕ). replicate k z) (let q : m - n ≡ suc m - suc n = omega arith in q)
-
 -- nothing written yet
 pub used_fresh : {A : Type 0} (P : A → Type 0) (z : A) (n m : ℕ) → P z → Used P z n m (replicate m z)
-used_fresh P z n m p = record { long = length-replicate m z; rest = drop_replicate n m z; typed = all_replicate P m z p }
+used_fresh P z n m p = record { long = length-replicate m z; rest = drop-replicate n m z; typed = all_replicate P m z p }
 
 -- ---- section 1
 

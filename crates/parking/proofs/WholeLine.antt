@@ -13,6 +13,7 @@ use lib.Ieee.{Float, binary32, lt}
 use lib.Ieee.Bits.{of_bits-fits}
 use lib.Ieee.Fits.{div-fits}
 use lib.ListN.{length, take, replicate, length-append, length-replicate}
+use Rattle.std.proofs.lemmas.List.{take-replicate}
 use lib.Seq.{drop_at, take_all}
 use mir.Syntax.{w16, w32}
 use mir.Val.{SFits}
@@ -41,7 +42,7 @@ use Rattle.chain.specs.Chain.{Parts, from3, from4, from5, chain}
 use Rattle.line.specs.Line.{thinner_of, parts_of, cuts_at, line, half_band_fine, valid, resampler_fresh, fresh, opened}
 use Rattle.line.specs.Demand3.{History, none_yet, fed, line_of}
 use Rattle.line.specs.declared.gauge_line.Line.{Line}
-use Rattle.line.proofs.Flags.{and_left, and_right, not_says}
+use Rattle.std.proofs.lemmas.Bool.{and_parts, not-true}
 use Rattle.line.proofs.Lawful.{to_parts, line_lawful}
 use Rattle.line.proofs.Openings.{Accepted, On}
 use Rattle.line.proofs.Demanded.{outcome_is, ok, start, valid_fresh}
@@ -81,13 +82,13 @@ keeps_before {S} {R} {A} {B} {C} f m InA InB FineS WholeS FineR WholeR kept out 
 limits_taps : (P T : ℕ) → in_limits P T ≡ true → (P ≤ 64) × (T ≤ 16)
 unfolding in_limits within
 limits_taps P T e =
-    let a = and_left (leb 2 P && leb P 64) (leb 1 T && leb T 16) e in
-    let b = and_right (leb 2 P && leb P 64) (leb 1 T && leb T 16) e in
-    (leb-true P 64 (and_right (leb 2 P) (leb P 64) a), leb-true T 16 (and_right (leb 1 T) (leb T 16) b))
+    let a = (and_parts (leb 2 P && leb P 64) (leb 1 T && leb T 16) e).0 in
+    let b = (and_parts (leb 2 P && leb P 64) (leb 1 T && leb T 16) e).1 in
+    (leb-true P 64 (and_parts (leb 2 P) (leb P 64) a).1, leb-true T 16 (and_parts (leb 1 T) (leb T 16) b).1)
 
 pub resampler_taps : (s : PolyphaseResampF32) → valid_in_line s ≡ true → (s.phases ≡ 0 → ⊥) → (s.phases ≤ 64) × (s.taps ≤ 16)
 unfolding valid_in_line valid_in_line_at
-resampler_taps s v n = limits_taps s.phases s.taps (and_left (in_limits s.phases s.taps) _ (rw (ne_eqb s.phases 0 n) at v))
+resampler_taps s v n = limits_taps s.phases s.taps (and_parts (in_limits s.phases s.taps) _ (rw (ne_eqb s.phases 0 n) at v)).0
 
 on_phases : (s : PolyphaseResampF32) → is_on s ≡ true → s.phases ≡ 0 → ⊥
 unfolding is_on
@@ -97,7 +98,7 @@ keeps5 : Keeps in_line IsFloat (λ s. valid_in_line s ≡ true) ResamplerWhole
 unfolding in_line
 keeps5 =
     record {
-      after = λ s v w e. passed_whole s (on_phases s (and_left (is_on s) (lt s.mu one32) e)) w;
+      after = λ s v w e. passed_whole s (on_phases s (and_parts (is_on s) (lt s.mu one32) e).0) w;
       next = λ s x v w p e. go s x v w p (is_on s) refl;
     }
   where
@@ -107,7 +108,7 @@ keeps5 =
 
 pub half_depth : (s : HbfStream) → half_band_fine s ≡ true → s.depth ≤ 5
 unfolding half_band_fine
-half_depth s v = line_few s.depth s.counts (not_says _ v)
+half_depth s v = line_few s.depth s.counts (not-true _ v)
 
 keeps4 : Keeps from4 IsFloat (λ p. (half_band_fine p.0 ≡ true) × (valid_in_line p.1 ≡ true)) (λ p. HalfWhole p.0 × ResamplerWhole p.1)
 keeps4 =
@@ -235,11 +236,6 @@ resampler_off =
       off = λ z. refl;
     }
 
-take_replicate : {A : Type 0} (n m : ℕ) (z : A) → n ≤ m → take n (replicate m z) ≡ replicate n z
-take_replicate zero m z h = refl
-take_replicate (suc n) zero z h = absurd (omega arith)
-take_replicate (suc n) (suc m) z h = ap (λ (l : List _). z ∷ l) (take_replicate n m z (omega arith))
-
 pub half_fresh : (n : ℕ) → HalfWhole (stream_fresh n)
 half_fresh n =
     record {
@@ -247,7 +243,7 @@ half_fresh n =
       gaps = λ j a h.
           let u = used_fresh IsFloat zero32 (96 * j + window_of j) 480 zero_f32 in
           ap (take (96 - window_of j)) u.rest
-          ∙ take_replicate (96 - window_of j) (480 - (96 * j + window_of j)) zero32 (let w = window_most j h in omega arith);
+          ∙ take-replicate (96 - window_of j) (480 - (96 * j + window_of j)) zero32 (let w = window_most j h in omega arith);
       behind = (used_fresh IsFloat zero32 (96 * n) 480 zero_f32).rest;
       held_rest = (used_fresh IsFloat zero32 n 5 zero_f32).rest;
       counts_rest = (used_fresh (λ (k : ℕ). Unit {0}) 0 n 5 tt).rest;

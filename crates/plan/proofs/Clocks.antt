@@ -86,14 +86,6 @@ now_wait : (l p : ℕ) (c : Clock) → 1 < l → None ≡ ticking.now (slowed l 
 unfolding ticking
 now_wait l p c h = rw (leb_wait l ((c.left - 1) * p) h) refl
 
-period_next : (c : Clock) → (ticking.next c tt).period ≡ c.period
-unfolding ticking
-period_next c = go (leb c.left 1)
-  where
-    go : (b : Bool) → (cond b (arrived c) (at_left c (c.left - 1))).period ≡ c.period
-    go true = refl
-    go false = refl
-
 -- ---- machines, from the parts
 -- a section in front of a machine
 module _ {S R A B C : Type 0} (f : Section S A B) (m : Machine R B C) (left period : S → ℕ) (clock : R → Clock) (GoodS : S → Type 0) (GoodR : R → Type 0)

@@ -39,18 +39,6 @@ pub record Going (c₀ : Clock) (piece places : ℕ) (c : Clock) (t w : ℕ) : T
   pub writes : length (run c₀ piece places).written ≡ w + length (run c (piece - t) (places - w)).written
   pub leaves : (run c₀ piece places).line ≡ (run c (piece - t) (places - w)).line
 
-pub going_start : (c : Clock) (piece places : ℕ) → Going c piece places c 0 0
-going_start c piece places =
-    let e : run c piece places ≡ run c (piece - 0) (places - 0) =
-    ap₂ {C = Fed Clock (Unit {0})} (run c) (let q : piece ≡ piece - 0 = omega arith in q) (let q : places ≡ places - 0 = omega arith in q) in
-    record {
-      some_taken = omega arith;
-      some_written = omega arith;
-      takes = let k = (run c (piece - 0) (places - 0)).taken in ap (λ (f : Fed Clock (Unit {0})). f.taken) e ∙ (let q : k ≡ 0 + k = omega arith in q);
-      writes = let k = length (run c (piece - 0) (places - 0)).written in ap (λ (f : Fed Clock (Unit {0})). length f.written) e ∙ (let q : k ≡ 0 + k = omega arith in q);
-      leaves = ap (λ (f : Fed Clock (Unit {0})). f.line) e;
-    }
-
 module _ (c₀ : Clock) (piece places : ℕ) (c : Clock) (t w : ℕ) (g : Going c₀ piece places c t w) where
   -- where the rest of the feed is known
   by :

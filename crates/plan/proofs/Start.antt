@@ -25,7 +25,7 @@ use Rattle.line.specs.Outputs.{Opening}
 use Rattle.line.specs.Line.{opened, opening_number_of, resampler_fresh, fresh}
 use Rattle.line.specs.declared.settings.Settings.{Settings}
 use Rattle.line.specs.declared.gauge_line.Line.{Line}
-use Rattle.line.proofs.Flags.{and_left, and_right}
+use Rattle.std.proofs.lemmas.Bool.{and_parts}
 use Rattle.line.proofs.Openings.{Accepted}
 use Rattle.line.proofs.Demanded.{ok, start, valid_fresh}
 use Rattle.plan.specs.Plan.{feed_counts, PlanKept, lengths_fine, lists_fine, plan_number}
@@ -62,8 +62,8 @@ limits o a =
     let D : ℕ = o.settings.factor in
     let on : (T ≡ 0 → ⊥) → Q.settings_number T D ≡ 0 = (λ n. line_settings T D n a.filter) in
     record {
-      some_r = leb-true 1 r (and_left (leb 1 r) (leb r 4096) a.factor);
-      few_r = leb-true r 4096 (and_right (leb 1 r) (leb r 4096) a.factor);
+      some_r = leb-true 1 r (and_parts (leb 1 r) (leb r 4096) a.factor).0;
+      few_r = leb-true r 4096 (and_parts (leb 1 r) (leb r 4096) a.factor).1;
       some_taps = or_one_lem (λ k. 1 ≤ k) T T (omega arith) (λ n. (settings_in_lem T D (on n)).some);
       few_taps = or_one_lem (λ k. k ≤ Q.most_taps) T T (omega arith) (λ n. (settings_in_lem T D (on n)).few);
       some_factor = or_one_lem (λ k. 1 ≤ k) T D (omega arith) (λ n. (settings_in_lem T D (on n)).factor);
@@ -187,6 +187,6 @@ lists_say pieces spans t w h =
     let b : Bool = eqb t (length pieces) in
     let c : Bool = eqb w (length pieces) in
     let d : Bool = leb (length pieces) 4096 && (lengths_fine pieces && lengths_fine spans) in
-    let h1 : b && (c && d) ≡ true = and_right a (b && (c && d)) h in
-    let h2 : c && d ≡ true = and_right b (c && d) h1 in
-    (eqb-true _ _ (and_left a (b && (c && d)) h), eqb-true _ _ (and_left b (c && d) h1), eqb-true _ _ (and_left c d h2))
+    let h1 : b && (c && d) ≡ true = (and_parts a (b && (c && d)) h).1 in
+    let h2 : c && d ≡ true = (and_parts b (c && d) h1).1 in
+    (eqb-true _ _ (and_parts a (b && (c && d)) h).0, eqb-true _ _ (and_parts b (c && d) h1).0, eqb-true _ _ (and_parts c d h2).0)

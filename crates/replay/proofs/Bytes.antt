@@ -5,6 +5,7 @@ use Rattle.std.proofs.Math.Nat.{mul-div_cancel}
 use Rattle.std.proofs.lemmas.List.{take-append-le, take_all}
 use Rattle.std.specs.Prelude.{OnOk, Option, None, Some, Result, Ok, Err}
 use Rattle.std.specs.Io.KnownBytes.{Appends, Consumes}
+use Rattle.std.proofs.KnownBytes.{Consumes-trans, Appends-trans}
 use Rattle.replay.specs.Text.{word_text, words_text, record_text}
 use borrow.Rule.Slice.PartMut.{put_mid, post_of}
 
@@ -22,12 +23,6 @@ joined (Some us) (Some vs) (Some ws) d k xs ys n hd hn p q =
     p ∙ ap (λ w. take d xs ++ w) q ∙ sym (append_assoc (take d xs) (take n ys) ws)
     ∙ ap (λ w. w ++ ws) (sym (front (take d xs) ys (post_of d k xs) d n (length-take-le d xs hd) hn))
 
-pub both : (a b c : Option (List ℕ)) (xs ys : List ℕ) → Consumes a b xs → Consumes b c ys → Consumes a c (xs ++ ys)
-both None b c xs ys p q = tt
-both (Some us) None c xs ys p q = absurd p
-both (Some us) (Some vs) None xs ys p q = absurd q
-both (Some us) (Some vs) (Some ws) xs ys p q = p ∙ ap (λ w. xs ++ w) q ∙ sym (append_assoc xs ys ws)
-
 -- a header and the words behind it
 pub record_of : (a b c : Option (List ℕ)) (header : List ℕ) (got n : ℕ) (text words : List ℕ)
     → length (take got header) ≤ 9 → Consumes a b (take got header) → take 9 (take got header) ≡ word_text n 32
@@ -40,17 +35,10 @@ record_of a b c header got n text words hg p h q ht hw s =
     let all : length words ≡ n = hw ∙ count in
     let spelled : text ≡ words_text (length words) (length words) words =
     sym (take_all (length words * 9) text (omega arith)) ∙ s ∙ ap (λ m. words_text m (length words) words) (sym hw) in
-    both a b c (word_text (length words) 32) (words_text (length words) (length words) words)
+    Consumes-trans a b c (word_text (length words) 32) (words_text (length words) (length words) words)
     (subst (λ w. Consumes a b w) (front ∙ ap (λ m. word_text m 32) (sym all)) p) (subst (λ w. Consumes b c w) spelled q)
-
--- what two writes appended
-pub appended : (a b c : Option (List ℕ)) (xs ys : List ℕ) → Appends a b xs → Appends b c ys → Appends a c (xs ++ ys)
-appended None b c xs ys p q = tt
-appended (Some us) None c xs ys p q = absurd p
-appended (Some us) (Some vs) None xs ys p q = absurd q
-appended (Some us) (Some vs) (Some ws) xs ys p q = q ∙ ap (λ w. w ++ ys) p ∙ append_assoc us xs ys
 
 pub appended_then : {T E : Type 0} (r : Result T E) (a b c : Option (List ℕ)) (xs ys : List ℕ) → Appends a b xs → OnOk r (Appends b c ys)
     → OnOk r (Appends a c (xs ++ ys))
-appended_then (Ok x) a b c xs ys p q = appended a b c xs ys p q
+appended_then (Ok x) a b c xs ys p q = Appends-trans a b c xs ys p q
 appended_then (Err e) a b c xs ys p q = tt

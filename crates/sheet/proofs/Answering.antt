@@ -108,10 +108,6 @@ module _ (rule : Rule) (b : List ℕ) (kept k : ℕ) where
   unfolding entry_offset
   offset_kept e = rw e
 
-  pub offset_none : eqb (entry_number rule b kept k) 0 ≡ false → entry_offset rule b kept k ≡ 0
-  unfolding entry_offset
-  offset_none e = rw e
-
   pub entry_length : entry_number rule b kept k ≡ 0 → length (entry rule b kept k) ≡ size b k
   entry_length e =
       let f = found rule b kept k e in

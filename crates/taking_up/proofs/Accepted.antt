@@ -14,7 +14,7 @@ use Rattle.q15.specs.FirDecimator.{most_taps, fir_zeros}
 use Rattle.float.specs.PolyphaseResamp as R
 use Rattle.float.specs.F32.{zero32}
 use Rattle.line.specs.Line as L
-use Rattle.line.proofs.Flags.{and_left, and_right}
+use Rattle.std.proofs.lemmas.Bool.{and_parts}
 use Rattle.line.proofs.Lawful.{to_parts}
 use Rattle.theory.specs.Lists.{listed}
 use Rattle.refusal.specs.Outcome.{Opened}
@@ -41,7 +41,7 @@ unfolding fir_on fir_written fir_from
 fir_as_read q t e w = go (eqb q.taps 0) refl w
   where
     go : (b : Bool) → eqb q.taps 0 ≡ b → cond b (eqb q.factor 0 && eqb (le16 e 0) 0) true ≡ true → cond b fir_zeros (fir_from q t e) ≡ fir_from q t e
-    go true z w = fir_off q t e (eqb-true q.taps 0 z) (eqb-true q.factor 0 (and_left (eqb q.factor 0) (eqb (le16 e 0) 0) w)) (eqb-true (le16 e 0) 0 (and_right (eqb q.factor 0) (eqb (le16 e 0) 0) w))
+    go true z w = fir_off q t e (eqb-true q.taps 0 z) (eqb-true q.factor 0 (and_parts (eqb q.factor 0) (eqb (le16 e 0) 0) w).0) (eqb-true (le16 e 0) 0 (and_parts (eqb q.factor 0) (eqb (le16 e 0) 0) w).1)
     go false z w = refl
 
 resampler_off : (q : Settings) (c e : List ℕ) → q.phases ≡ 0 → q.cells ≡ 0 → q.straight ≡ 0 → q.step ≡ 0 → le32 e 0 ≡ 0 → R.zeros ≡ resampler_from q c e
@@ -54,13 +54,13 @@ resampler_as_read q c e w = go (eqb q.phases 0) refl w
   where
     go : (b : Bool) → eqb q.phases 0 ≡ b → cond b (eqb q.cells 0 && (eqb q.straight 0 && (eqb q.step 0 && eqb (le32 e 0) 0))) true ≡ true → cond b R.zeros (resampler_from q c e) ≡ resampler_from q c e
     go true z w =
-        let w₁ = and_right (eqb q.cells 0) (eqb q.straight 0 && (eqb q.step 0 && eqb (le32 e 0) 0)) w in
-        let w₂ = and_right (eqb q.straight 0) (eqb q.step 0 && eqb (le32 e 0) 0) w₁ in
+        let w₁ = (and_parts (eqb q.cells 0) (eqb q.straight 0 && (eqb q.step 0 && eqb (le32 e 0) 0)) w).1 in
+        let w₂ = (and_parts (eqb q.straight 0) (eqb q.step 0 && eqb (le32 e 0) 0) w₁).1 in
         resampler_off q c e (eqb-true q.phases 0 z)
-        (eqb-true q.cells 0 (and_left (eqb q.cells 0) (eqb q.straight 0 && (eqb q.step 0 && eqb (le32 e 0) 0)) w))
-        (eqb-true q.straight 0 (and_left (eqb q.straight 0) (eqb q.step 0 && eqb (le32 e 0) 0) w₁))
-        (eqb-true q.step 0 (and_left (eqb q.step 0) (eqb (le32 e 0) 0) w₂))
-        (eqb-true (le32 e 0) 0 (and_right (eqb q.step 0) (eqb (le32 e 0) 0) w₂))
+        (eqb-true q.cells 0 (and_parts (eqb q.cells 0) (eqb q.straight 0 && (eqb q.step 0 && eqb (le32 e 0) 0)) w).0)
+        (eqb-true q.straight 0 (and_parts (eqb q.straight 0) (eqb q.step 0 && eqb (le32 e 0) 0) w₁).0)
+        (eqb-true q.step 0 (and_parts (eqb q.step 0) (eqb (le32 e 0) 0) w₂).0)
+        (eqb-true (le32 e 0) 0 (and_parts (eqb q.step 0) (eqb (le32 e 0) 0) w₂).1)
     go false z w = refl
 
 -- ---- seven entries
@@ -96,19 +96,19 @@ module _ (e₀ e₁ e₂ e₃ e₄ e₅ e₆ : List ℕ) where
       let c₄ = resampler_written q e₆ && c₅ in
       let c₃ = fir_written q e₃ && c₄ in
       let c₂ = is_float q.step && c₃ in
-      let w₂ = and_right (leb q.straight 1) c₂ w in
-      let w₃ = and_right (is_float q.step) c₃ w₂ in
-      let w₄ = and_right (fir_written q e₃) c₄ w₃ in
-      let w₅ = and_right (resampler_written q e₆) c₅ w₄ in
-      let w₆ = and_right (stages_written e₄ (min q.depth 5)) c₆ w₅ in
+      let w₂ = (and_parts (leb q.straight 1) c₂ w).1 in
+      let w₃ = (and_parts (is_float q.step) c₃ w₂).1 in
+      let w₄ = (and_parts (fir_written q e₃) c₄ w₃).1 in
+      let w₅ = (and_parts (resampler_written q e₆) c₅ w₄).1 in
+      let w₆ = (and_parts (stages_written e₄ (min q.depth 5)) c₆ w₅).1 in
       record {
-        straight = leb-true q.straight 1 (and_left (leb q.straight 1) c₂ w);
-        step = and_left (is_float q.step) c₃ w₂;
-        fir = and_left (fir_written q e₃) c₄ w₃;
-        resampler = and_left (resampler_written q e₆) c₅ w₄;
-        stages = and_left (stages_written e₄ (min q.depth 5)) c₆ w₅;
-        cells = and_left (floats_at e₅ 0 (q.phases * q.cells)) c₇ w₆;
-        delays = and_right (floats_at e₅ 0 (q.phases * q.cells)) c₇ w₆;
+        straight = leb-true q.straight 1 (and_parts (leb q.straight 1) c₂ w).0;
+        step = (and_parts (is_float q.step) c₃ w₂).0;
+        fir = (and_parts (fir_written q e₃) c₄ w₃).0;
+        resampler = (and_parts (resampler_written q e₆) c₅ w₄).0;
+        stages = (and_parts (stages_written e₄ (min q.depth 5)) c₆ w₅).0;
+        cells = (and_parts (floats_at e₅ 0 (q.phases * q.cells)) c₇ w₆).0;
+        delays = (and_parts (floats_at e₅ 0 (q.phases * q.cells)) c₇ w₆).1;
       }
 
   pub record Lengths : Type 0 where
@@ -181,7 +181,7 @@ unfolding same
 same_says [] [] e = refl
 same_says [] (n ∷ ns) e = absurd (true≢false (sym e))
 same_says (m ∷ ms) [] e = absurd (true≢false (sym e))
-same_says (m ∷ ms) (n ∷ ns) e = ap₂ {C = List ℕ} (λ (i : ℕ) (l : List ℕ). i ∷ l) (eqb-true m n (and_left (eqb m n) (same ms ns) e)) (same_says ms ns (and_right (eqb m n) (same ms ns) e))
+same_says (m ∷ ms) (n ∷ ns) e = ap₂ {C = List ℕ} (λ (i : ℕ) (l : List ℕ). i ∷ l) (eqb-true m n (and_parts (eqb m n) (same ms ns) e).0) (same_says ms ns (and_parts (eqb m n) (same ms ns) e).1)
 
 lengths_told : (e₀ e₁ e₂ e₃ e₄ e₅ e₆ : List ℕ) → lengths_of (e₀ ∷ e₁ ∷ e₂ ∷ e₃ ∷ e₄ ∷ e₅ ∷ e₆ ∷ []) ≡ sizes (settings_of e₀) → Lengths e₀ e₁ e₂ e₃ e₄ e₅ e₆
 unfolding lengths_of sizes

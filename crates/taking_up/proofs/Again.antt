@@ -15,7 +15,7 @@ use mir.Syntax.{w16, w32}
 use mir.Facts.{of_z-to_z}
 use Rattle.nonrecursive.specs.NonrecursiveDecimator.{most_neighbours}
 use Rattle.q15.specs.FirDecimator.{most_taps}
-use Rattle.line.proofs.Flags.{and_left, and_right}
+use Rattle.std.proofs.lemmas.Bool.{and_parts}
 use Rattle.sheet.specs.Sheet.{le16, le32, bytes16, bytes32, every}
 use Rattle.sheet.specs.Laid.{laid}
 use Rattle.sheet.proofs.Laying.{laid_front, laid_length}
@@ -129,8 +129,8 @@ pub each_float : (n : ℕ) (p : ℕ → Bool) → every n p ≡ true → (i : �
 unfolding every
 each_float zero p e i h = absurd (omega arith)
 each_float (suc n) p e i h = elim (dec_lt i n) [
-  | yes l ↦ each_float n p (and_left (every n p) (p n) e) i l
-  | no l ↦ (let q : n ≡ i = omega arith in subst (λ (k : ℕ). p k ≡ true) q (and_right (every n p) (p n) e))
+  | yes l ↦ each_float n p (and_parts (every n p) (p n) e).0 i l
+  | no l ↦ (let q : n ≡ i = omega arith in subst (λ (k : ℕ). p k ≡ true) q (and_parts (every n p) (p n) e).1)
 ]
 
 pub floats_fine : (b : List ℕ) (at n : ℕ) → floats_at b at n ≡ true → (i : ℕ) → i < n → FloatAt b (at + 4 * i)
@@ -293,8 +293,8 @@ stage_floats : (e : List ℕ) (n k : ℕ) → k < n → stages_written e n ≡ t
 unfolding stages_written
 stage_floats e zero k h w = absurd (omega arith)
 stage_floats e (suc n) k h w = elim (dec_lt k n) [
-  | yes l ↦ stage_floats e n k l (and_left (stages_written e n) (floats_at e (half_band_bytes n + 2) (1 + window_of n)) w)
-  | no l ↦ (let q : n ≡ k = omega arith in subst (λ (j : ℕ). floats_at e (half_band_bytes j + 2) (1 + window_of j) ≡ true) q (and_right (stages_written e n) (floats_at e (half_band_bytes n + 2) (1 + window_of n)) w))
+  | yes l ↦ stage_floats e n k l (and_parts (stages_written e n) (floats_at e (half_band_bytes n + 2) (1 + window_of n)) w).0
+  | no l ↦ (let q : n ≡ k = omega arith in subst (λ (j : ℕ). floats_at e (half_band_bytes j + 2) (1 + window_of j) ≡ true) q (and_parts (stages_written e n) (floats_at e (half_band_bytes n + 2) (1 + window_of n)) w).1)
 ]
 
 module _ (e : List ℕ) (a : All Byte e) (n₀ : ℕ) (few : n₀ ≤ 5) (long : half_band_bytes n₀ ≤ length e) (w : stages_written e n₀ ≡ true) (s : HbfStream)

@@ -14,7 +14,7 @@ use Rattle.refusal.specs.Outcome.{Opened}
 use Rattle.q15.specs.FirDecimator.{most_taps}
 use Rattle.line.specs.Line as L
 use Rattle.line.specs.declared.gauge_line.Line.{Line}
-use Rattle.line.proofs.Flags.{and_left, and_right}
+use Rattle.std.proofs.lemmas.Bool.{and_parts}
 use Rattle.line.proofs.Lawful.{to_parts}
 use Rattle.sheet.specs.Sheet.{present, le32, count_of, sheet_number, reader_number, part_at, kept_bytes, kept_count}
 use Rattle.refusal.specs.Table.{number_of}
@@ -45,17 +45,17 @@ limits_told q h =
     let c = leb q.depth 5 in
     let d = leb q.phases 64 in
     let e = leb q.cells 16 in
-    let h₀ = and_right a (r && (b && (c && (d && e)))) h in
-    let h₁ = and_right r (b && (c && (d && e))) h₀ in
-    let h₂ = and_right b (c && (d && e)) h₁ in
-    let h₃ = and_right c (d && e) h₂ in
+    let h₀ = (and_parts a (r && (b && (c && (d && e)))) h).1 in
+    let h₁ = (and_parts r (b && (c && (d && e))) h₀).1 in
+    let h₂ = (and_parts b (c && (d && e)) h₁).1 in
+    let h₃ = (and_parts c (d && e) h₂).1 in
     record {
-      stages = leb-true q.stages 8 (and_left a (r && (b && (c && (d && e)))) h);
-      r = leb-true q.r 4096 (and_left r (b && (c && (d && e))) h₀);
-      taps = leb-true q.taps most_taps (and_left b (c && (d && e)) h₁);
-      depth = leb-true q.depth 5 (and_left c (d && e) h₂);
-      phases = leb-true q.phases 64 (and_left d e h₃);
-      cells = leb-true q.cells 16 (and_right d e h₃);
+      stages = leb-true q.stages 8 (and_parts a (r && (b && (c && (d && e)))) h).0;
+      r = leb-true q.r 4096 (and_parts r (b && (c && (d && e))) h₀).0;
+      taps = leb-true q.taps most_taps (and_parts b (c && (d && e)) h₁).0;
+      depth = leb-true q.depth 5 (and_parts c (d && e) h₂).0;
+      phases = leb-true q.phases 64 (and_parts d e h₃).0;
+      cells = leb-true q.cells 16 (and_parts d e h₃).1;
     }
 
 pub told_limits : (q : Settings) → InLimits q → in_limits q ≡ true
@@ -66,7 +66,7 @@ told_limits q m =
 -- an off resampler's cells are none
 off_cells : (q : Settings) (e : List ℕ) → resampler_written q e ≡ true → q.phases ≡ 0 → q.cells ≡ 0
 unfolding resampler_written
-off_cells q e h z = eqb-true q.cells 0 (and_left (eqb q.cells 0) (eqb q.straight 0 && (eqb q.step 0 && eqb (le32 e 0) 0)) (rw (eq-eqb q.phases 0 z) at h))
+off_cells q e h z = eqb-true q.cells 0 (and_parts (eqb q.cells 0) (eqb q.straight 0 && (eqb q.step 0 && eqb (le32 e 0) 0)) (rw (eq-eqb q.phases 0 z) at h)).0
 
 -- a line that was read with these settings has their numbers
 pub record With (q : Settings) (l : Line) : Type 0 where
@@ -87,22 +87,22 @@ module _ (l : Line) (q : Settings) (delay half_band cells resampler : List ℕ) 
       let f : Bool = fir_written q delay in
       let r : Bool = resampler_written q resampler in
       let x : Bool = floats_written q half_band cells resampler in
-      let h₁ : v && (s && (i && (f && (r && x)))) ≡ true = and_right a (v && (s && (i && (f && (r && x))))) h in
-      let h₂ = and_right v (s && (i && (f && (r && x)))) h₁ in
-      let h₃ = and_right s (i && (f && (r && x))) h₂ in
-      let h₄ = and_right i (f && (r && x)) h₃ in
-      and_left r x (and_right f (r && x) h₄)
+      let h₁ : v && (s && (i && (f && (r && x)))) ≡ true = (and_parts a (v && (s && (i && (f && (r && x))))) h).1 in
+      let h₂ = (and_parts v (s && (i && (f && (r && x)))) h₁).1 in
+      let h₃ = (and_parts s (i && (f && (r && x))) h₂).1 in
+      let h₄ = (and_parts i (f && (r && x)) h₃).1 in
+      (and_parts r x (and_parts f (r && x) h₄).1).0
 
   fine_valid : fine_in l q delay half_band cells resampler ≡ true → L.valid l ≡ true
   unfolding fine_in line_fine
   fine_valid h =
       let v : Bool = L.valid l in
       let x : Bool = written_of q delay half_band cells resampler in
-      and_left v x (and_right (leb q.taps most_taps) (v && x) h)
+      (and_parts v x (and_parts (leb q.taps most_taps) (v && x) h).1).0
 
   fine_taps : fine_in l q delay half_band cells resampler ≡ true → q.taps ≤ most_taps
   unfolding fine_in
-  fine_taps h = leb-true q.taps most_taps (and_left (leb q.taps most_taps) (line_fine l q delay half_band cells resampler) h)
+  fine_taps h = leb-true q.taps most_taps (and_parts (leb q.taps most_taps) (line_fine l q delay half_band cells resampler) h).0
 
   fine_limits : fine_in l q delay half_band cells resampler ≡ true → InLimits q
   fine_limits h =
@@ -165,7 +165,7 @@ first_cic thinning.Neighbours q c l h z = absurd (cc)
 
 first_last : (k : Thinning) (q : Settings) (c l : ℕ) → first_by k q c l ≡ true → k ≡ thinning.Neighbours → l ≡ 2 + 4 * neighbour_count q.stages q.r
 first_last thinning.Integrators q c l h z = absurd (cc)
-first_last thinning.Neighbours q c l h z = eqb-true l (2 + 4 * neighbour_count q.stages q.r) (and_right (eqb c 0) (eqb l (2 + 4 * neighbour_count q.stages q.r)) h)
+first_last thinning.Neighbours q c l h z = eqb-true l (2 + 4 * neighbour_count q.stages q.r) (and_parts (eqb c 0) (eqb l (2 + 4 * neighbour_count q.stages q.r)) h).1
 
 pub long_fits : (k : Thinning) (q : Settings) (e : Parts) → long_by k q e ≡ true → Long k q e
 long_fits k q e h =
@@ -176,19 +176,19 @@ long_fits k q e h =
     let m₅ : Bool = eqb (length e.cells) (4 * (q.phases * q.cells)) in
     let m₆ : Bool = eqb (length e.resampler) (4 + 4 * q.cells) in
     let g : a && (m₂ && (m₃ && (m₄ && (m₅ && m₆)))) ≡ true = long_is k q e ∙ h in
-    let f = and_left a (m₂ && (m₃ && (m₄ && (m₅ && m₆)))) g in
-    let e₂ = and_right a (m₂ && (m₃ && (m₄ && (m₅ && m₆)))) g in
-    let e₃ = and_right m₂ (m₃ && (m₄ && (m₅ && m₆))) e₂ in
-    let e₄ = and_right m₃ (m₄ && (m₅ && m₆)) e₃ in
-    let e₅ = and_right m₄ (m₅ && m₆) e₄ in
+    let f = (and_parts a (m₂ && (m₃ && (m₄ && (m₅ && m₆)))) g).0 in
+    let e₂ = (and_parts a (m₂ && (m₃ && (m₄ && (m₅ && m₆)))) g).1 in
+    let e₃ = (and_parts m₂ (m₃ && (m₄ && (m₅ && m₆))) e₂).1 in
+    let e₄ = (and_parts m₃ (m₄ && (m₅ && m₆)) e₃).1 in
+    let e₅ = (and_parts m₄ (m₅ && m₆) e₄).1 in
     record {
       cic = first_cic k q (length e.cic) (length e.last) f;
       last = first_last k q (length e.cic) (length e.last) f;
-      taps = eqb-true (length e.taps) (2 * q.taps) (and_left m₂ (m₃ && (m₄ && (m₅ && m₆))) e₂);
-      delay = eqb-true (length e.delay) (2 + 2 * q.taps) (and_left m₃ (m₄ && (m₅ && m₆)) e₃);
-      half_band = eqb-true (length e.half_band) (half_band_bytes q.depth) (and_left m₄ (m₅ && m₆) e₄);
-      cells = eqb-true (length e.cells) (4 * (q.phases * q.cells)) (and_left m₅ m₆ e₅);
-      resampler = eqb-true (length e.resampler) (4 + 4 * q.cells) (and_right m₅ m₆ e₅);
+      taps = eqb-true (length e.taps) (2 * q.taps) (and_parts m₂ (m₃ && (m₄ && (m₅ && m₆))) e₂).0;
+      delay = eqb-true (length e.delay) (2 + 2 * q.taps) (and_parts m₃ (m₄ && (m₅ && m₆)) e₃).0;
+      half_band = eqb-true (length e.half_band) (half_band_bytes q.depth) (and_parts m₄ (m₅ && m₆) e₄).0;
+      cells = eqb-true (length e.cells) (4 * (q.phases * q.cells)) (and_parts m₅ m₆ e₅).0;
+      resampler = eqb-true (length e.resampler) (4 + 4 * q.cells) (and_parts m₅ m₆ e₅).1;
     }
 
 -- ---- of either kind

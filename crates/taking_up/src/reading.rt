@@ -215,7 +215,7 @@ pub(crate) fn resampler_from(q: ParkedSettings, cells: &[u8], e: &[u8]) -> Polyp
     }
 }
 
-// Whether parking writes such half-band stages.
+// Whether parking writes such half-band stages. A loop, as `are_floats`: its sums of places are in bounds by the stage's number, which a closure would have to ask for.
 #[tactic(auto, unfolding(parking::specs::Entries::stages_written), using(parking::proofs::StageLengths::bytes_most))]
 pub(crate) fn stages_written(e: &[u8], n: usize) -> bool
     requires { (n ≤ 5) × (length e.now ≡ P.half_band_bytes n) }

@@ -13,7 +13,7 @@ use Rattle.theory.specs.Lists.{but_last}
 use Rattle.theory.specs.Sections.{Section, onto, state, outs}
 use Rattle.theory.specs.Machines.{Machine, alone, next_for, now_for, before}
 use Rattle.theory.specs.Feeds.{Fed, taking, idle, wrote_then, took_then, less, follow, feed}
-use Rattle.theory.proofs.Machines.{Lawful, all, all_alone, lawful_alone}
+use Rattle.theory.proofs.Machines.{Lawful, all_alone, lawful_alone}
 use Rattle.theory.proofs.Feeds.{step_not, Right, feed_right}
 use Rattle.theory.proofs.FeedLoop.{join, feed_follow, Midway}
 use Rattle.theory.proofs.FeedRules.{feed_full, feed_due, feed_end, feed_short}
@@ -111,51 +111,6 @@ module _ {S A C : Type 0} (m : Machine S A C) where
       in
       ap (λ (h : Fed S C). h.taken) (feed_append s xs (x ∷ []) n short.0) ∙ ap (λ (k : ℕ). length xs + k) one ∙ sym (length-append xs (x ∷ []))
 
-  -- what is taken of a list is taken of its front
-  abbrev Front : List A → List A → Fed S C → Fed S C → Type 0
-  Front xs zs h g = h.taken ≡ length (xs ++ zs) → g.taken ≡ length xs
-
-  front_full : (s : S) (xs zs : List A) → Front xs zs (feed m s (xs ++ zs) 0) (feed m s xs 0)
-  front_full s [] zs t = ap (λ (f : Fed S C). f.taken) (feed_full m s [])
-  front_full s (a ∷ xs) zs t = let z : 0 ≡ suc (length (xs ++ zs)) = sym (ap (λ (h : Fed S C). h.taken) (feed_full m s ((a ∷ xs) ++ zs))) ∙ t in absurd (omega arith)
-
-  front : (k : ℕ) (s : S) (xs zs : List A) (n : ℕ) → length xs + n ≤ k → Front xs zs (feed m s (xs ++ zs) n) (feed m s xs n)
-  front zero s xs zs zero l = front_full s xs zs
-  front zero s xs zs (suc n) l = absurd (omega arith)
-  front (suc k) s xs zs zero l = front_full s xs zs
-  front (suc k) s xs zs (suc n) l = go (m.due s) refl xs l (λ s' xs' n' l'. front k s' xs' zs n' l')
-    where
-      Kept : Type 0
-      Kept = (s' : S) (xs' : List A) (n' : ℕ) → length xs' + n' ≤ k → Front xs' zs (feed m s' (xs' ++ zs) n') (feed m s' xs' n')
-
-      go : (d : Bool) → m.due s ≡ d → (ys : List A) → length ys + suc n ≤ suc k → Kept → Front ys zs (feed m s (ys ++ zs) (suc n)) (feed m s ys (suc n))
-      go true e ys q ih = rw (feed_due m s ys n e, feed_due m s (ys ++ zs) n e) (ih (m.after s) ys n (omega arith))
-      go false e [] q ih = λ t. feed_nothing s (suc n)
-      go false e (a ∷ ys) q ih = rw (feed_takes s a ys n e, feed_takes s a (ys ++ zs) n e) (of (m.now s a))
-        where
-          of :
-              (o : Option C)
-              → Front (a ∷ ys) zs (took_then o (feed m (m.next s a) (ys ++ zs) (less o (suc n)))) (took_then o (feed m (m.next s a) ys (less o (suc n))))
-          of None t = ap suc (ih (m.next s a) ys (suc n) (omega arith) (omega (arith, t)))
-          of (Some c) t = ap suc (ih (m.next s a) ys n (omega arith) (omega (arith, t)))
-
-  pub feed_front : (s : S) (xs zs : List A) (n : ℕ) → (feed m s (xs ++ zs) n).taken ≡ length (xs ++ zs) → (feed m s xs n).taken ≡ length xs
-  feed_front s xs zs n = front (length xs + n) s xs zs n (omega arith)
-
-  -- ---- a feed by batches
-  -- each batch is a list that is taken whole, and the feed goes on with the places that are left; what is left in the end is fed value by value
-  pub data ByBatches : S → List A → ℕ → Fed S C → Type 0 where
-    rest : {s : S} {xs : List A} {n : ℕ} → ByBatches s xs n (feed m s xs n)
-    batch :
-        {s : S} {n : ℕ} {h : Fed S C} (xs zs : List A) → (feed m s xs n).taken ≡ length xs
-        → ByBatches (feed m s xs n).line zs (n - length (feed m s xs n).written) h
-        → ByBatches s (xs ++ zs) n (join (length xs) (feed m s xs n).written h)
-
-  -- it is the feed: so demand 3, which is said of the feed, is kept
-  pub by_batches : {s : S} {xs : List A} {n : ℕ} {h : Fed S C} → ByBatches s xs n h → feed m s xs n ≡ h
-  by_batches rest = refl
-  by_batches (batch {s = s} {n = n} xs zs t b) = feed_append s xs zs n t ∙ ap (join (length xs) (feed m s xs n).written) (by_batches b)
-
 -- ---- a section in front of a machine
 module _ {S R A B C : Type 0} (f : Section S A B) (m : Machine R B C) where
   -- what the section's block and the machine's feed of what it makes come to
@@ -219,16 +174,6 @@ module _ {S R A B C : Type 0} (f : Section S A B) (m : Machine R B C) where
       (s : S) (r : R) (xs : List A) (n : ℕ) → (feed (before f m) (s, r) xs n).taken ≡ length xs
       → ((feed m r (outs f s xs) n).taken ≡ length (outs f s xs)) × (feed (before f m) (s, r) xs n ≡ in_batch s r xs n)
   feed_before s r xs n = same (length xs + n) s r xs n (omega arith)
-
-  -- and then the others
-  pub feed_batch :
-      (s : S) (r : R) (xs zs : List A) (n : ℕ) → (feed (before f m) (s, r) xs n).taken ≡ length xs
-      → feed (before f m) (s, r) (xs ++ zs) n
-      ≡ join (length xs) (feed m r (outs f s xs) n).written
-      (feed (before f m) (state f s xs, (feed m r (outs f s xs) n).line) zs (n - length (feed m r (outs f s xs) n).written))
-  feed_batch s r xs zs n t =
-      feed_append (before f m) (s, r) xs zs n t
-      ∙ ap (λ (h : Fed (S × R) C). join (length xs) h.written (feed (before f m) h.line zs (n - length h.written))) (feed_before s r xs n t).1
 
   -- ---- when all is taken
   -- where the machine, fed what the section makes of xs, leaves a place
@@ -301,18 +246,6 @@ whole_but_last {A = A} f m s r (a ∷ xs) n p =
 
 -- ---- what is taken, by a count of outputs
 module _ {S A C : Type 0} (m : Machine S A C) (b : ℕ) (Good : S → Type 0) (law : Lawful m b Good) where
-  -- fewer outputs than places: a place is left
-  pub place_by_all : (s : S) (xs : List A) (n : ℕ) → Good s → length (all m b s xs) < n → length (feed m s xs n).written < n
-  place_by_all s xs n g h =
-      let f : Fed S C = feed m s xs n in
-      let e : f.written ++ all m b f.line (drop f.taken xs) ≡ all m b s xs =
-      (feed_right m b Good law s xs n g).joins (drop f.taken xs) ∙ ap (all m b s) (take-append-drop f.taken xs)
-      in
-      let c : length f.written + length (all m b f.line (drop f.taken xs)) ≡ length (all m b s xs) =
-      sym (length-append f.written (all m b f.line (drop f.taken xs))) ∙ ap length e
-      in
-      omega arith
-
   -- ---- the loop of a feed's code
   join_join : (t k : ℕ) (o p : List C) (f : Fed S C) → join t o (join k p f) ≡ join (t + k) (o ++ p) f
   join_join t k o p f =
@@ -360,45 +293,6 @@ module _ {S A C : Type 0} (m : Machine S A C) (b : ℕ) (Good : S → Type 0) (l
 
       less_again : (N w j : ℕ) → N - w - j ≡ N - (w + j)
       less_again N w j = omega arith
-
--- ---- what a section and a machine take whole, by a count of outputs
-module _ {S R A B C : Type 0} (f : Section S A B) (m : Machine R B C) (b : ℕ) (Good : R → Type 0) (law : Lawful m b Good) where
-  -- THE SPAN. A list is taken whole where all but its last value make fewer outputs than there are places: so there is a place and nothing due before each value
-  pub whole_by_count :
-      (s : S) (r : R) (xs : List A) (n : ℕ) → Good r → length (all m b r (outs f s (but_last xs))) < n → (feed (before f m) (s, r) xs n).taken ≡ length xs
-  whole_by_count s r xs n g h = whole_but_last f m s r xs n (place_by_all m b Good law r (outs f s (but_last xs)) n g h)
-
-  -- and so is every front of it, where the samples end before the batch does
-  pub front_by_count :
-      (s : S) (r : R) (xs : List A) (k n : ℕ) → Good r → length (all m b r (outs f s (but_last xs))) < n → (feed (before f m) (s, r) (take k xs) n).taken ≡ length (take k xs)
-  front_by_count s r xs k n g h =
-      feed_front (before f m) (s, r) (take k xs) (drop k xs) n
-      (subst⁻¹ (λ (l : List A). (feed (before f m) (s, r) l n).taken ≡ length l) (take-append-drop k xs) (whole_by_count s r xs n g h))
-
-  -- the same by a bound on the outputs of so many values
-  pub whole_by_most :
-      (most : ℕ → ℕ) (s : S) (r : R) (xs : List A) (n : ℕ) → Good r → ((ys : List B) → length (all m b r ys) ≤ most (length ys)) → most (length (outs f s (but_last xs))) < n
-      → (feed (before f m) (s, r) xs n).taken ≡ length xs
-  whole_by_most most s r xs n g bound h =
-      whole_by_count s r xs n g (let c : length (all m b r (outs f s (but_last xs))) ≤ most (length (outs f s (but_last xs))) = bound (outs f s (but_last xs)) in omega arith)
-
--- ---- section behind section: each is run over the whole list of the one before
-module _ {S T R A B D C : Type 0} (f : Section S A B) (g : Section T B D) (m : Machine R D C) where
-  pub feed_before_both :
-      (s : S) (t : T) (r : R) (xs : List A) (n : ℕ) → (feed (before f (before g m)) (s, (t, r)) xs n).taken ≡ length xs
-      → ((feed m r (outs g t (outs f s xs)) n).taken ≡ length (outs g t (outs f s xs)))
-      × (feed (before f (before g m)) (s, (t, r)) xs n
-      ≡ record {
-        taken = length xs;
-        written = (feed m r (outs g t (outs f s xs)) n).written;
-        line = (state f s xs, (state g t (outs f s xs), (feed m r (outs g t (outs f s xs)) n).line));
-      })
-  feed_before_both s t r xs n h =
-      let outer = feed_before f (before g m) s (t, r) xs n h in
-      let inner = feed_before g m t r (outs f s xs) n outer.0 in (
-        inner.0,
-        outer.1 ∙ ap {B = Fed (S × (T × R)) C} (λ (q : Fed (T × R) C). record { taken = length xs; written = q.written; line = (state f s xs, q.line) }) inner.1,
-      )
 
 -- ---- a section by itself over a span, as the first of a line is: it stops with the value that fills the span
 module _ {S A C : Type 0} (z : C) (f : Section S A C) where

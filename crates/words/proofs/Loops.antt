@@ -1,6 +1,6 @@
 -- One turn of a loop that writes values one behind the other, and of one that reads them, over any width.
 use mathlib.Core.Path.{◌≡◌, refl, sym, ap, ◌∙◌}
-use mathlib.Core.Bool.{Bool, true, false, ◌&&◌}
+use mathlib.Core.Bool.{Bool, true, false, ◌&&◌, and-false}
 use mathlib.Core.List.{List, [], ◌∷◌, ◌++◌, append-nil}
 use Prim.Native.Nat.{ℕ, zero, suc, ◌+◌, ◌*◌, ◌≤◌, ◌<◌}
 use native.Mathlib.Nat.{mul-le-mul_left}
@@ -104,10 +104,6 @@ module _ {A : Type 0} (read : List ℕ → ℕ → A) (w : ℕ) (b : List ℕ) w
       ∙ append-nil (values_at read w b at i) ∙ ap (values_at read w b at) h
 
 -- ---- testing
-
-and-false : (a : Bool) → a && false ≡ false
-and-false true = refl
-and-false false = refl
 
 pub every_one : (n : ℕ) (p : ℕ → Bool) → every (n + 1) p ≡ every n p && p n
 every_one n p = ap (λ (k : ℕ). every k p) (add-one n) ∙ (unfold every in refl)
