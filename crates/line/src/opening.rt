@@ -4,7 +4,7 @@ ghost use Rattle.refusal.specs.Outcome.{number_in};
 ghost use Rattle.nonrecursive.specs.EitherKind.{settings_number};
 ghost use Rattle.line.specs.Line as L;
 
-use crate::settings::Settings;
+use chain::settings::Settings;
 use float::settings::{in_limits, step_in_line};
 use half_band::MOST_STAGES;
 use integer::gain::{bits_of, gain_of};
