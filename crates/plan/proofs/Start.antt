@@ -23,7 +23,7 @@ use Rattle.float.specs.F32.{zero32, one32}
 use Rattle.float.specs.PolyphaseResamp as R
 use Rattle.line.specs.Outputs.{Opening}
 use Rattle.line.specs.Line.{opened, opening_number_of, resampler_fresh, fresh}
-use Rattle.line.specs.declared.settings.Settings.{Settings}
+use Rattle.chain.specs.declared.settings.Settings.{Settings}
 use Rattle.line.specs.declared.gauge_line.Line.{Line}
 use Rattle.line.proofs.Flags.{and_left, and_right}
 use Rattle.line.proofs.Openings.{Accepted}
