@@ -5,7 +5,7 @@ use mathlib.Core.Bool.{Bool, true, false, cond, ◌&&◌, true≢false, false≢
 use mathlib.Core.List.{List, [], ◌∷◌, ◌++◌, append-nil, append_assoc, map}
 use Rattle.std.specs.Prelude.{Option, None, Some}
 use Prim.Native.Nat.{ℕ, suc, ◌+◌, ◌*◌, ◌/◌, ◌%◌, ◌-◌, ◌≤◌, ◌<◌}
-use native.Mathlib.Nat.{zero-mul, one-mul, add-zero, sub-zero, add-mul, mul-mod_left, div-eq_of_lt-le}
+use native.Mathlib.Nat.{zero-mul, one-mul, add-zero, sub-zero, add-mul, mul-le-mul_left, mul-mod_left, div-eq_of_lt-le}
 use native.Mathlib.Numerals.{add-one}
 use native.Mathlib.Omega.{arith}
 use native.Mathlib.Decide.{dec_le}
@@ -29,7 +29,7 @@ use Rattle.q15.specs.FirDecimator.{most_taps, fir_state, stored, moved, fir_next
 use Rattle.q15.specs.FirBlock.{most_fir_block, block_fits, fir_block_state, fir_block_outs, fir_block_cuts, Ran, stored_run}
 use Rattle.q15.specs.declared.fixed.Cut.{Cut}
 use Rattle.q15.specs.declared.fir_decimator.FirDecimator.{FirDecimator}
-use Rattle.q15.specs.declared.fir_block.FirBlockAt.{FirBlockAt}
+use Rattle.q15.specs.declared.block.FirBlock.{FirBlock}
 use Rattle.q15.proofs.CutFilling.{count_append, byte_one}
 use Rattle.q15.proofs.Windows.{length_stored}
 use Rattle.q15.proofs.FirSteps.{quiet, makes}
@@ -50,12 +50,12 @@ fits_in n places e = go (leb n most_fir_block) refl (leb n places) refl e
     go false p b q e = absurd (false≢true e)
 
 -- what the contract says of a block, by the place that it has
-abbrev pub Answers : FirDecimator → List ℤ → List ℤ → FirBlockAt → FirDecimator → List ℤ → Type 0
+abbrev pub Answers : FirDecimator → List ℤ → List ℤ → FirBlock → FirDecimator → List ℤ → Type 0
 Answers s xs dst r after span =
     (after ≡ fir_block_state s xs (length dst))
-    × (((r.made ≡ length (fir_block_outs s xs (length dst))) × (span ≡ fir_block_outs s xs (length dst) ++ drop r.made dst)) × (r.cuts ≡ fir_block_cuts s xs (length dst)))
+    × (((r.written ≡ length (fir_block_outs s xs (length dst))) × (span ≡ fir_block_outs s xs (length dst) ++ drop r.written dst)) × (r.cuts ≡ fir_block_cuts s xs (length dst)))
 
-taken : (s : FirDecimator) (xs dst : List ℤ) (r : FirBlockAt) (after : FirDecimator) (span : List ℤ) → block_fits (length xs) (length dst) ≡ true → Ran s xs dst r after span → Answers s xs dst r after span
+taken : (s : FirDecimator) (xs dst : List ℤ) (r : FirBlock) (after : FirDecimator) (span : List ℤ) → block_fits (length xs) (length dst) ≡ true → Ran s xs dst r after span → Answers s xs dst r after span
 taken s xs dst r after span e h = rw e (h.0, ((h.1, h.2), h.3))
 
 -- ---- off
@@ -65,10 +65,10 @@ off_state [] s e = refl
 off_state (a ∷ w) s e = rw (eq-eqb s.tap_count 0 e) (off_state w s e)
 
 pub off_taken :
-    (s : FirDecimator) (xs dst front : List ℤ) (w : ℕ) → true ≡ block_fits (length xs) (length dst) → s.tap_count ≡ 0 → front ≡ xs
-    → Answers s xs dst (record { made = length xs; cuts = 0; wait = w }) s (front ++ drop (length xs) dst)
-off_taken s xs dst front w fits e h =
-    taken s xs dst (record { made = length xs; cuts = 0; wait = w }) s (front ++ drop (length xs) dst) (sym fits) (
+    (s : FirDecimator) (xs dst front : List ℤ) → true ≡ block_fits (length xs) (length dst) → s.tap_count ≡ 0 → front ≡ xs
+    → Answers s xs dst (record { written = length xs; cuts = 0 }) s (front ++ drop (length xs) dst)
+off_taken s xs dst front fits e h =
+    taken s xs dst (record { written = length xs; cuts = 0 }) s (front ++ drop (length xs) dst) (sym fits) (
       sym (off_state xs s e),
       sym (ap length (off xs s e)),
       ap (λ (x : List ℤ). x ++ drop (length xs) dst) (h ∙ sym (off xs s e)),
@@ -197,8 +197,8 @@ module _ (s : FirDecimator) (xs dst : List ℤ) where
       (g ∙ p.1 ∙ ap (λ (n : ℕ). take made span ++ (onto (made_value m) [] ++ drop n span)) (sym f))
       (k ∙ ap (λ (n : ℕ). cuts + n) (count ∙ byte_one y.cut) ∙ ap (λ (q : Option Cut). cuts + cond (made_cut q) 1 0) (sym is)) h
 
-  pub all_taken : (after : FirDecimator) (span : List ℤ) (i made cuts w : ℕ) → length xs ≤ i → Taken after span i made cuts → Ran s xs dst (record { made = made; cuts = cuts; wait = w }) after span
-  all_taken after span i made cuts w l h =
+  pub all_taken : (after : FirDecimator) (span : List ℤ) (i made cuts : ℕ) → length xs ≤ i → Taken after span i made cuts → Ran s xs dst (record { written = made; cuts = cuts }) after span
+  all_taken after span i made cuts l h =
       let e : i ≡ length xs = omega (arith, h.within) in
       let whole : take i xs ≡ xs = ap (λ (n : ℕ). take n xs) e ∙ take-length xs in (
         h.state_is ∙ ap (state fir s) whole,
@@ -254,7 +254,7 @@ module _ (c : List ℤ) (T D : ℕ) (pt : 0 < T) (small : T ≤ most_taps) (pd :
 
   pub quiet_ran :
       (zs d : List ℤ) (w : ℕ) (e dst : List ℤ) → length zs < w → e ≡ stored_run T w zs d
-      → Ran (fir_state c T D d w) zs dst (record { made = 0; cuts = 0; wait = w - length zs }) (fir_state c T D e (w - length zs)) dst
+      → Ran (fir_state c T D d w) zs dst (record { written = 0; cuts = 0 }) (fir_state c T D e (w - length zs)) dst
   quiet_ran zs d w e dst l h =
       let q = quiet_run zs d w l in
       let none : outs fir (fir_state c T D d w) zs ≡ [] = cut_sums zs (fir_state c T D d w) on ∙ ap (map (cut w16)) q.1 in (
@@ -486,16 +486,17 @@ module _ (c : List ℤ) (T D : ℕ) (pt : 0 < T) (small : T ≤ most_taps) (pd :
         sym (map_listed (cut w16) (k + 1) (λ i. window_sum c T X (i * D))) ∙ ap (map (cut w16)) tape_sums ∙ sym (cut_sums xs (fir_state c T D d w) on)
 
     pub tape_ran :
-        D ≤ T → (e dst span : List ℤ) (r : FirBlockAt)
-        → (e ≡ stored_run T D (drop (k * D + T) X) (moved T D (take T (drop (k * D) X) ++ drop T d))) × (r.wait + length X ≡ k * D + T + D)
-        → (r.made ≡ k + 1) × (span ≡ listed (k + 1) (λ i. filtered c T X (i * D)) ++ drop (k + 1) dst) × (r.cuts ≡ cut_count w16 (listed (k + 1) (λ i. window_sum c T X (i * D))))
-        → Ran (fir_state c T D d w) xs dst r (fir_state c T D e r.wait) span
-    tape_ran dt e dst span r h g = (
-      tape_state dt e r.wait h.0 h.1,
-      g.0 ∙ sym (length_listed (k + 1) (λ i. filtered c T X (i * D))) ∙ ap length tape_outs,
-      g.1 ∙ ap₂ {C = List ℤ} (λ (o : List ℤ) (n : ℕ). o ++ drop n dst) tape_outs (sym g.0),
-      g.2 ∙ ap (cut_count w16) tape_sums,
-    )
+        D ≤ T → (e dst part : List ℤ) (r cuts : ℕ) → length xs ≤ length dst
+        → (e ≡ stored_run T D (drop (k * D + T) X) (moved T D (take T (drop (k * D) X) ++ drop T d))) × (r + length X ≡ k * D + T + D)
+        → part ≡ listed (length (take (k + 1) dst)) (λ i. filtered c T X (i * D)) → cuts ≡ cut_count w16 (listed (length (take (k + 1) dst)) (λ i. window_sum c T X (i * D)))
+        → Ran (fir_state c T D d w) xs dst (record { written = k + 1; cuts = cuts }) (fir_state c T D e r) (part ++ drop (k + 1) dst)
+    tape_ran dt e dst part r cuts room h g q =
+        let n : length (take (k + 1) dst) ≡ k + 1 = length-take-le (k + 1) dst (let m : k * 1 ≤ k * D = mul-le-mul_left k pd in omega arith) in (
+          tape_state dt e r h.0 h.1,
+          sym (length_listed (k + 1) (λ i. filtered c T X (i * D))) ∙ ap length tape_outs,
+          ap (λ (o : List ℤ). o ++ drop (k + 1) dst) (g ∙ ap (λ (z : ℕ). listed z (λ i. filtered c T X (i * D))) n ∙ tape_outs),
+          q ∙ ap (λ (z : ℕ). cut_count w16 (listed z (λ i. window_sum c T X (i * D)))) n ∙ ap (cut_count w16) tape_sums,
+        )
 
 -- the tape, with the window's first samples in front and the block behind them
 pub tape_laid :
