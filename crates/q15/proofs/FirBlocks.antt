@@ -13,7 +13,7 @@ use borrow.Author.Tests.{le-leb, lt-leb, leb-true, eq-eqb, ne_eqb, le-ltb}
 use lib.IntN.{ℤ, pos}
 use lib.Dec.{leb, eqb}
 use lib.ListN.{length, get_or, set, take, drop, replicate, length-append, length-drop, take-append-drop}
-use lib.Seq.{get_or-take, get_or-drop, length-take-le, take-length, take_all, take-suc, take_at, take-append-le, drop-append-le, drop-append-add, drop-set-lt, drop-drop, drop_at, set_split, ext_get_or}
+use lib.Seq.{get_or-take, get_or-drop, length-take-le, take_all, take-suc, take_at, take-append-le, drop-append-le, drop-append-add, drop-set-lt, drop-drop, drop_at, set_split, ext_get_or}
 use mir.Syntax.{w16}
 use mir.Val.{bool_byte}
 use borrow.Rule.Slice.PartMut.{put_mid}
@@ -196,16 +196,6 @@ module _ (s : FirDecimator) (xs dst : List ℤ) where
       next_taken after span i made cuts x (made_value m) (made_cut m) after' span' made' cuts' l room e out next cut (f ∙ p.0)
       (g ∙ p.1 ∙ ap (λ (n : ℕ). take made span ++ (onto (made_value m) [] ++ drop n span)) (sym f))
       (k ∙ ap (λ (n : ℕ). cuts + n) (count ∙ byte_one y.cut) ∙ ap (λ (q : Option Cut). cuts + cond (made_cut q) 1 0) (sym is)) h
-
-  pub all_taken : (after : FirDecimator) (span : List ℤ) (i made cuts : ℕ) → length xs ≤ i → Taken after span i made cuts → Ran s xs dst (record { written = made; cuts = cuts }) after span
-  all_taken after span i made cuts l h =
-      let e : i ≡ length xs = omega (arith, h.within) in
-      let whole : take i xs ≡ xs = ap (λ (n : ℕ). take n xs) e ∙ take-length xs in (
-        h.state_is ∙ ap (state fir s) whole,
-        h.made_is ∙ ap (λ (v : List ℤ). length (outs fir s v)) whole,
-        h.span_is ∙ ap (λ (v : List ℤ). outs fir s v ++ drop made dst) whole,
-        h.cuts_is ∙ ap (λ (v : List ℤ). cut_count w16 (outs summing s v)) whole,
-      )
 
 -- ---- by the tape
 collected_append : {A B : Type 0} (made : List A → Option B) (u v w : List A) → collected made u (v ++ w) ≡ collected made u v ++ collected made (u ++ v) w

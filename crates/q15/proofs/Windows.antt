@@ -3,15 +3,14 @@
 use mathlib.Core.Path.{◌≡◌, refl, sym, ap, ◌∙◌}
 use mathlib.Core.Bool.{Bool, true, false, cond}
 use mathlib.Core.List.{List, ◌++◌}
-use Prim.Native.Nat.{ℕ, suc, ◌+◌, ◌*◌, ◌/◌, ◌%◌, ◌-◌, ◌≤◌, ◌<◌, min}
+use Prim.Native.Nat.{ℕ, ◌+◌, ◌*◌, ◌/◌, ◌%◌, ◌-◌, ◌≤◌, ◌<◌, min}
 use native.Mathlib.Decide.{dec_le}
 use native.Mathlib.Nat.{zero-mul, zero-add, suc-mul, div-add-mod'}
-use native.Mathlib.Numerals.{add-one}
 use native.Mathlib.Omega.{arith}
 use lib.Dec.{leb}
 use lib.IntN.{ℤ, pos, ◌*ℤ◌, +ℤ_idl}
-use lib.ListN.{length, get_or, set, take, drop, length-append, length-drop, length-set, get_or-append}
-use lib.Seq.{take-suc, drop-cons, set_at, append_snoc, get_or-append-add, get_or-drop, get_or-take, length-take-le}
+use lib.ListN.{length, set, take, drop, length-append, length-drop, length-set, get_or-append}
+use lib.Seq.{get_or-drop, get_or-take, length-take-le}
 use Rattle.std.specs.List.{copy_within}
 use Rattle.theory.proofs.Decimation.{quotient}
 use Rattle.q15.specs.Fixed.{floored_product, at}

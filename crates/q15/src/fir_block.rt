@@ -92,7 +92,7 @@ fn after_last(
 ) -> usize
     requires { (settings.tap_count ≤ most_taps) × (last + settings.tap_count ≤ length tape.now) × (length tape.now < last + settings.tap_count + settings.factor) }
     ensures { (delay.new ≡ stored_run settings.tap_count settings.factor (drop (last + settings.tap_count) tape.now)
-            (moved settings.tap_count settings.factor (take settings.tap_count (drop last tape.now) ++ drop settings.tap_count delay.old)))
+        (moved settings.tap_count settings.factor (take settings.tap_count (drop last tape.now) ++ drop settings.tap_count delay.old)))
         × (result + length tape.now ≡ last + settings.tap_count + settings.factor) }
 {
     let t = settings.tap_count;

@@ -155,9 +155,9 @@ impl FirDecimator {
     pub fn reset(&mut self) -> Result<(), Refusal>
         ensures answer { told_reset result self.new ≡ fir_reset self.old }
     {
-        let settings = self.settings();
-        settings.state_row(self.wait)?;
-        *self = fresh_state(&self.taps[..settings.tap_count], settings.factor);
+        let own = self.settings();
+        own.state_row(self.wait)?;
+        *self = fresh_state(&self.taps[..own.tap_count], own.factor);
         Ok(())
     }
 
