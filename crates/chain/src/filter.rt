@@ -12,7 +12,7 @@ ghost use Rattle.chain.specs.Batched.{most_sums, Whole, Batched};
 use crate::arrays::Arrays;
 use crate::fixed::{Fixed, MOST_SUMS};
 use crate::levels::levels_in;
-use q15::fir_block_at;
+use q15::{FirSettings, fir_block_at};
 
 // What a block left: the FIR's wait and how many of its sums were cut, where the next output lies, and how many places of the span are written.
 #[derive(Drop)]
@@ -43,19 +43,22 @@ pub(crate) fn filter(
     ensures cuts { result.cuts ≡ cut_count w16 (outs summing (fir_in f wait lent.old) values.now) }
 {
     let mut filtered = [0i16; MOST_SUMS];
+    let settings = FirSettings {
+        tap_count: f.tap_count,
+        factor: f.factor,
+    };
+    let mut next = wait;
     let at = fir_block_at(
         lent.fir_delay,
         lent.taps,
-        f.tap_count,
-        f.factor,
-        wait,
+        settings,
+        &mut next,
         values,
         &mut filtered,
     );
-    let made = at.made;
-    let on = levels_in(f, mu, lent, &filtered[..made], out, from);
+    let on = levels_in(f, mu, lent, &filtered[..at.written], out, from);
     Filtered {
-        wait: at.wait,
+        wait: next,
         cuts: at.cuts,
         mu: on.mu,
         written: on.written,

@@ -11,7 +11,7 @@ use integer::gain::{bits_of, gain_of};
 use integer::limits::{factor_ok, stages_ok};
 use nonrecursive::Thinning;
 use nonrecursive::thinning::factor_for;
-use q15::fir_decimator::settings_answer_in_line;
+use q15::FirSettings;
 use refusal::Refusal;
 
 // 01, section 1: "for g up to 31".
@@ -70,8 +70,12 @@ fn resampler_answer(phases: usize, taps: usize, cells: usize, step: f32) -> Resu
 pub fn answer(s: Settings, tap_count: usize, cells: usize) -> Result<(), Refusal>
     ensures { number_in result ≡ L.number_at s tap_count cells }
 {
+    let fir = FirSettings {
+        tap_count,
+        factor: s.factor,
+    };
     thinning_answer(s.thinning, s.stages, s.r)?;
-    settings_answer_in_line(tap_count, s.factor)?;
+    fir.answer_in_line()?;
     depth_answer(s.depth)?;
     resampler_answer(s.phases, s.taps, cells, s.step)
 }

@@ -21,7 +21,7 @@ use float::settings::MOST_TAPS as MOST_PHASE_TAPS;
 use half_band::{DEC_CASCADE_DELAYS, MOST_STAGES, hbf_stream_at};
 use integer::gain::scaled;
 use nonrecursive::thinning::thin_at;
-use q15::{Q15, cut_q15, fir_at};
+use q15::{FirSettings, Q15, cut_q15, fir_at};
 
 // Where the count of cut values holds.
 pub const MOST_CUTS: u32 = 4294967295;
@@ -112,14 +112,11 @@ fn fir_in(f: Fixed, s: &mut Numbers, lent: &mut Arrays<'_>, value: Q15) -> Optio
         s.new.cuts ≡ held_sum most_cuts s.old.cuts (L.sum_cut sum) }
     ensures counter { s.new.sample_counter ≡ s.old.sample_counter }
 {
-    let made = fir_at(
-        lent.fir_delay,
-        lent.taps,
-        f.tap_count,
-        f.factor,
-        &mut s.wait,
-        value,
-    );
+    let settings = FirSettings {
+        tap_count: f.tap_count,
+        factor: f.factor,
+    };
+    let made = fir_at(lent.fir_delay, lent.taps, settings, &mut s.wait, value);
     match made {
         None => None,
         Some(y) => {

@@ -9,7 +9,7 @@ use half_band::{MOST_STAGES, hbf_stream_refused_in_line};
 use integer::gain::{bits_of, gain_of};
 use nonrecursive::Thinning;
 use nonrecursive::thinning::thinning_valid;
-use q15::fir_valid_in_line;
+use q15::FirSettings;
 
 // The gain bits of a valid decimator; 64 for another, whose gain is not looked at.
 #[tactic(auto, unfolding(crate::specs::Together::bits_at))]
@@ -26,8 +26,12 @@ pub(crate) fn bits_at(thinning: Thinning, stages: usize, r: usize, sample_counte
 pub(crate) fn valid_at(f: Fixed, s: Numbers, counts: &[usize; MOST_STAGES]) -> bool
     ensures { result ≡ T.valid_at f s counts.now }
 {
+    let fir = FirSettings {
+        tap_count: f.tap_count,
+        factor: f.factor,
+    };
     f.bits <= MAX_BITS
-        && fir_valid_in_line(f.tap_count, f.factor, s.wait)
+        && fir.is_valid_in_line(s.wait)
         && !hbf_stream_refused_in_line(f.depth, counts)
         && f.setting().is_valid_in_line(s.mu)
 }
