@@ -12,8 +12,8 @@ use native.Mathlib.Decide.{dec_le}
 use borrow.Author.Tests.{le-leb, lt-leb, leb-true, eq-eqb, ne_eqb, le-ltb}
 use lib.IntN.{ℤ, pos}
 use lib.Dec.{leb, eqb}
-use lib.ListN.{length, get_or, set, take, drop, replicate, length-append, length-drop, take-append-drop}
-use lib.Seq.{get_or-take, get_or-drop, length-take-le, take_all, take-suc, take_at, take-append-le, drop-append-le, drop-append-add, drop-set-lt, drop-drop, drop_at, set_split, ext_get_or}
+use lib.ListN.{length, get_or, set, take, drop, replicate, length-append, length-drop, length-set, take-append-drop}
+use lib.Seq.{take-suc-set, get_or-take, get_or-drop, length-take-le, take_all, take-suc, take_at, take-append-le, drop-append-le, drop-append-add, drop-set-lt, drop-drop, drop_at, set_split, ext_get_or}
 use mir.Syntax.{w16}
 use mir.Val.{bool_byte}
 use borrow.Rule.Slice.PartMut.{put_mid}
@@ -204,21 +204,30 @@ collected_append made u (a ∷ v) w =
     ap (onto (made (u ++ (a ∷ [])))) (collected_append made (u ++ (a ∷ [])) v w ∙ ap (λ x. collected made (u ++ (a ∷ [])) v ++ collected made x w) (append_assoc u (a ∷ []) v))
     ∙ onto_append (made (u ++ (a ∷ []))) (collected made (u ++ (a ∷ [])) v) (collected made (u ++ (a ∷ v)) w)
 
--- one sample more
-stored_snoc : (T w : ℕ) (xs : List ℤ) (x : ℤ) (d : List ℤ) → stored_run T w (xs ++ (x ∷ [])) d ≡ stored T (w - length xs) x (stored_run T w xs d)
-stored_snoc T w [] x d = ap (λ (i : ℕ). stored T i x d) (sym (sub-zero w))
-stored_snoc T w (y ∷ xs) x d =
-    let e : w - 1 - length xs ≡ w - suc (length xs) = omega arith in
-    stored_snoc T (w - 1) xs x (stored T w y d) ∙ ap (λ (i : ℕ). stored T i x (stored_run T (w - 1) xs (stored T w y d))) e
+-- samples stored one after the other stand in a row
+one_stored :
+    (i k : ℕ) (x : ℤ) (xs d : List ℤ) → i < length d
+    → put_mid i (suc k) d (x ∷ xs) ≡ put_mid (suc i) k (set d i x) xs
+one_stored i k x xs d l =
+    let e : i + suc k ≡ suc i + k = omega arith in
+    sym (ap₂ {C = List ℤ} (λ (p q : List ℤ). p ++ (xs ++ q)) (take-suc-set d i x l)
+    (drop-drop k (suc i) (set d i x) ∙ drop-set-lt (suc i + k) d i x (omega arith) ∙ ap (λ (j : ℕ). drop j d) (sym e) ∙ sym (drop-drop (suc k) i d))
+    ∙ append_assoc (take i d) (x ∷ []) (xs ++ drop (suc k) (drop i d)))
 
-pub stored_more :
-    (T w i : ℕ) (xs d e : List ℤ) → i < length xs → e ≡ stored_run T w (take i xs) d
-    → stored T (w - i) (at xs i) e ≡ stored_run T w (take (i + 1) xs) d
-stored_more T w i xs d e l h =
-    let n : length (take i xs) ≡ i = length-take-le i xs (omega arith) in
-    ap₂ {C = List ℤ} (λ (k : ℕ) (x : List ℤ). stored T (w - k) (at xs i) x) (sym n) h
-    ∙ sym (stored_snoc T w (take i xs) (at xs i) d)
-    ∙ ap (λ (x : List ℤ). stored_run T w x d) (sym (take-suc xs i (pos 0) l) ∙ ap (λ (k : ℕ). take k xs) (sym (add-one i)))
+run_stored : (T w : ℕ) (xs d : List ℤ) → w ≤ T → T ≤ length d → length xs ≤ w → put_mid (T - w) (length xs) d xs ≡ stored_run T w xs d
+unfolding stored
+run_stored T w [] d a b l = take-append-drop (T - w) d
+run_stored T w (x ∷ xs) d a b l =
+    let e : suc (T - w) ≡ T - (w - 1) = omega arith in
+    rw (le-leb w T a) (
+    one_stored (T - w) (length xs) x xs d (omega (arith, l))
+    ∙ ap (λ (j : ℕ). put_mid j (length xs) (set d (T - w) x) xs) e
+    ∙ run_stored T (w - 1) xs (set d (T - w) x) (omega arith) (omega (arith, length-set d (T - w) x)) (omega (arith, l)))
+
+pub copied_run :
+    (T w k : ℕ) (xs ys d : List ℤ) → w ≤ T → T ≤ length d → length xs ≤ w → ys ≡ xs → k ≡ length xs
+    → put_mid (T - w) k d ys ≡ stored_run T w xs d
+copied_run T w k xs ys d a b l e f = rw (e, f) (run_stored T w xs d a b l)
 
 -- no sum comes of a sample before the one that the wait is for
 no_sum : (c : List ℤ) (T D : ℕ) (d : List ℤ) (w : ℕ) (x : ℤ) → (T ≡ 0 → ⊥) → T ≤ most_taps → 1 < w → fir_sum_out (fir_state c T D d w) x ≡ None

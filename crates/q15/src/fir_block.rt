@@ -10,7 +10,7 @@ ghost use Rattle.q15.specs.FirDecimator.{most_taps, fir_state, moved};
 ghost use Rattle.q15.specs.FirBlock.{most_fir_block, block_fits, fir_block_state, fir_block_outs, fir_block_cuts, Ran, OnTape, stored_run};
 
 use crate::block::FirBlock;
-use crate::fir_decimator::{fir_at, move_down, store};
+use crate::fir_decimator::{fir_at, move_down};
 use crate::fir_settings::{FirSettings, MOST_TAPS};
 use crate::fixed::Q15;
 use crate::polyphase_decimate::decimate;
@@ -52,12 +52,11 @@ fn laid(delay: &[i16; MOST_TAPS], kept: usize, src: &[i16]) -> [i16; TAPE]
 
 // Samples that complete no window, each at its place.
 fn store_run(delay: &mut [i16; MOST_TAPS], t: usize, wait: usize, src: &[i16])
-    requires { length src.now ≤ wait }
+    requires { (wait ≤ t) × (t ≤ most_taps) × (length src.now ≤ wait) }
     ensures { delay.new ≡ stored_run t wait src.now delay.old }
 {
-    for (i, x) in src.iter().enumerate() {
-        store(delay, t, wait - i, *x);
-    }
+    let from = t - wait;
+    delay[from..from + src.len()].copy_from_slice(src);
 }
 
 // How many windows are completed behind the first one.
@@ -90,7 +89,8 @@ fn after_last(
     tape: &[i16],
     last: usize,
 ) -> usize
-    requires { (settings.tap_count ≤ most_taps) × (last + settings.tap_count ≤ length tape.now) × (length tape.now < last + settings.tap_count + settings.factor) }
+    requires { (settings.tap_count ≤ most_taps) × (settings.factor ≤ settings.tap_count)
+        × (last + settings.tap_count ≤ length tape.now) × (length tape.now < last + settings.tap_count + settings.factor) }
     ensures { (delay.new ≡ stored_run settings.tap_count settings.factor (drop (last + settings.tap_count) tape.now)
         (moved settings.tap_count settings.factor (take settings.tap_count (drop last tape.now) ++ drop settings.tap_count delay.old)))
         × (result + length tape.now ≡ last + settings.tap_count + settings.factor) }

@@ -25,7 +25,7 @@ pub struct FirDecimator {
 
 // Puts a sample of the next output's window at its place.
 #[tactic(auto, unfolding(crate::specs::FirDecimator::stored))]
-pub(crate) fn store(delay: &mut [i16; MOST_TAPS], t: usize, wait: usize, x: i16)
+fn store(delay: &mut [i16; MOST_TAPS], t: usize, wait: usize, x: i16)
     ensures { delay.new ≡ stored t wait x delay.old }
 {
     if wait <= t && t - wait < MOST_TAPS {
