@@ -3,6 +3,7 @@ use Rattle.std.specs.Prelude.{List, ℕ, ℤ, Float}
 use Rattle.nonrecursive.specs.EitherKind as E
 use Rattle.q15.specs.FirDecimator.{fir_state}
 use Rattle.q15.specs.declared.fir_decimator.FirDecimator.{FirDecimator}
+use Rattle.q15.specs.declared.fir_settings.FirSettings.{FirSettings}
 use Rattle.half_band.specs.HbfStream.{stream_of}
 use Rattle.half_band.specs.declared.hbf_stream.HbfStream.{HbfStream}
 use Rattle.float.specs.PolyphaseResamp as R
@@ -11,6 +12,10 @@ use Rattle.float.specs.declared.settings.Setting.{Setting}
 use Rattle.chain.specs.Chain.{PartsLevels, Parts3, Parts2}
 use Rattle.chain.specs.declared.settings.Settings.{Settings}
 use Rattle.chain.specs.declared.fixed.Fixed.{Fixed}
+
+-- what the FIR is opened with, with so many taps
+abbrev pub fir_settings_of : Settings → ℕ → FirSettings
+fir_settings_of s tap_count = record { tap_count = tap_count; factor = s.factor }
 
 -- what the resampler is opened with
 abbrev pub setting_of : Settings → Setting

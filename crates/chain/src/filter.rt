@@ -37,17 +37,21 @@ pub(crate) fn filter(
     ensures counter { clock.new.sample_counter ≡ clock.old.sample_counter }
 {
     let mut filtered = [0i16; MOST_SUMS];
+    let settings = f.settings.fir(f.tap_count);
     let at = fir_block_at(
         lent.fir_delay,
         lent.taps,
-        f.tap_count,
-        f.settings.factor,
-        clock.wait,
+        settings,
+        &mut clock.wait,
         values,
         &mut filtered,
     );
-    let made = at.made;
-    clock.wait = at.wait;
     clock.cuts = held_sum(clock.cuts, at.cuts as u32);
-    levels_in(f, &mut clock.mu, lent, &filtered[..made], out)
+    levels_in(
+        f,
+        &mut clock.mu,
+        lent,
+        &filtered[..at.written],
+        out,
+    )
 }

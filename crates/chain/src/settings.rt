@@ -1,9 +1,10 @@
 // 01, section 6: what a line is opened with, beside its taps and its prototype.
 ghost use Rattle.std.specs.Prelude.{◌≡◌};
-ghost use Rattle.chain.specs.Parts.{setting_of};
+ghost use Rattle.chain.specs.Parts.{fir_settings_of, setting_of};
 
 use float::settings::Setting;
 use nonrecursive::Thinning;
+use q15::FirSettings;
 
 #[derive(Clone, Copy)]
 pub struct Settings {
@@ -20,6 +21,16 @@ pub struct Settings {
 }
 
 impl Settings {
+    // What the FIR is opened with, with so many taps.
+    pub fn fir(self, tap_count: usize) -> FirSettings
+        ensures { result ≡ fir_settings_of self tap_count }
+    {
+        FirSettings {
+            tap_count,
+            factor: self.factor,
+        }
+    }
+
     // What the resampler is opened with.
     pub fn resampler(self) -> Setting
         ensures { result ≡ setting_of self }

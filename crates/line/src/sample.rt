@@ -86,11 +86,11 @@ fn fir_in(f: Fixed, clock: &mut Clock, lent: &mut Arrays<'_>, value: Q15) -> Opt
         clock.new.cuts ≡ held_sum most_cuts clock.old.cuts (L.sum_cut sum) }
     ensures counter { clock.new.sample_counter ≡ clock.old.sample_counter }
 {
+    let settings = f.settings.fir(f.tap_count);
     let made = fir_at(
         lent.fir_delay,
         lent.taps,
-        f.tap_count,
-        f.settings.factor,
+        settings,
         &mut clock.wait,
         value,
     );

@@ -9,7 +9,6 @@ use chain::settings::Settings;
 use half_band::{MOST_STAGES, hbf_stream_refused_in_line};
 use integer::gain::{bits_of, gain_of};
 use nonrecursive::thinning::thinning_valid;
-use q15::fir_valid_in_line;
 
 // The gain bits of a valid decimator; 64 for another, whose gain is not looked at.
 #[tactic(auto, unfolding(crate::specs::Together::bits_at))]
@@ -28,7 +27,7 @@ pub(crate) fn valid_at(f: Fixed, clock: Clock, counts: &[usize; MOST_STAGES]) ->
 {
     let s = f.settings;
     f.bits <= MAX_BITS
-        && fir_valid_in_line(f.tap_count, s.factor, clock.wait)
+        && s.fir(f.tap_count).is_valid_in_line(clock.wait)
         && !hbf_stream_refused_in_line(s.depth, counts)
         && s.resampler().is_valid_in_line(clock.mu)
 }
