@@ -36,20 +36,12 @@ pub fn above_zero(x: f32) -> bool
     0.0 < x && x.is_finite()
 }
 
-// Whether n is from least to most.
-#[tactic(auto, unfolding(crate::specs::PolyphaseResamp::within))]
-fn within(least: usize, most: usize, n: usize) -> bool
-    ensures { result ≡ R.within least most n }
-{
-    least <= n && n <= most
-}
-
 // Whether P and T are inside their limits.
-#[tactic(auto, unfolding(crate::specs::PolyphaseResamp::in_limits))]
+#[tactic(auto, unfolding(crate::specs::PolyphaseResamp::in_limits, crate::specs::PolyphaseResamp::within))]
 pub fn in_limits(phases: usize, taps: usize) -> bool
     ensures { result ≡ R.in_limits phases taps }
 {
-    within(LEAST_PHASES, MOST_PHASES, phases) && within(LEAST_TAPS, MOST_TAPS, taps)
+    (LEAST_PHASES..=MOST_PHASES).contains(&phases) && (LEAST_TAPS..=MOST_TAPS).contains(&taps)
 }
 
 // Whether mu is from low to 1.0 + step as rounded.
