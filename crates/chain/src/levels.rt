@@ -44,13 +44,7 @@ pub(crate) fn levels_in(
 {
     let mut tape = [0.0f32; MOST_SUMS];
     put_levels(&mut tape, values);
-    let made = hbf_stream_block_at(
-        f.depth,
-        lent.delays,
-        lent.held,
-        lent.counts,
-        &mut tape,
-        values.len(),
-    );
-    resample(f, mu, lent.delay, lent.prototype, &tape[..made], out, from)
+    let front = &mut tape[..values.len()];
+    let made = hbf_stream_block_at(f.depth, lent.delays, lent.held, lent.counts, front);
+    resample(f, mu, lent.delay, lent.prototype, &front[..made], out, from)
 }
