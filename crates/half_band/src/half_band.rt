@@ -1,5 +1,5 @@
 // What the half-band filters do to a window of the last samples, the newest at its end.
-ghost use Rattle.std.specs.Prelude.{◌≡◌, [], ◌∷◌, ◌++◌, ◌≤◌, ◌+◌, ◌-◌, ◌*◌, ◌/◌, length, take, drop, replicate};
+ghost use Rattle.std.specs.Prelude.{◌≡◌, [], ◌∷◌, ◌++◌, ◌≤◌, ◌+◌, ◌-◌, ◌*◌, ◌/◌, ◌%◌, length, take, drop, replicate};
 ghost use Rattle.std.specs.Float.{binary32};
 ghost use Rattle.std.specs.Float.Ieee.{add, mul};
 ghost use Rattle.theory.specs.Sections.{state, outs};
@@ -166,22 +166,22 @@ fn put_on(tape: &mut [f32; TAPE], at: usize, long: usize, x: f32) -> usize
     1
 }
 
-// The last n samples of the span go through the interpolator, and their 2n outputs stand at its end. An output is never written over a sample that is
-// still to be read: output 2i + 1 stands n - 1 - i places before sample i. The window moves along a tape, so that it is not moved for each sample.
-pub(crate) fn expand(window: &mut [f32], taps: &[f32], span: &mut [f32], n: usize)
-    requires { (1 ≤ length taps.now) × (length taps.now ≤ 23) × (length window.old ≡ 2 * length taps.now) × (2 * n ≤ length span.old) }
-    ensures { (window.new ≡ state (interpolator taps.now) window.old (drop (length span.old - n) span.old)) × (span.new ≡ take (length span.old - 2 * n) span.old ++ flat (outs (interpolator taps.now) window.old (drop (length span.old - n) span.old))) }
+// The samples in the second half of the span go through the interpolator, and their outputs fill the span. An output is never written over a sample that is still
+// to be read: output 2i + 1 stands n - 1 - i places before sample i. The window moves along a tape, so that it is not moved for each sample.
+pub(crate) fn expand(window: &mut [f32], taps: &[f32], span: &mut [f32])
+    requires { (1 ≤ length taps.now) × (length taps.now ≤ 23) × (length window.old ≡ 2 * length taps.now) × (length span.old % 2 ≡ 0) }
+    ensures { let samples = drop (length span.old / 2) span.old in
+        (window.new ≡ state (interpolator taps.now) window.old samples) × (span.new ≡ flat (outs (interpolator taps.now) window.old samples)) }
 {
-    let from = span.len() - n;
-    let to = from - n;
+    let n = span.len() / 2;
     let long = window.len();
     let mut tape = on_tape(window);
     let mut at = 0;
     for i in 0..n {
-        at = put_on(&mut tape, at, long, span[from + i]);
+        at = put_on(&mut tape, at, long, span[n + i]);
         let (even, odd) = both_at(&tape[at..at + long], taps);
-        span[to + 2 * i] = even;
-        span[to + 2 * i + 1] = odd;
+        span[2 * i] = even;
+        span[2 * i + 1] = odd;
     }
     window.copy_from_slice(&tape[at..at + long]);
 }
@@ -192,7 +192,7 @@ pub(crate) fn interpolate(window: &mut [f32], taps: &[f32], src: &[f32], span: &
     ensures { (window.new ≡ state (interpolator taps.now) window.old src.now) × (span.new ≡ flat (outs (interpolator taps.now) window.old src.now)) }
 {
     span[src.len()..].copy_from_slice(src);
-    expand(window, taps, span, src.len());
+    expand(window, taps, span);
 }
 
 // The taps in front, and zeros behind them.

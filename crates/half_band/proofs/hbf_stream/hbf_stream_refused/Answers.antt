@@ -1,6 +1,6 @@
 -- A state is refused for its depth, or where a stage holds two.
 use Rattle.std.specs.Prelude.{◌↔◌, ◌≤◌, EachIndex, IsFalse, slice_index}
-use Rattle.std.proofs.Common.{rules, List, ℕ, take, sym, ◌∙◌, arith}
+use Rattle.std.proofs.Common.{rules, take, sym, ◌∙◌, arith}
 use Rattle.half_band.proofs.HeldOnes.{not_so_deep, refused_as}
 use Rattle.half_band.proofs.hbf_stream.hbf_stream_refused.Goals as goal
 
