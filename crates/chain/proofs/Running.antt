@@ -134,28 +134,20 @@ module _ (s : PolyphaseResampF32) (xs o : List Float) where
     moved_batched o' eo on v whole = batched_on t m.written o' (is_on_lem s on) v wrote (ap (λ (o : Outcome Moved PolyphaseResampF32). o.state) told) eo
 
 -- ---- section 4
-module _ (h h' : HbfStream) (r r' : PolyphaseResampF32) (values : List ℤ) (tape tape₁ tape₂ : List Float) (m w : ℕ) (o o' : List Float) (few : length values ≤ 128)
+module _ (h h' : HbfStream) (r r' : PolyphaseResampF32) (values : List ℤ) (tape tape₁ span : List Float) (m w : ℕ) (o o' : List Float) (few : length values ≤ 128)
     (long : length tape ≡ 128) (laid : tape₁ ≡ map level values ++ drop (length values) tape) where
-  levels_long : length (map level values) ≡ length values
-  levels_long = length-map values level
-
   front : take (length values) tape₁ ≡ map level values
-  front = ap (take (length values)) laid ∙ take_at (map level values) (drop (length values) tape) (length values) levels_long
+  front = ap (take (length values)) laid ∙ take_at (map level values) (drop (length values) tape) (length values) (length-map values level)
 
-  tape_long : length tape₁ ≡ 128
-  tape_long =
-      ap length laid ∙ length-append (map level values) (drop (length values) tape)
-      ∙ (let a = levels_long in let b = length-drop (length values) tape in omega (arith, a, b, long, few))
+  fits : stream_block_fits (take (length values) tape₁) ≡ true
+  fits = ap stream_block_fits front ∙ le-leb (length (map level values)) 192 (let e = length-map values level in omega arith)
 
-  fits : stream_block_fits tape₁ (length values) ≡ true
-  fits = let t = tape_long in rw (le-leb (length values) 192 (omega arith), le-leb (length values) (length tape₁) (omega (arith, t))) refl
-
-  pub made_outs : take m tape₂ ≡ stream_block_outs h tape₁ (length values) → take m tape₂ ≡ outs hbf_stream h (map level values)
+  pub made_outs : take m span ≡ stream_block_outs h (take (length values) tape₁) → take m span ≡ outs hbf_stream h (map level values)
   made_outs e = e ∙ ap (λ (b : Bool). cond b (outs hbf_stream h (take (length values) tape₁)) []) fits ∙ ap (outs hbf_stream h) front
 
   pub levels_batched :
-      h' ≡ stream_block_state h tape₁ (length values) → take m tape₂ ≡ stream_block_outs h tape₁ (length values)
-      → (valid_in_line r ≡ true → Whole from5 r (take m tape₂) (length o) → Batched from5 r (take m tape₂) o o' r' w)
+      h' ≡ stream_block_state h (take (length values) tape₁) → take m span ≡ stream_block_outs h (take (length values) tape₁)
+      → (valid_in_line r ≡ true → Whole from5 r (take m span) (length o) → Batched from5 r (take m span) o o' r' w)
       → valid_in_line r ≡ true → Whole from_levels (levels_on h r) values (length o) → Batched from_levels (levels_on h r) values o o' (levels_on h' r') w
   levels_batched eh em on v whole =
       let made = made_outs em in

@@ -42,13 +42,13 @@ pub(crate) fn levels_in(
 {
     let mut tape = [0.0f32; MOST_SUMS];
     put_levels(&mut tape, values);
+    let front = &mut tape[..values.len()];
     let made = hbf_stream_block_at(
         f.settings.depth,
         lent.delays,
         lent.held,
         lent.counts,
-        &mut tape,
-        values.len(),
+        front,
     );
-    resample(f, mu, lent.delay, lent.prototype, &tape[..made], out)
+    resample(f, mu, lent.delay, lent.prototype, &front[..made], out)
 }
