@@ -2,10 +2,10 @@
 use mathlib.Core.Path.{◌≡◌, refl, sym, ap, ap₂, ◌∙◌, subst, subst⁻¹}
 use mathlib.Core.Bool.{true, false}
 use mathlib.Core.List.{List, ◌++◌, map}
-use Prim.Native.Nat.{ℕ, ◌+◌, ◌-◌, ◌≤◌}
+use Prim.Native.Nat.{ℕ, ◌≤◌}
 use borrow.Author.Tests.{eq-eqb, ne_eqb}
 use lib.Ieee.{Float}
-use lib.ListN.{length, take, drop}
+use lib.ListN.{length, drop}
 use Rattle.theory.specs.Sections.{Section, state, outs, each}
 use Rattle.theory.specs.Machines.{Machine, before}
 use Rattle.theory.specs.Feeds as F
@@ -25,22 +25,22 @@ module _ {S R A B : Type 0} (f : Section S A B) (m : Machine R B Float) where
   whole_behind s r xs n w = (feed_before f m s r xs n w).0
 
   pub batched_before :
-      (s : S) (r : R) (xs : List A) (from : ℕ) (o₀ o : List Float) (t : S) (q : R) (w : ℕ) → Whole (before f m) (s, r) xs (length o₀ - from) → t ≡ state f s xs
-      → Batched m r (outs f s xs) from o₀ o q w → Batched (before f m) (s, r) xs from o₀ o (t, q) w
-  batched_before s r xs from o₀ o t q w h e b =
-      let i = (feed_before f m s r xs (length o₀ - from) h).1 in
+      (s : S) (r : R) (xs : List A) (o₀ o : List Float) (t : S) (q : R) (w : ℕ) → Whole (before f m) (s, r) xs (length o₀) → t ≡ state f s xs
+      → Batched m r (outs f s xs) o₀ o q w → Batched (before f m) (s, r) xs o₀ o (t, q) w
+  batched_before s r xs o₀ o t q w h e b =
+      let i = (feed_before f m s r xs (length o₀) h).1 in
       record {
         state = ap₂ {C = S × R} (λ (x : S) (y : R). (x, y)) e b.state ∙ sym (ap (λ (g : F.Fed (S × R) Float). g.line) i);
-        wrote = b.wrote ∙ sym (ap (λ (g : F.Fed (S × R) Float). from + length g.written) i);
-        span = b.span ∙ sym (ap (λ (g : F.Fed (S × R) Float). take from o₀ ++ (g.written ++ drop (length g.written) (drop from o₀))) i);
+        wrote = b.wrote ∙ sym (ap (λ (g : F.Fed (S × R) Float). length g.written) i);
+        span = b.span ∙ sym (ap (λ (g : F.Fed (S × R) Float). g.written ++ drop (length g.written) o₀) i);
       }
 
 -- a section that maps each value
 pub batched_each :
-    {R A B : Type 0} (g : A → B) (m : Machine R B Float) (r : R) (xs : List A) (ys : List B) (from : ℕ) (o₀ o : List Float) (q : R) (w : ℕ) → ys ≡ map g xs
-    → Whole (before (each {S = Unit {0}} g) m) (tt, r) xs (length o₀ - from) → Batched m r ys from o₀ o q w → Batched (before (each {S = Unit {0}} g) m) (tt, r) xs from o₀ o (tt, q) w
-batched_each g m r xs ys from o₀ o q w e h b =
-    batched_before (each g) m tt r xs from o₀ o tt q w h refl (subst⁻¹ (λ l. Batched m r l from o₀ o q w) (outs_each g tt xs ∙ sym e) b)
+    {R A B : Type 0} (g : A → B) (m : Machine R B Float) (r : R) (xs : List A) (ys : List B) (o₀ o : List Float) (q : R) (w : ℕ) → ys ≡ map g xs
+    → Whole (before (each {S = Unit {0}} g) m) (tt, r) xs (length o₀) → Batched m r ys o₀ o q w → Batched (before (each {S = Unit {0}} g) m) (tt, r) xs o₀ o (tt, q) w
+batched_each g m r xs ys o₀ o q w e h b =
+    batched_before (each g) m tt r xs o₀ o tt q w h refl (subst⁻¹ (λ l. Batched m r l o₀ o q w) (outs_each g tt xs ∙ sym e) b)
 
 pub whole_each : {R A B : Type 0} (g : A → B) (m : Machine R B Float) (r : R) (xs : List A) (n : ℕ) → Whole (before (each {S = Unit {0}} g) m) (tt, r) xs n → Whole m r (map g xs) n
 whole_each g m r xs n h = subst (λ l. Whole m r l n) (outs_each g tt xs) (whole_behind (each g) m tt r xs n h)
@@ -55,16 +55,14 @@ unfolding is_on
 is_on_lem s n = rw (ne_eqb s.phases 0 n) refl
 
 -- off, it hands each level on
-pub batched_off :
-    (s : PolyphaseResampF32) (xs : List Float) (from : ℕ) (o₀ : List Float) → is_on s ≡ false → Whole in_line s xs (length o₀ - from)
-    → Batched in_line s xs from o₀ (take from o₀ ++ (xs ++ drop (length xs) (drop from o₀))) s (from + length xs)
+pub batched_off : (s : PolyphaseResampF32) (xs o₀ : List Float) → is_on s ≡ false → Whole in_line s xs (length o₀) → Batched in_line s xs o₀ (xs ++ drop (length xs) o₀) s (length xs)
 unfolding in_line
-batched_off s xs from o₀ o h =
-    let e = feed_hands in_line s (rw o) (λ x. rw o) (λ x. rw o) xs (length o₀ - from) h in
+batched_off s xs o₀ o h =
+    let e = feed_hands in_line s (rw o) (λ x. rw o) (λ x. rw o) xs (length o₀) h in
     record {
       state = sym (ap (λ (g : F.Fed PolyphaseResampF32 Float). g.line) e);
-      wrote = sym (ap (λ (g : F.Fed PolyphaseResampF32 Float). from + length g.written) e);
-      span = sym (ap (λ (g : F.Fed PolyphaseResampF32 Float). take from o₀ ++ (g.written ++ drop (length g.written) (drop from o₀))) e);
+      wrote = sym (ap (λ (g : F.Fed PolyphaseResampF32 Float). length g.written) e);
+      span = sym (ap (λ (g : F.Fed PolyphaseResampF32 Float). g.written ++ drop (length g.written) o₀) e);
     }
 
 -- on, it is the one beside the line

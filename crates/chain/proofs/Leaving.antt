@@ -106,11 +106,6 @@ pub record Counted (n : ℕ) (c : List ℕ) (levels k values : ℕ) : Type 0 whe
   pub within : k ≤ n
   pub is : values ≡ values_for (n - k) k c levels
 
-pub none_counted : (n : ℕ) (c : List ℕ) (levels : ℕ) → Counted n c levels n levels
-none_counted n c levels =
-    let z : n - n ≡ 0 = omega arith in
-    record { within = omega arith; is = let q : levels ≡ 1 - 1 + levels * 1 = omega arith in q ∙ ap (λ (m : ℕ). values_for m n c levels) (sym z) }
-
 pub next_counted :
     (n : ℕ) (c : List ℕ) (levels k values b : ℕ) → 0 < k → b ≡ cond (eqb (get_or c (k - 1) 0) 0) 1 0 → Counted n c levels k values → Counted n c levels (k - 1) (b + values * 2)
 next_counted n c levels k values b p e i =
@@ -142,11 +137,11 @@ all_counted n c levels k values z i =
 module _ (f : Fixed) (wait : ℕ) (counts : List ℕ) (places stride levels values first period n : ℕ) where
   pub record Worked : Type 0 where
     pub long : length counts ≡ 5
-    pub stride_is : stride ≡ cond (eqb f.phases 0) 4096 (to_unsigned 64 (mul binary32 f.step (of_bits binary32 0x4580_0000)) - 1)
+    pub stride_is : stride ≡ cond (eqb f.settings.phases 0) 4096 (to_unsigned 64 (mul binary32 f.settings.step (of_bits binary32 0x4580_0000)) - 1)
     pub levels_fit : levels * 4096 ≤ (places - 1) * stride
-    pub values_are : values ≡ stages_left (min f.depth 5) 0 counts - 1 + levels * 2 ^ min f.depth 5
+    pub values_are : values ≡ stages_left (min f.settings.depth 5) 0 counts - 1 + levels * 2 ^ min f.settings.depth 5
     pub first_is : first ≡ min (or_one f.tap_count wait) most_sums
-    pub period_is : period ≡ min (or_one f.tap_count f.factor) most_sums
+    pub period_is : period ≡ min (or_one f.tap_count f.settings.factor) most_sums
     pub are : n ≡ min (first + values * period) most_sums
 
   module _ (w : Worked) (mu : Float) (taps fir_delay : List ℤ) (delays held delay prototype : List Float) where
@@ -159,12 +154,12 @@ module _ (f : Fixed) (wait : ℕ) (counts : List ℕ) (places stride levels valu
     abbrev r : PolyphaseResampF32
     r = resampler_of f mu delay prototype
 
-    stride_of_lem : stride ≡ stride_of f.phases f.step
+    stride_of_lem : stride ≡ stride_of f.settings.phases f.settings.step
     unfolding stride_of
     stride_of_lem = w.stride_is
 
     pub sums_leave :
-        fir_valid_in_line f.tap_count f.factor wait ≡ true → R.valid_in_line r ≡ true → from5.due r ≡ false → 1 ≤ places
+        fir_valid_in_line f.tap_count f.settings.factor wait ≡ true → R.valid_in_line r ≡ true → from5.due r ≡ false → 1 ≤ places
         → Leaves from2 (cut_on s h r) n places
     sums_leave fv v d p =
         let good : FirGood s = fir_runs s fv in

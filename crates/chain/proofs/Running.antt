@@ -1,16 +1,16 @@
 -- What the functions of this crate leave is a batch of the machine from their section on: each section's block in its laws, one section before the other.
 use mathlib.Core.Path.{◌≡◌, refl, sym, ap, ap₂, ◌∙◌, subst, subst⁻¹}
 use mathlib.Core.Bool.{Bool, true, false, cond}
-use mathlib.Core.List.{List, [], ◌∷◌, ◌++◌, map, append-nil, append_assoc}
+use mathlib.Core.List.{List, [], ◌∷◌, ◌++◌, map, append_assoc}
 use Rattle.std.specs.Prelude.{Option, None, Some, Result, Ok, Err}
 use Rattle.std.specs.Result.{result_unwrap_or}
-use Prim.Native.Nat.{ℕ, zero, suc, ◌+◌, ◌-◌, ◌^◌, ◌≤◌, ◌<◌, min, suc-le-suc}
+use Prim.Native.Nat.{ℕ, zero, suc, ◌+◌, ◌^◌, ◌≤◌, ◌<◌, min, suc-le-suc}
 use native.Mathlib.Nat.{le_trans}
 use native.Mathlib.Omega.{arith}
 use borrow.Author.Tests.{le-leb}
 use lib.IntN.{ℤ, pos}
 use lib.Ieee.{Float}
-use lib.ListN.{length, get_or, take, drop, length-append, length-drop, length-map, drop_of_length-le}
+use lib.ListN.{length, get_or, take, drop, length-append, length-drop, length-map}
 use lib.Seq.{length-take-le, take_at, take_all}
 use mir.Syntax.{w16}
 use Rattle.refusal.specs.Outcome.{Outcome, told_on, value_in, none_moved}
@@ -19,9 +19,11 @@ use Rattle.refusal.specs.declared.Moved.{Moved}
 use Rattle.theory.specs.Floor.{floor_div}
 use Rattle.theory.specs.Lists.{but_last}
 use Rattle.theory.specs.Sections.{Section, onto, state, outs}
+use Rattle.theory.specs.Tally.{held_sum}
 use Rattle.theory.specs.Machines.{Machine, alone}
 use Rattle.theory.specs.Feeds.{Fed, idle, less, feed}
 use Rattle.theory.proofs.Machines.{lawful_alone}
+use Rattle.theory.proofs.Tally.{held_more}
 use Rattle.theory.proofs.Feeds.{feed_right}
 use Rattle.theory.proofs.FeedRules.{feed_full, feed_due, feed_end}
 use Rattle.theory.proofs.Batches.{feed_takes, feed_alone, alone_before_last, whole_but_last}
@@ -38,14 +40,12 @@ use Rattle.q15.proofs.FirBlocks.{block_fits_lem}
 use Rattle.half_band.specs.HbfStream.{hbf_stream}
 use Rattle.half_band.specs.HbfStreamBlock.{stream_block_fits, stream_block_state, stream_block_outs}
 use Rattle.half_band.specs.declared.hbf_stream.HbfStream.{HbfStream}
-use Rattle.float.specs.Ending.{ending_in}
 use Rattle.float.specs.Level.{level}
 use Rattle.float.specs.PolyphaseResamp.{is_on, in_line, resampler, valid, valid_in_line, block, block_outcome, block_span}
 use Rattle.float.specs.declared.polyphase_resamp.PolyphaseResampF32.{PolyphaseResampF32}
-use Rattle.float.proofs.Tape.{ends_in}
 use Rattle.float.proofs.PolyphaseRange as Res
 use Rattle.chain.specs.Chain.{Parts2, from2, from3, from4, from5, from_levels, chain}
-use Rattle.chain.specs.Parts.{levels_on, fir_on, cut_on}
+use Rattle.chain.specs.Parts.{most_count, levels_on, fir_on, cut_on}
 use Rattle.chain.specs.Batched.{Whole, Leaves, Batched}
 use Rattle.chain.proofs.Batching.{whole_behind, batched_before, batched_each, whole_each, is_off, is_on_lem, batched_off, off_room, fed_on_lem}
 
@@ -85,123 +85,79 @@ outs_few {B = B} f s (a ∷ xs) = of (f.out s a) (outs_few f (f.next s a) xs)
     of (Some b) h = suc-le-suc h
 
 -- ---- section 5
--- off: levels put at the end of just their places
-off_span :
-    (xs o part : List Float) (from : ℕ) → length xs ≤ length o - from → part ≡ ending_in xs (take (from + length xs - from) (drop from o))
-    → take from o ++ (part ++ drop (from + length xs - from) (drop from o)) ≡ take from o ++ (xs ++ drop (length xs) (drop from o))
-off_span xs o part from h e =
-    let n : from + length xs - from ≡ length xs = omega arith in
-    let long : length (take (length xs) (drop from o)) ≡ length xs = length-take-le (length xs) (drop from o) (omega (arith, h, length-drop from o)) in
-    let none_before : length (take (length xs) (drop from o)) - length xs ≡ 0 = omega (arith, long) in
-    let is : ending_in xs (take (length xs) (drop from o)) ≡ xs =
-    ends_in xs (take (length xs) (drop from o)) (omega (arith, long)) ∙ ap (λ (k : ℕ). take k (take (length xs) (drop from o)) ++ xs) none_before
-    in
-    ap (λ (p : List Float). take from o ++ (p ++ drop (from + length xs - from) (drop from o))) (e ∙ ap (λ (k : ℕ). ending_in xs (take k (drop from o))) n ∙ is)
-    ∙ ap (λ (k : ℕ). take from o ++ (xs ++ drop k (drop from o))) n
+-- off: levels in front of the span
+module _ (s : PolyphaseResampF32) (xs o : List Float) (off : s.phases ≡ 0) (v : valid_in_line s ≡ true) (whole : Whole from5 s xs (length o)) where
+  pub off_fits : length xs ≤ length o
+  off_fits = off_room s xs (length o) (is_off s off) v whole
 
-module _ (s : PolyphaseResampF32) (xs o : List Float) (from : ℕ) (off : s.phases ≡ 0) (v : valid_in_line s ≡ true) (whole : Whole from5 s xs (length o - from)) where
-  pub off_fits : length xs ≤ length o - from
-  off_fits = off_room s xs (length o - from) (is_off s off) v whole
-
-  pub off_batched :
-      (part : List Float) → length xs ≤ length o - from → part ≡ ending_in xs (take (from + length xs - from) (drop from o))
-      → Batched from5 s xs from o (take from o ++ (part ++ drop (from + length xs - from) (drop from o))) s (from + length xs)
-  off_batched part fits e =
-      subst⁻¹ (λ (l : List Float). Batched from5 s xs from o l s (from + length xs)) (off_span xs o part from fits e) (batched_off s xs from o (is_off s off) whole)
+  pub off_batched : Batched from5 s xs o (xs ++ drop (length xs) o) s (length xs)
+  off_batched = batched_off s xs o (is_off s off) whole
 
 -- a refused block moves nothing
 moved_as : (r : Result Moved Refusal) → result_unwrap_or r none_moved ≡ value_in none_moved r
 moved_as (Ok m) = refl
 moved_as (Err q) = refl
 
-module _ (s : PolyphaseResampF32) (xs o : List Float) (from : ℕ) (fits : from ≤ length o) where
-  -- the places from `from` on
-  abbrev pub rest : List Float
-  rest = take (length o - from) (drop from o)
-
-  rest_long : length rest ≡ length o - from
-  rest_long = length-take-le (length o - from) (drop from o) (let e = length-drop from o in omega (arith, e))
-
-  -- on, or refused: no more is written than there are places
-  written_within : (w : ℕ) → w ≡ (block_outcome s xs rest).value.written → from + w ≤ length o
+-- on, or refused: no more is written than there are places
+module _ (s : PolyphaseResampF32) (xs o : List Float) where
+  written_within : (w : ℕ) → w ≡ (block_outcome s xs o).value.written → w ≤ length o
   unfolding block_outcome block
   written_within w e = go (valid s) refl
     where
-      few : length (feed resampler s xs (length rest)).written ≤ length o - from
-      few = subst (λ (n : ℕ). length (feed resampler s xs (length rest)).written ≤ n) rest_long (feed_room resampler s xs (length rest))
-
-      go : (b : Bool) → valid s ≡ b → from + w ≤ length o
-      go true v = let f = few in let q : w ≡ length (feed resampler s xs (length rest)).written = e ∙ rw v refl in omega (arith, q, f, fits)
-      go false v = let q : w ≡ 0 = e ∙ rw v refl in omega (arith, q, fits)
+      go : (b : Bool) → valid s ≡ b → w ≤ length o
+      go true v = let f = feed_room resampler s xs (length o) in let q : w ≡ length (feed resampler s xs (length o)).written = e ∙ rw v refl in omega (arith, q, f)
+      go false v = let q : w ≡ 0 = e ∙ rw v refl in omega (arith, q)
 
   batched_on :
-      (r : PolyphaseResampF32) (w : ℕ) (part : List Float) → is_on s ≡ true → valid_in_line s ≡ true
-      → w ≡ (block_outcome s xs rest).value.written → r ≡ (block_outcome s xs rest).state → part ≡ block_span s xs rest
-      → Batched in_line s xs from o (take from o ++ (part ++ drop (length o - from) (drop from o))) r (from + w)
+      (r : PolyphaseResampF32) (w : ℕ) (o' : List Float) → is_on s ≡ true → valid_in_line s ≡ true
+      → w ≡ (block_outcome s xs o).value.written → r ≡ (block_outcome s xs o).state → o' ≡ block_span s xs o → Batched in_line s xs o o' r w
   unfolding block_outcome block_span block
-  batched_on r w part on v ew er ep =
+  batched_on r w o' on v ew er eo =
       let ok : valid s ≡ true = Res.on_valid s on v in
-      let same : feed resampler s xs (length rest) ≡ feed in_line s xs (length o - from) = ap (feed resampler s xs) rest_long ∙ sym (fed_on_lem s xs (length o - from) on) in
-      let all : length (drop from o) ≤ length o - from = let e = length-drop from o in omega (arith, e) in
-      let whole : rest ≡ drop from o = take_all (length o - from) (drop from o) all in
-      let written : List Float = (feed resampler s xs (length rest)).written in
-      let span : part ≡ written ++ drop (length written) rest = ep ∙ rw ok refl in
+      let same : feed resampler s xs (length o) ≡ feed in_line s xs (length o) = sym (fed_on_lem s xs (length o) on) in
       record {
         state = er ∙ rw ok refl ∙ ap (λ (g : Fed PolyphaseResampF32 Float). g.line) same;
-        wrote = ap (λ (n : ℕ). from + n) (ew ∙ rw ok refl ∙ ap (λ (g : Fed PolyphaseResampF32 Float). length g.written) same);
-        span =
-            ap (λ (l : List Float). take from o ++ (part ++ l)) (drop_of_length-le (drop from o) all)
-            ∙ ap (λ (l : List Float). take from o ++ l) (append-nil part ∙ span)
-            ∙ ap (λ (l : List Float). take from o ++ (written ++ drop (length written) l)) whole
-            ∙ ap (λ (g : Fed PolyphaseResampF32 Float). take from o ++ (g.written ++ drop (length g.written) (drop from o))) same;
+        wrote = ew ∙ rw ok refl ∙ ap (λ (g : Fed PolyphaseResampF32 Float). length g.written) same;
+        span = eo ∙ rw ok refl ∙ ap (λ (g : Fed PolyphaseResampF32 Float). g.written ++ drop (length g.written) o) same;
       }
 
   -- the same by what the calls ensure
-  module _ (r : Result Moved Refusal) (m : Moved) (t : PolyphaseResampF32) (told : told_on none_moved r t ≡ block_outcome s xs rest) (is : m ≡ result_unwrap_or r none_moved) where
-    wrote : m.written ≡ (block_outcome s xs rest).value.written
+  module _ (r : Result Moved Refusal) (m : Moved) (t : PolyphaseResampF32) (told : told_on none_moved r t ≡ block_outcome s xs o) (is : m ≡ result_unwrap_or r none_moved) where
+    wrote : m.written ≡ (block_outcome s xs o).value.written
     wrote = ap (λ (n : Moved). n.written) (is ∙ moved_as r) ∙ ap (λ (o : Outcome Moved PolyphaseResampF32). o.value.written) told
 
-    pub moved_within : from + m.written ≤ length o
+    pub moved_within : m.written ≤ length o
     moved_within = written_within m.written wrote
 
     pub moved_batched :
-        (part : List Float) → part ≡ block_span s xs rest → (s.phases ≡ 0 → ⊥) → valid_in_line s ≡ true → Whole from5 s xs (length o - from)
-        → Batched from5 s xs from o (take from o ++ (part ++ drop (length o - from) (drop from o))) t (from + m.written)
-    moved_batched part ep on v whole = batched_on t m.written part (is_on_lem s on) v wrote (ap (λ (o : Outcome Moved PolyphaseResampF32). o.state) told) ep
+        (o' : List Float) → o' ≡ block_span s xs o → (s.phases ≡ 0 → ⊥) → valid_in_line s ≡ true → Whole from5 s xs (length o) → Batched from5 s xs o o' t m.written
+    moved_batched o' eo on v whole = batched_on t m.written o' (is_on_lem s on) v wrote (ap (λ (o : Outcome Moved PolyphaseResampF32). o.state) told) eo
 
 -- ---- section 4
-module _ (h h' : HbfStream) (r r' : PolyphaseResampF32) (values : List ℤ) (tape tape₁ tape₂ : List Float) (m from w : ℕ) (o o' : List Float) (few : length values ≤ 128)
+module _ (h h' : HbfStream) (r r' : PolyphaseResampF32) (values : List ℤ) (tape tape₁ span : List Float) (m w : ℕ) (o o' : List Float) (few : length values ≤ 128)
     (long : length tape ≡ 128) (laid : tape₁ ≡ map level values ++ drop (length values) tape) where
-  levels_long : length (map level values) ≡ length values
-  levels_long = length-map values level
-
   front : take (length values) tape₁ ≡ map level values
-  front = ap (take (length values)) laid ∙ take_at (map level values) (drop (length values) tape) (length values) levels_long
+  front = ap (take (length values)) laid ∙ take_at (map level values) (drop (length values) tape) (length values) (length-map values level)
 
-  tape_long : length tape₁ ≡ 128
-  tape_long =
-      ap length laid ∙ length-append (map level values) (drop (length values) tape)
-      ∙ (let a = levels_long in let b = length-drop (length values) tape in omega (arith, a, b, long, few))
+  fits : stream_block_fits (take (length values) tape₁) ≡ true
+  fits = ap stream_block_fits front ∙ le-leb (length (map level values)) 192 (let e = length-map values level in omega arith)
 
-  fits : stream_block_fits tape₁ (length values) ≡ true
-  fits = let t = tape_long in rw (le-leb (length values) 192 (omega arith), le-leb (length values) (length tape₁) (omega (arith, t))) refl
-
-  pub made_outs : take m tape₂ ≡ stream_block_outs h tape₁ (length values) → take m tape₂ ≡ outs hbf_stream h (map level values)
+  pub made_outs : take m span ≡ stream_block_outs h (take (length values) tape₁) → take m span ≡ outs hbf_stream h (map level values)
   made_outs e = e ∙ ap (λ (b : Bool). cond b (outs hbf_stream h (take (length values) tape₁)) []) fits ∙ ap (outs hbf_stream h) front
 
   pub levels_batched :
-      h' ≡ stream_block_state h tape₁ (length values) → take m tape₂ ≡ stream_block_outs h tape₁ (length values)
-      → (valid_in_line r ≡ true → Whole from5 r (take m tape₂) (length o - from) → Batched from5 r (take m tape₂) from o o' r' w)
-      → valid_in_line r ≡ true → Whole from_levels (levels_on h r) values (length o - from) → Batched from_levels (levels_on h r) values from o o' (levels_on h' r') w
+      h' ≡ stream_block_state h (take (length values) tape₁) → take m span ≡ stream_block_outs h (take (length values) tape₁)
+      → (valid_in_line r ≡ true → Whole from5 r (take m span) (length o) → Batched from5 r (take m span) o o' r' w)
+      → valid_in_line r ≡ true → Whole from_levels (levels_on h r) values (length o) → Batched from_levels (levels_on h r) values o o' (levels_on h' r') w
   levels_batched eh em on v whole =
       let made = made_outs em in
-      let whole4 : Whole from4 (h, r) (map level values) (length o - from) = whole_each level from4 (h, r) values (length o - from) whole in
-      let whole5 : Whole from5 r (outs hbf_stream h (map level values)) (length o - from) = whole_behind hbf_stream from5 h r (map level values) (length o - from) whole4 in
+      let whole4 : Whole from4 (h, r) (map level values) (length o) = whole_each level from4 (h, r) values (length o) whole in
+      let whole5 : Whole from5 r (outs hbf_stream h (map level values)) (length o) = whole_behind hbf_stream from5 h r (map level values) (length o) whole4 in
       let next : h' ≡ state hbf_stream h (map level values) = eh ∙ ap (λ (b : Bool). cond b (state hbf_stream h (take (length values) tape₁)) h) fits ∙ ap (state hbf_stream h) front in
-      let behind : Batched from5 r (outs hbf_stream h (map level values)) from o o' r' w =
-      subst (λ (l : List Float). Batched from5 r l from o o' r' w) made (on v (subst⁻¹ (λ (l : List Float). Whole from5 r l (length o - from)) made whole5))
+      let behind : Batched from5 r (outs hbf_stream h (map level values)) o o' r' w =
+      subst (λ (l : List Float). Batched from5 r l o o' r' w) made (on v (subst⁻¹ (λ (l : List Float). Whole from5 r l (length o)) made whole5))
       in
-      batched_each level from4 (h, r) values (map level values) from o o' (h', r') w refl whole (batched_before hbf_stream from5 h r (map level values) from o o' h' r' w whole4 next behind)
+      batched_each level from4 (h, r) values (map level values) o o' (h', r') w refl whole (batched_before hbf_stream from5 h r (map level values) o o' h' r' w whole4 next behind)
 
 -- ---- section 3
 -- no more are cut than there are
@@ -221,23 +177,23 @@ module _ (s : FirDecimator) (values : List ℤ) (places : ℕ) (few : length val
   filtered_few cuts e = let k = le_trans (count_few (outs summing s values)) (outs_few summing s values) in omega (arith, filtered_cuts cuts e, k, few)
 
   pub filter_batched :
-      (s' : FirDecimator) (h h' : HbfStream) (r r' : PolyphaseResampF32) (dst dst₁ : List ℤ) (made from w : ℕ) (o o' : List Float)
+      (s' : FirDecimator) (h h' : HbfStream) (r r' : PolyphaseResampF32) (dst dst₁ : List ℤ) (made w : ℕ) (o o' : List Float)
       → s' ≡ fir_block_state s values places → (made ≡ length (fir_block_outs s values places)) × (dst₁ ≡ fir_block_outs s values places ++ drop made dst)
-      → (valid_in_line r ≡ true → Whole from_levels (levels_on h r) (take made dst₁) (length o - from) → Batched from_levels (levels_on h r) (take made dst₁) from o o' (levels_on h' r') w)
-      → valid_in_line r ≡ true → Whole from3 (fir_on s h r) values (length o - from) → Batched from3 (fir_on s h r) values from o o' (fir_on s' h' r') w
-  filter_batched s' h h' r r' dst dst₁ made from w o o' es (em, ed) on v whole =
+      → (valid_in_line r ≡ true → Whole from_levels (levels_on h r) (take made dst₁) (length o) → Batched from_levels (levels_on h r) (take made dst₁) o o' (levels_on h' r') w)
+      → valid_in_line r ≡ true → Whole from3 (fir_on s h r) values (length o) → Batched from3 (fir_on s h r) values o o' (fir_on s' h' r') w
+  filter_batched s' h h' r r' dst dst₁ made w o o' es (em, ed) on v whole =
       let front : take made dst₁ ≡ outs fir s values =
       ap (take made) ed ∙ take_at (fir_block_outs s values places) (drop made dst) made (sym em) ∙ ap (λ (b : Bool). cond b (outs fir s values) []) fir_fits
       in
-      batched_before fir from_levels s (levels_on h r) values from o o' s' (levels_on h' r') w whole (es ∙ ap (λ (b : Bool). cond b (state fir s values) s) fir_fits)
-      (subst (λ (l : List ℤ). Batched from_levels (levels_on h r) l from o o' (levels_on h' r') w) front
-      (on v (subst⁻¹ (λ (l : List ℤ). Whole from_levels (levels_on h r) l (length o - from)) front (whole_behind fir from_levels s (levels_on h r) values (length o - from) whole))))
+      batched_before fir from_levels s (levels_on h r) values o o' s' (levels_on h' r') w whole (es ∙ ap (λ (b : Bool). cond b (state fir s values) s) fir_fits)
+      (subst (λ (l : List ℤ). Batched from_levels (levels_on h r) l o o' (levels_on h' r') w) front
+      (on v (subst⁻¹ (λ (l : List ℤ). Whole from_levels (levels_on h r) l (length o)) front (whole_behind fir from_levels s (levels_on h r) values (length o) whole))))
 
 -- ---- sections 1 and 2
 abbrev scaled_at : ℕ → ℤ → ℤ
 scaled_at bits y = floor_div y (2 ^ bits)
 
-module _ (t t' : Thinner) (p p' : Parts2) (xs sums : List ℤ) (taken made bits count from w : ℕ) (o o' : List Float) where
+module _ (t t' : Thinner) (p p' : Parts2) (xs sums : List ℤ) (taken made bits count w : ℕ) (o o' : List Float) where
   abbrev fed : Fed Thinner ℤ
   fed = thin_fed t xs count
 
@@ -274,17 +230,17 @@ module _ (t t' : Thinner) (p p' : Parts2) (xs sums : List ℤ) (taken made bits 
         go (x ∷ l) zero a b = absurd (omega arith)
         go (x ∷ l) (suc k) a b = rw (feed_takes (alone (pos 0) thin) t x l k refl) (omega arith)
 
-    pub all_taken : 1 ≤ count → Leaves from2 p count (length o - from) → Whole chain (t, p) ys (length o - from)
+    pub all_taken : 1 ≤ count → Leaves from2 p count (length o) → Whole chain (t, p) ys (length o)
     all_taken c leaves =
-        whole_but_last either from2 t p ys (length o - from)
+        whole_but_last either from2 t p ys (length o)
         (leaves (outs either t (but_last ys))
         (subst⁻¹ (λ (n : ℕ). n < count) (ap length (scaled_of (but_last ys)) ∙ length-map (outs thin t (but_last ys)) (scaled_at bits))
         (subst⁻¹ (λ (n : ℕ). length (outs thin t (but_last (take n xs))) < count) is_taken (alone_before_last (pos 0) thin t xs count c))))
 
     pub chain_batched :
-        t' ≡ fed.line → Whole chain (t, p) ys (length o - from) → (Whole from2 p (outs either t ys) (length o - from) → Batched from2 p (outs either t ys) from o o' p' w)
-        → Batched chain (t, p) ys from o o' (t', p') w
-    chain_batched el whole on = batched_before either from2 t p ys from o o' t' p' w whole (el ∙ state_of) (on (whole_behind either from2 t p ys (length o - from) whole))
+        t' ≡ fed.line → Whole chain (t, p) ys (length o) → (Whole from2 p (outs either t ys) (length o) → Batched from2 p (outs either t ys) o o' p' w)
+        → Batched chain (t, p) ys o o' (t', p') w
+    chain_batched el whole on = batched_before either from2 t p ys o o' t' p' w whole (el ∙ state_of) (on (whole_behind either from2 t p ys (length o) whole))
 
 -- whatever the state, a block takes no more samples than there are
 pub taken_within : (t : Thinner) (xs : List ℤ) (count taken made : ℕ) → (taken ≡ (thin_fed t xs count).taken) × (made ≡ length (thin_fed t xs count).written) → taken ≤ length xs
@@ -317,39 +273,40 @@ values_front sums vals spare bits made long ev =
     ∙ take_at (map (cut w16) (map (scaled_at bits) (take made sums))) (drop (length (take made sums)) spare) made
     (length-map (map (scaled_at bits) (take made sums)) (cut w16) ∙ length-map (take made sums) (scaled_at bits) ∙ length-take-le made sums long)
 
-module _ (t t' : Thinner) (s s' : FirDecimator) (h h' : HbfStream) (r r' : PolyphaseResampF32) (xs sums vals : List ℤ) (taken made bits count at w first second : ℕ) (o o' : List Float) where
+module _ (t t' : Thinner) (s s' : FirDecimator) (h h' : HbfStream) (r r' : PolyphaseResampF32) (xs sums vals : List ℤ) (taken made bits count w first before after : ℕ) (o o' : List Float) where
   abbrev zs : List ℤ
   zs = take taken xs
 
-  -- what is claimed of the batch, by where it begins
-  abbrev Took : ℕ → Type 0
-  Took k =
-      (1 ≤ taken) × Whole chain (t, cut_on s h r) zs (length o - k) × Batched chain (t, cut_on s h r) zs k o o' (t', cut_on s' h' r') w
-      × (first + second ≡ cut_count w16 (outs either t zs) + cut_count w16 (outs summing s (map (cut w16) (outs either t zs))))
+  -- what is claimed of the batch
+  abbrev Took : Type 0
+  Took =
+      (1 ≤ taken) × Whole chain (t, cut_on s h r) zs (length o) × Batched chain (t, cut_on s h r) zs o o' (t', cut_on s' h' r') w
+      × (after ≡ held_sum most_count before (cut_count w16 (outs either t zs) + cut_count w16 (outs summing s (map (cut w16) (outs either t zs)))))
 
   took :
       bits ≡ gain_bits t.cic.stages t.cic.r → valid_at t.kind t.cic.stages t.cic.r t.cic.sample_counter ≡ true → taken ≡ (thin_fed t xs count).taken
       → t' ≡ (thin_fed t xs count).line → take made sums ≡ (thin_fed t xs count).written → take made vals ≡ map (cut w16) (map (scaled_at bits) (take made sums))
-      → first ≡ cut_count w16 (map (scaled_at bits) (take made sums)) → second ≡ cut_count w16 (outs summing s (take made vals))
-      → (valid_in_line r ≡ true → Whole from3 (fir_on s h r) (take made vals) (length o - at) → Batched from3 (fir_on s h r) (take made vals) at o o' (fir_on s' h' r') w)
-      → valid_in_line r ≡ true → 1 ≤ count → 1 ≤ length xs → Leaves from2 (cut_on s h r) count (length o - at)
-      → Took at
+      → first ≡ cut_count w16 (map (scaled_at bits) (take made sums)) → after ≡ held_sum most_count (held_sum most_count before first) (cut_count w16 (outs summing s (take made vals)))
+      → (valid_in_line r ≡ true → Whole from3 (fir_on s h r) (take made vals) (length o) → Batched from3 (fir_on s h r) (take made vals) o o' (fir_on s' h' r') w)
+      → valid_in_line r ≡ true → 1 ≤ count → 1 ≤ length xs → Leaves from2 (cut_on s h r) count (length o)
+      → Took
   took eb fine et el es ev ec e2 on v c n leaves =
       let scaled : map (scaled_at bits) (take made sums) ≡ outs either t zs =
-      scaled_sums_lem t t' (cut_on s h r) (cut_on s' h' r') xs sums taken made bits count at w o o' eb fine et es
+      scaled_sums_lem t t' (cut_on s h r) (cut_on s' h' r') xs sums taken made bits count w o o' eb fine et es
       in
-      let whole = all_taken t t' (cut_on s h r) (cut_on s' h' r') xs sums taken made bits count at w o o' eb fine et c leaves in
+      let whole = all_taken t t' (cut_on s h r) (cut_on s' h' r') xs sums taken made bits count w o o' eb fine et c leaves in
       let values : take made vals ≡ map (cut w16) (outs either t zs) = ev ∙ ap (map (cut w16)) scaled in (
-        takes_some t t' (cut_on s h r) (cut_on s' h' r') xs sums taken made bits count at w o o' eb fine et c n,
+        takes_some t t' (cut_on s h r) (cut_on s' h' r') xs sums taken made bits count w o o' eb fine et c n,
         whole,
-        chain_batched t t' (cut_on s h r) (cut_on s' h' r') xs sums taken made bits count at w o o' eb fine et el whole
-            (λ whole2. batched_each (cut w16) from3 (fir_on s h r) (outs either t zs) (take made vals) at o o' (fir_on s' h' r') w values whole2
-            (on v (subst⁻¹ (λ (l : List ℤ). Whole from3 (fir_on s h r) l (length o - at)) values (whole_each (cut w16) from3 (fir_on s h r) (outs either t zs) (length o - at) whole2)))),
-        ap₂ {C = ℕ} (λ (a b : ℕ). a + b) (ec ∙ ap (cut_count w16) scaled) (e2 ∙ ap (λ (l : List ℤ). cut_count w16 (outs summing s l)) values),
+        chain_batched t t' (cut_on s h r) (cut_on s' h' r') xs sums taken made bits count w o o' eb fine et el whole
+            (λ whole2. batched_each (cut w16) from3 (fir_on s h r) (outs either t zs) (take made vals) o o' (fir_on s' h' r') w values whole2
+            (on v (subst⁻¹ (λ (l : List ℤ). Whole from3 (fir_on s h r) l (length o)) values (whole_each (cut w16) from3 (fir_on s h r) (outs either t zs) (length o) whole2)))),
+        e2 ∙ held_more most_count before first (cut_count w16 (outs summing s (take made vals)))
+            ∙ ap₂ {C = ℕ} (λ (a b : ℕ). held_sum most_count before (a + b)) (ec ∙ ap (cut_count w16) scaled) (ap (λ (l : List ℤ). cut_count w16 (outs summing s l)) values),
       )
 
 -- the same by what the calls of a batch ensure: of `zeros` the first `most` places were lent, and `got` stands in them
-module _ (t t' : Thinner) (s s' : FirDecimator) (h h' : HbfStream) (r r' : PolyphaseResampF32) (xs zeros got vals spare : List ℤ) (taken made bits count most from at w first second : ℕ)
+module _ (t t' : Thinner) (s s' : FirDecimator) (h h' : HbfStream) (r r' : PolyphaseResampF32) (xs zeros got vals spare : List ℤ) (taken made bits count most w first before after : ℕ)
     (o o' : List Float) where
   abbrev thinned : Fed Thinner ℤ
   thinned = thin_fed t xs (length (take most zeros))
@@ -358,19 +315,16 @@ module _ (t t' : Thinner) (s s' : FirDecimator) (h h' : HbfStream) (r r' : Polyp
   lent_sums = take made (got ++ drop most zeros)
 
   pub took_batch :
-      at ≡ min from (length o) → most ≡ min count 128 → length zeros ≡ 128 → (taken ≡ thinned.taken) × (made ≡ length thinned.written) → t' ≡ thinned.line
+      most ≡ min count 128 → length zeros ≡ 128 → (taken ≡ thinned.taken) × (made ≡ length thinned.written) → t' ≡ thinned.line
       → got ≡ thinned.written ++ drop (length thinned.written) (take most zeros) → vals ≡ map (cut w16) (map (scaled_at bits) lent_sums) ++ drop (length lent_sums) spare
-      → first ≡ cut_count w16 (map (scaled_at bits) lent_sums) → second ≡ cut_count w16 (outs summing s (take made vals))
-      → (valid_in_line r ≡ true → Whole from3 (fir_on s h r) (take made vals) (length o - at) → Batched from3 (fir_on s h r) (take made vals) at o o' (fir_on s' h' r') w)
-      → bits ≡ gain_bits t.cic.stages t.cic.r → valid_at t.kind t.cic.stages t.cic.r t.cic.sample_counter ≡ true → valid_in_line r ≡ true → from < length o → 1 ≤ count → count ≤ 128
-      → 1 ≤ length xs → Leaves from2 (cut_on s h r) count (length o - from)
-      → Took t t' s s' h h' r r' xs (got ++ drop most zeros) vals taken made bits count at w first second o o' from
-  took_batch ea em long (et, en) el es ev ec e2 on eb fine v room c₁ c₂ some leaves =
-      let place : at ≡ from = omega (arith, ea, room) in
+      → first ≡ cut_count w16 (map (scaled_at bits) lent_sums) → after ≡ held_sum most_count (held_sum most_count before first) (cut_count w16 (outs summing s (take made vals)))
+      → (valid_in_line r ≡ true → Whole from3 (fir_on s h r) (take made vals) (length o) → Batched from3 (fir_on s h r) (take made vals) o o' (fir_on s' h' r') w)
+      → bits ≡ gain_bits t.cic.stages t.cic.r → valid_at t.kind t.cic.stages t.cic.r t.cic.sample_counter ≡ true → valid_in_line r ≡ true → 1 ≤ count → count ≤ 128
+      → 1 ≤ length xs → Leaves from2 (cut_on s h r) count (length o)
+      → Took t t' s s' h h' r r' xs (got ++ drop most zeros) vals taken made bits count w first before after o o'
+  took_batch em long (et, en) el es ev ec e2 on eb fine v c₁ c₂ some leaves =
       let lent : length (take most zeros) ≡ count = length-take-le most zeros (omega (arith, em, long)) ∙ omega (arith, em, c₂) in
-      subst (λ (k : ℕ). Took t t' s s' h h' r r' xs (got ++ drop most zeros) vals taken made bits count at w first second o o' k) place
-      (took t t' s s' h h' r r' xs (got ++ drop most zeros) vals taken made bits (length (take most zeros)) at w first second o o' eb fine et el
+      took t t' s s' h h' r r' xs (got ++ drop most zeros) vals taken made bits (length (take most zeros)) w first before after o o' eb fine et el
       (sums_front thinned.written (take most zeros) got (drop most zeros) made en es)
       (values_front (got ++ drop most zeros) vals spare bits made (sums_within thinned.written (take most zeros) got (drop most zeros) made en es) ev) ec e2 on v
-      (subst⁻¹ (λ (k : ℕ). 1 ≤ k) lent c₁) some
-      (subst⁻¹ (λ (k : ℕ). Leaves from2 (cut_on s h r) k (length o - at)) lent (subst⁻¹ (λ (k : ℕ). Leaves from2 (cut_on s h r) count (length o - k)) place leaves)))
+      (subst⁻¹ (λ (k : ℕ). 1 ≤ k) lent c₁) some (subst⁻¹ (λ (k : ℕ). Leaves from2 (cut_on s h r) k (length o)) lent leaves)

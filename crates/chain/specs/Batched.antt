@@ -1,5 +1,5 @@
 -- A block through a machine, whole: what it leaves is what the machine's feed leaves, and how many values leave a place of the span.
-use Rattle.std.specs.Prelude.{◌≡◌, List, ◌++◌, ℕ, ◌+◌, ◌-◌, ◌<◌, Float, length, take, drop}
+use Rattle.std.specs.Prelude.{◌≡◌, List, ◌++◌, ℕ, ◌<◌, Float, length, drop}
 use Rattle.theory.specs.Machines.{Machine}
 use Rattle.theory.specs.Feeds as F
 
@@ -15,10 +15,8 @@ Whole m s xs places = (F.feed m s xs places).taken ≡ length xs
 abbrev pub Leaves : {S A : Type 0} → Machine S A Float → S → ℕ → ℕ → Type 0
 Leaves {S} {A} m s count places = (xs : List A) → length xs < count → length (F.feed m s xs places).written < places
 
--- what a block xs left of a span of which `from` places were written: the state t, the places written and the span are those of the feed
-pub record Batched {S A : Type 0} (m : Machine S A Float) (s : S) (xs : List A) (from : ℕ) (before after : List Float) (t : S) (written : ℕ) : Type 0 where
-  pub state : t ≡ (F.feed m s xs (length before - from)).line
-  pub wrote : written ≡ from + length (F.feed m s xs (length before - from)).written
-  pub span :
-      after
-      ≡ take from before ++ ((F.feed m s xs (length before - from)).written ++ drop (length (F.feed m s xs (length before - from)).written) (drop from before))
+-- what a block xs left of a span: the state t, the places written and the span are those of the feed
+pub record Batched {S A : Type 0} (m : Machine S A Float) (s : S) (xs : List A) (before after : List Float) (t : S) (written : ℕ) : Type 0 where
+  pub state : t ≡ (F.feed m s xs (length before)).line
+  pub wrote : written ≡ length (F.feed m s xs (length before)).written
+  pub span : after ≡ (F.feed m s xs (length before)).written ++ drop (length (F.feed m s xs (length before)).written) before

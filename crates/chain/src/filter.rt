@@ -1,63 +1,57 @@
 // 01, section 3: the values of a block through the FIR.
-ghost use Rattle.std.specs.Prelude.{◌≡◌, true, ◌-◌, ◌≤◌, length};
+ghost use Rattle.std.specs.Prelude.{◌≡◌, true, ◌≤◌, length};
 ghost use Rattle.std.specs.Int.{w16};
+ghost use Rattle.theory.specs.Tally.{held_sum};
 ghost use Rattle.theory.specs.Sections.{outs};
 ghost use Rattle.q15.specs.Fixed.{cut_count};
 ghost use Rattle.q15.specs.FirDecimator.{summing};
 ghost use Rattle.float.specs.PolyphaseResamp.{valid_in_line};
 ghost use Rattle.chain.specs.Chain.{from3};
+ghost use Rattle.chain.specs.Parts.{most_count};
 ghost use Rattle.chain.specs.Lending.{fir_in, resampler_in, from_fir_in, Same, ThinnerStays};
 ghost use Rattle.chain.specs.Batched.{most_sums, Whole, Batched};
 
 use crate::arrays::Arrays;
+use crate::clock::{Clock, held_sum};
 use crate::fixed::{Fixed, MOST_SUMS};
 use crate::levels::levels_in;
 use q15::fir_block_at;
 
-// What a block left: the FIR's wait and how many of its sums were cut, where the next output lies, and how many places of the span are written.
-#[derive(Drop)]
-pub struct Filtered {
-    pub wait: usize,
-    pub cuts: usize,
-    pub mu: f32,
-    pub written: usize,
-}
-
-// Values into the FIR, and what it makes into the half-band stages.
+// Values into the FIR, and what it makes, counted where it was cut, into the half-band stages. Answers how many places of the span are written.
 pub(crate) fn filter(
     f: Fixed,
-    wait: usize,
-    mu: f32,
+    clock: &mut Clock,
     lent: &mut Arrays<'_>,
     values: &[i16],
     out: &mut [f32],
-    from: usize,
-) -> Filtered
-    requires { (from ≤ length out.old) × (length values.now ≤ most_sums) }
-    ensures within { (result.written ≤ length out.old) × (result.cuts ≤ most_sums) }
+) -> usize
+    requires { length values.now ≤ most_sums }
+    ensures within { result ≤ length out.old }
     ensures same { Same lent.old lent.new }
     ensures stays { ThinnerStays lent.old lent.new }
-    ensures batched { let before = from_fir_in f wait mu lent.old in
-        valid_in_line (resampler_in f mu lent.old) ≡ true → Whole from3 before values.now (length out.old - from)
-        → Batched from3 before values.now from out.old out.new (from_fir_in f result.wait result.mu lent.new) result.written }
-    ensures cuts { result.cuts ≡ cut_count w16 (outs summing (fir_in f wait lent.old) values.now) }
+    ensures batched { let before = from_fir_in f clock.old lent.old in
+        valid_in_line (resampler_in f clock.old.mu lent.old) ≡ true → Whole from3 before values.now (length out.old)
+        → Batched from3 before values.now out.old out.new (from_fir_in f clock.new lent.new) result }
+    ensures cuts { let sums = outs summing (fir_in f clock.old.wait lent.old) values.now in
+        clock.new.cuts ≡ held_sum most_count clock.old.cuts (cut_count w16 sums) }
+    ensures counter { clock.new.sample_counter ≡ clock.old.sample_counter }
 {
     let mut filtered = [0i16; MOST_SUMS];
+    let settings = f.settings.fir(f.tap_count);
     let at = fir_block_at(
         lent.fir_delay,
         lent.taps,
-        f.tap_count,
-        f.factor,
-        wait,
+        settings,
+        &mut clock.wait,
         values,
         &mut filtered,
     );
-    let made = at.made;
-    let on = levels_in(f, mu, lent, &filtered[..made], out, from);
-    Filtered {
-        wait: at.wait,
-        cuts: at.cuts,
-        mu: on.mu,
-        written: on.written,
-    }
+    clock.cuts = held_sum(clock.cuts, at.cuts as u32);
+    levels_in(
+        f,
+        &mut clock.mu,
+        lent,
+        &filtered[..at.written],
+        out,
+    )
 }

@@ -1,5 +1,5 @@
 // 01, section 4: the values of a block as levels, through the half-band stages.
-ghost use Rattle.std.specs.Prelude.{◌≡◌, true, ◌++◌, map, ◌-◌, ◌≤◌, length, drop};
+ghost use Rattle.std.specs.Prelude.{◌≡◌, true, ◌++◌, map, ◌≤◌, length, drop};
 ghost use Rattle.float.specs.Level.{level};
 ghost use Rattle.float.specs.PolyphaseResamp.{valid_in_line};
 ghost use Rattle.chain.specs.Chain.{from_levels};
@@ -10,7 +10,6 @@ ghost use Rattle.chain.specs.Batched.{most_sums, Whole, Batched};
 use crate::arrays::Arrays;
 use crate::fixed::{Fixed, MOST_SUMS};
 use crate::resample::resample;
-use float::due::Due;
 use float::q15_to_f32;
 use half_band::hbf_stream_block_at;
 use q15::Q15;
@@ -25,32 +24,31 @@ fn put_levels(span: &mut [f32], values: &[i16])
     }
 }
 
-// Values into the half-band stages, and what these make into the resampler.
+// Values into the half-band stages, and what these make into the resampler. Answers how many places of the span are written.
 pub(crate) fn levels_in(
     f: Fixed,
-    mu: f32,
+    mu: &mut f32,
     lent: &mut Arrays<'_>,
     values: &[i16],
     out: &mut [f32],
-    from: usize,
-) -> Due
-    requires { (from ≤ length out.old) × (length values.now ≤ most_sums) }
-    ensures within { result.written ≤ length out.old }
+) -> usize
+    requires { length values.now ≤ most_sums }
+    ensures within { result ≤ length out.old }
     ensures same { Same lent.old lent.new }
     ensures stays { ThinnerStays lent.old lent.new × (lent.new.fir_delay.now ≡ lent.old.fir_delay.now) }
-    ensures batched { let before = N.levels_in f mu lent.old in
-        valid_in_line (N.resampler_in f mu lent.old) ≡ true → Whole from_levels before values.now (length out.old - from)
-        → Batched from_levels before values.now from out.old out.new (N.levels_in f result.mu lent.new) result.written }
+    ensures batched { let before = N.levels_in f mu.old lent.old in
+        valid_in_line (N.resampler_in f mu.old lent.old) ≡ true → Whole from_levels before values.now (length out.old)
+        → Batched from_levels before values.now out.old out.new (N.levels_in f mu.new lent.new) result }
 {
     let mut tape = [0.0f32; MOST_SUMS];
     put_levels(&mut tape, values);
+    let front = &mut tape[..values.len()];
     let made = hbf_stream_block_at(
-        f.depth,
+        f.settings.depth,
         lent.delays,
         lent.held,
         lent.counts,
-        &mut tape,
-        values.len(),
+        front,
     );
-    resample(f, mu, lent.delay, lent.prototype, &tape[..made], out, from)
+    resample(f, mu, lent.delay, lent.prototype, &front[..made], out)
 }

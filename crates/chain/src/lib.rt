@@ -2,14 +2,18 @@
 #![tactic(auto)]
 
 pub mod arrays;
+pub mod clock;
 mod filter;
 pub mod fixed;
 mod levels;
 mod resample;
 pub mod room;
+pub mod settings;
 pub mod sums;
 
 pub use crate::arrays::Arrays;
+pub use crate::clock::Clock;
 pub use crate::fixed::Fixed;
 pub use crate::room::sums_for;
-pub use crate::sums::{Batch, take_batch};
+pub use crate::settings::Settings;
+pub use crate::sums::take_batch;

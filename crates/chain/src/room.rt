@@ -70,13 +70,13 @@ fn sums_within(f: Fixed, wait: usize, counts: [usize; MOST_STAGES], places: usiz
     ensures within { result ≤ most_sums }
     ensures leaves { (mu : Float) (taps fir_delay : List ℤ) (delays held delay prototype : List Float) →
         let resampler = resampler_of f mu delay prototype in
-        fir_valid_in_line f.tap_count f.factor wait ≡ true → valid_in_line resampler ≡ true → from5.due resampler ≡ false → 1 ≤ places
+        fir_valid_in_line f.tap_count f.settings.factor wait ≡ true → valid_in_line resampler ≡ true → from5.due resampler ≡ false → 1 ≤ places
         → Leaves from2 (cut_on (fir_of f wait taps fir_delay) (half_band_of f delays held counts) resampler) result places }
 {
-    let levels = levels_for(places, stride(f.phases, f.step));
-    let values = values_for(f.depth, counts, levels);
+    let levels = levels_for(places, stride(f.settings.phases, f.settings.step));
+    let values = values_for(f.settings.depth, counts, levels);
     let first = or_one(f.tap_count, wait);
-    let period = or_one(f.tap_count, f.factor);
+    let period = or_one(f.tap_count, f.settings.factor);
     (first + values * period).min(MOST_SUMS)
 }
 
@@ -85,7 +85,7 @@ pub fn sums_for(f: Fixed, wait: usize, counts: [usize; MOST_STAGES], places: usi
     ensures within { (result ≤ most_sums) × (1 ≤ result → 1 ≤ places) }
     ensures leaves { (mu : Float) (taps fir_delay : List ℤ) (delays held delay prototype : List Float) →
         let resampler = resampler_of f mu delay prototype in
-        fir_valid_in_line f.tap_count f.factor wait ≡ true → valid_in_line resampler ≡ true → from5.due resampler ≡ false → 1 ≤ result
+        fir_valid_in_line f.tap_count f.settings.factor wait ≡ true → valid_in_line resampler ≡ true → from5.due resampler ≡ false → 1 ≤ result
         → Leaves from2 (cut_on (fir_of f wait taps fir_delay) (half_band_of f delays held counts) resampler) result places }
 {
     if places == 0 {

@@ -1,36 +1,27 @@
 // 01, sections 1 and 2: the sums of a block of samples, scaled and cut, and through the sections behind them.
-ghost use Rattle.std.specs.Prelude.{◌≡◌, true, cond, ◌++◌, map, ◌+◌, ◌-◌, ◌^◌, ◌≤◌, ◌<◌, length, take, drop};
+ghost use Rattle.std.specs.Prelude.{◌≡◌, true, ◌++◌, map, ◌+◌, ◌^◌, ◌≤◌, length, take, drop};
 ghost use Rattle.std.specs.Int.{w16};
 ghost use Rattle.theory.specs.Floor.{floor_div};
 ghost use Rattle.theory.specs.Sections.{outs};
+ghost use Rattle.theory.specs.Tally.{held_sum};
 ghost use Rattle.integer.specs.Gain.{gain_bits};
 ghost use Rattle.nonrecursive.specs.EitherKind.{either, valid_at};
 ghost use Rattle.q15.specs.Fixed.{cut, cut_count};
 ghost use Rattle.q15.specs.FirDecimator.{summing};
 ghost use Rattle.float.specs.PolyphaseResamp.{valid_in_line};
 ghost use Rattle.chain.specs.Chain.{from2, chain};
-ghost use Rattle.chain.specs.Lending.{thinner_in, fir_in, resampler_in, from_cut_in, Same};
+ghost use Rattle.chain.specs.Parts.{most_count};
+ghost use Rattle.chain.specs.Lending.{resampler_in, parts_in, Same};
 ghost use Rattle.chain.specs.Batched.{most_sums, Whole, Leaves, Batched};
 
 use crate::arrays::Arrays;
+use crate::clock::{Clock, held_sum};
 use crate::filter::filter;
 use crate::fixed::{Fixed, MOST_SUMS};
 use integer::gain::scaled;
-use nonrecursive::Thinning;
 use nonrecursive::thinning::thin_block_at;
 use q15::cut_q15;
-
-// How far a block came: the samples taken, the counter and the FIR's wait, where the next output lies, how many values were cut, and how many places of the span
-// are written.
-#[derive(Drop)]
-pub struct Batch {
-    pub taken: usize,
-    pub sample_counter: usize,
-    pub wait: usize,
-    pub mu: f32,
-    pub cuts: usize,
-    pub written: usize,
-}
+use refusal::Moved;
 
 // The sums, scaled and cut, in front of a span. Answers how many were cut.
 fn cut_sums(bits: u32, sums: &[i32], dst: &mut [i16]) -> usize
@@ -49,44 +40,38 @@ fn cut_sums(bits: u32, sums: &[i32], dst: &mut [i16]) -> usize
 }
 
 // Samples up to `count` sums, or all of them, through sections 1 to 5. The caller has looked at the numbers, and where fewer sums than `count` leave a place of the
-// span, that is what the machine does with the samples taken. More sums than MOST_SUMS are not made, and nothing is written past the span's end.
+// span, that is what the machine does with the samples taken. More sums than MOST_SUMS are not made.
 pub fn take_batch(
-    thinning: Thinning,
     f: Fixed,
-    sample_counter: usize,
-    wait: usize,
-    mu: f32,
+    clock: &mut Clock,
     lent: &mut Arrays<'_>,
     samples: &[i32],
     count: usize,
     out: &mut [f32],
-    from: usize,
-) -> Batch
-    ensures within { (result.taken ≤ length samples.now) × (result.cuts ≤ most_sums + most_sums) }
+) -> Moved
+    ensures within { (result.taken ≤ length samples.now) × (result.written ≤ length out.old) }
     ensures same { Same lent.old lent.new }
-    ensures batched { let thinner = thinner_in thinning f sample_counter lent.old in
-        let fir = fir_in f wait lent.old in
-        let resampler = resampler_in f mu lent.old in
-        let behind = from_cut_in f wait mu lent.old in
-        let places = length out.old - from in
+    ensures batched { let s = f.settings in
+        let before = parts_in f clock.old lent.old in
+        let places = length out.old in
         let xs = take result.taken samples.now in
-        let sums = outs either thinner xs in
-        f.bits ≡ gain_bits f.stages f.r → valid_at thinning f.stages f.r sample_counter ≡ true → valid_in_line resampler ≡ true → from < length out.old
-        → 1 ≤ count → count ≤ most_sums → 1 ≤ length samples.now → Leaves from2 behind count places
-        → (1 ≤ result.taken) × Whole chain (thinner, behind) xs places
-        × Batched chain (thinner, behind) xs from out.old out.new
-        (thinner_in thinning f result.sample_counter lent.new, from_cut_in f result.wait result.mu lent.new) result.written
-        × (result.cuts ≡ cut_count w16 sums + cut_count w16 (outs summing fir (map (cut w16) sums))) }
+        let sums = outs either before.0 xs in
+        let cuts = cut_count w16 sums + cut_count w16 (outs summing before.1.1.0 (map (cut w16) sums)) in
+        f.bits ≡ gain_bits s.stages s.r → valid_at s.thinning s.stages s.r clock.old.sample_counter ≡ true
+        → valid_in_line (resampler_in f clock.old.mu lent.old) ≡ true
+        → 1 ≤ count → count ≤ most_sums → 1 ≤ length samples.now → Leaves from2 before.1 count places
+        → (1 ≤ result.taken) × Whole chain before xs places
+        × Batched chain before xs out.old out.new (parts_in f clock.new lent.new) result.written
+        × (clock.new.cuts ≡ held_sum most_count clock.old.cuts cuts) }
 {
+    let s = f.settings;
     let most = count.min(MOST_SUMS);
-    let at = from.min(out.len());
     let mut sums = [0i32; MOST_SUMS];
-    let mut counter = sample_counter;
     let moved = thin_block_at(
-        thinning,
-        f.stages,
-        f.r,
-        &mut counter,
+        s.thinning,
+        s.stages,
+        s.r,
+        &mut clock.sample_counter,
         lent.integrators,
         lent.combs,
         lent.neighbours,
@@ -96,13 +81,10 @@ pub fn take_batch(
     let made = moved.written;
     let mut values = [0i16; MOST_SUMS];
     let cuts = cut_sums(f.bits, &sums[..made], &mut values);
-    let on = filter(f, wait, mu, lent, &values[..made], out, at);
-    Batch {
+    clock.cuts = held_sum(clock.cuts, cuts as u32);
+    let written = filter(f, clock, lent, &values[..made], out);
+    Moved {
         taken: moved.taken,
-        sample_counter: counter,
-        wait: on.wait,
-        mu: on.mu,
-        cuts: cuts + on.cuts,
-        written: on.written,
+        written,
     }
 }

@@ -1,11 +1,12 @@
 -- mu stays in its range from every valid state, beside the line and in it, so that no later call is refused; and in the line 64 outputs between two
 -- values suffice. What the tests say is turned into the ranges of theory's `MuBeside` and `MuInLine`.
-use Rattle.std.proofs.Common.{◌≡◌, ℕ, zero, suc, ◌*◌, ◌<◌, Bool, true, false, cond, not, ◌&&◌, ◌||◌, T, eqb, List, refl, ap, mul-pos, zero-mul, arith, ltb→lt, lt→ltb}
+use Rattle.std.proofs.Common.{◌≡◌, ℕ, zero, suc, ◌*◌, ◌<◌, Bool, true, false, cond, not, ◌&&◌, ◌||◌, T, eqb, List, refl, sym, ap, ◌∙◌, mul-pos, zero-mul, arith, ltb→lt, lt→ltb}
 use mathlib.Core.Bool.{false≢true}
 use lib.Ieee.{Float, nan, inf, fin, binary32, of_bits, up, down, add, lt, le, fits}
 use lib.Ieee.Fits.{up_pos}
 use lib.Ieee.Positive.{positive, first_pos}
 use lib.Ieee.Scale.{finite}
+use Rattle.std.specs.Float.{float_is_finite}
 use Rattle.theory.proofs.Machines.{Lawful, enough_by_rank}
 use Rattle.theory.proofs.FloatOrder.{zero_f, le_trans_nonneg, positive_nonneg}
 use Rattle.theory.proofs.MuInLine.{most_step, StepOk, InRange, AtLeast, step_positive, in_nonneg, at_start, reached, grows}
@@ -54,6 +55,16 @@ above_zero_is (fin true m e) f = refl
 above_zero_is (fin false zero e) f = rw (zero-mul (up e), zero-mul (down e))
 above_zero_is (fin false (suc m) e) f =
     ap (λ (b : Bool). lt zero32 (fin false (suc m) e) && b) (so (le (fin false (suc m) e) max_f) (most_finite (fin false (suc m) e) (lt→ltb 0 (suc m) (omega arith)) (is (fits binary32 (fin false (suc m) e)) f)))
+
+-- above zero, an f32 that is finite is at most the largest
+pub at_most_largest : (x : Float) → T (fits binary32 x) → lt zero32 x ≡ true → float_is_finite x ≡ le x largest32
+unfolding float_is_finite above_zero
+at_most_largest x f h = same x ∙ sym (ap (λ (b : Bool). b && finite x) h) ∙ sym (above_zero_is x (so (fits binary32 x) f)) ∙ ap (λ (b : Bool). b && le x largest32) h
+  where
+    same : (x : Float) → float_is_finite x ≡ finite x
+    same nan = refl
+    same (inf s) = refl
+    same (fin s m e) = refl
 
 wide_says : (step mu : Float) → mu_from lowest_mu step mu ≡ true → InWide step mu
 unfolding mu_from of_bits

@@ -77,12 +77,3 @@ module _ (T : ℕ) (d : List Float) where
   -- and so is what is put in front of the delay
   pub wound_front : (tape : List Float) (newest n : ℕ) → n ≡ T → take n (drop newest tape) ++ drop T d ≡ wound T tape newest d
   wound_front tape newest n same = ap (λ (k : ℕ). take k (drop newest tape) ++ drop T d) same
-
-  -- or over its front
-  pub wound_off :
-      (tape last : List Float) (newest n : ℕ) → n ≡ T → newest + T ≤ length tape → T ≤ length d
-      → last ≡ take (length (take T d) - length (take n (drop newest tape))) (take T d) ++ take n (drop newest tape) → last ++ drop T d ≡ wound T tape newest d
-  wound_off tape last newest n same room h e =
-      let long : length (take T (drop newest tape)) ≡ T = length-take-le T (drop newest tape) (simp length-drop (omega arith)) in
-      ap (λ (l : List Float). l ++ drop T d) (put_over (take T d) (take n (drop newest tape)) last (rw same (long ∙ sym (length-take-le T d h))) e)
-      ∙ wound_front tape newest n same

@@ -15,7 +15,7 @@ pub(crate) fn whole_part(x: f32) -> usize
     ensures { result ≡ to_unsigned 64 x }
 {
     if x >= 1.0 {
-        let bits = f32::to_bits(x);
+        let bits = x.to_bits();
         let digits = bits % LEADING + LEADING;
         return (digits >> (150 - bits / LEADING)) as usize;
     }

@@ -13,9 +13,6 @@ pub const MOST_TAPS: usize = 16;
 
 pub const MOST_CELLS: usize = MOST_PHASES * MOST_TAPS;
 
-// The largest f32: a step above it is not finite.
-const LARGEST: f32 = 3.40282347e38;
-
 const LOWEST_MU: f32 = -16777216.0;
 
 const LEAST_LINE_STEP: f32 = 0.015625;
@@ -32,27 +29,19 @@ pub struct Setting {
 }
 
 // Whether x is finite and above zero, as a step or a ratio has to be.
-#[tactic(auto, unfolding(crate::specs::F32::above_zero))]
+#[tactic(auto, unfolding(crate::specs::F32::above_zero), using(crate::proofs::PolyphaseRange::at_most_largest))]
 pub fn above_zero(x: f32) -> bool
     ensures { result ≡ above_zero x }
 {
-    0.0 < x && x <= LARGEST
-}
-
-// Whether n is from least to most.
-#[tactic(auto, unfolding(crate::specs::PolyphaseResamp::within))]
-fn within(least: usize, most: usize, n: usize) -> bool
-    ensures { result ≡ R.within least most n }
-{
-    least <= n && n <= most
+    0.0 < x && x.is_finite()
 }
 
 // Whether P and T are inside their limits.
-#[tactic(auto, unfolding(crate::specs::PolyphaseResamp::in_limits))]
+#[tactic(auto, unfolding(crate::specs::PolyphaseResamp::in_limits, crate::specs::PolyphaseResamp::within))]
 pub fn in_limits(phases: usize, taps: usize) -> bool
     ensures { result ≡ R.in_limits phases taps }
 {
-    within(LEAST_PHASES, MOST_PHASES, phases) && within(LEAST_TAPS, MOST_TAPS, taps)
+    (LEAST_PHASES..=MOST_PHASES).contains(&phases) && (LEAST_TAPS..=MOST_TAPS).contains(&taps)
 }
 
 // Whether mu is from low to 1.0 + step as rounded.

@@ -1,7 +1,7 @@
 // What the calls of a feeding plan would take and write, before a line is opened.
 ghost use Rattle.std.specs.Prelude.{◌≡◌, length};
 ghost use Rattle.line.specs.Outputs.{Opening};
-ghost use Rattle.line.specs.declared.settings.Settings.{Settings};
+ghost use Rattle.chain.specs.declared.settings.Settings.{Settings};
 ghost use Rattle.plan.specs.Plan.{PlanKept, plan_number};
 ghost use Rattle.gauge_line.specs.Crossing.{is_set, kind_of};
 

@@ -6,7 +6,7 @@ ghost use Rattle.line.specs.Outputs.{Opening};
 ghost use Rattle.line.specs.Line as L;
 ghost use Rattle.line.specs.Lent as N;
 ghost use Rattle.line.specs.Demand3.{Demand3};
-ghost use Rattle.line.specs.declared.settings.Settings.{Settings};
+ghost use Rattle.chain.specs.declared.settings.Settings.{Settings};
 ghost use Rattle.gauge_line.specs.Crossing.{crossed_step, is_set, kind_of};
 ghost use Rattle.gauge_line.specs.States.{entry, exit, IsFlag, line_at};
 
@@ -16,7 +16,7 @@ use crate::states::{flag, is_set, kind, kind_number};
 use float::settings::{MOST_CELLS, MOST_TAPS as MOST_PHASE_TAPS};
 use half_band::{DEC_CASCADE_DELAYS, MOST_STAGES};
 use integer::limits::MAX_STAGES;
-use line::{Arrays, Line, LineNumbers, Settings, feed_lent, step_lent, zeros};
+use line::{Arrays, Clock, Line, LineNumbers, Settings, feed_lent, step_lent, zeros};
 use nonrecursive::nonrecursive_decimator::MAX_NEIGHBOURS;
 use q15::MOST_TAPS;
 
@@ -260,21 +260,27 @@ pub extern "C" fn gauge_raw_line_step(
         record { number = result; value = (taken.new, (written.new, value.new)); state = after }
         ≡ crossed_step (L.step_outcome before (ltb 0 places) (head_of (drop at samples.now))) }
 {
-    let mut n = LineNumbers {
+    let settings = Settings {
         stages: *stages,
         r: *r,
-        sample_counter: *sample_counter,
-        tap_count: *tap_count,
         factor: *factor,
-        wait: *wait,
         depth: *depth,
         phases: *phases,
         taps: *phase_taps,
         straight: is_set(*straight),
-        mu: *mu,
         step: *step,
-        cuts: *cuts,
         thinning: kind(*thinning),
+    };
+    let clock = Clock {
+        sample_counter: *sample_counter,
+        wait: *wait,
+        mu: *mu,
+        cuts: *cuts,
+    };
+    let mut n = LineNumbers {
+        settings,
+        tap_count: *tap_count,
+        clock,
     };
     let mut lent = Arrays {
         integrators,
@@ -289,20 +295,12 @@ pub extern "C" fn gauge_raw_line_step(
         prototype,
     };
     let done = step_lent(&mut n, &mut lent, samples, at, 0 < places);
-    *stages = n.stages;
-    *r = n.r;
-    *sample_counter = n.sample_counter;
-    *tap_count = n.tap_count;
-    *factor = n.factor;
-    *wait = n.wait;
-    *depth = n.depth;
-    *phases = n.phases;
-    *phase_taps = n.taps;
-    *straight = flag(n.straight);
-    *mu = n.mu;
-    *step = n.step;
-    *cuts = n.cuts;
-    *thinning = kind_number(n.thinning);
+    *sample_counter = n.clock.sample_counter;
+    *wait = n.clock.wait;
+    *mu = n.clock.mu;
+    *cuts = n.clock.cuts;
+    *straight = flag(settings.straight);
+    *thinning = kind_number(settings.thinning);
     let moves = step_moves(done);
     *taken = moves.0;
     *written = moves.1;
@@ -361,21 +359,27 @@ pub extern "C" fn gauge_raw_line_feed(
         let moved : Moved = record { taken = taken.exit.now; written = written.new } in
         Demand3 before samples.now out.old out.new (record { number = result; value = moved; state = after })) }
 {
-    let mut n = LineNumbers {
+    let settings = Settings {
         stages: *stages,
         r: *r,
-        sample_counter: *sample_counter,
-        tap_count: *tap_count,
         factor: *factor,
-        wait: *wait,
         depth: *depth,
         phases: *phases,
         taps: *phase_taps,
         straight: is_set(*straight),
-        mu: *mu,
         step: *step,
-        cuts: *cuts,
         thinning: kind(*thinning),
+    };
+    let clock = Clock {
+        sample_counter: *sample_counter,
+        wait: *wait,
+        mu: *mu,
+        cuts: *cuts,
+    };
+    let mut n = LineNumbers {
+        settings,
+        tap_count: *tap_count,
+        clock,
     };
     let mut lent = Arrays {
         integrators,
@@ -390,20 +394,12 @@ pub extern "C" fn gauge_raw_line_feed(
         prototype,
     };
     let done = feed_lent(&mut n, &mut lent, samples, out);
-    *stages = n.stages;
-    *r = n.r;
-    *sample_counter = n.sample_counter;
-    *tap_count = n.tap_count;
-    *factor = n.factor;
-    *wait = n.wait;
-    *depth = n.depth;
-    *phases = n.phases;
-    *phase_taps = n.taps;
-    *straight = flag(n.straight);
-    *mu = n.mu;
-    *step = n.step;
-    *cuts = n.cuts;
-    *thinning = kind_number(n.thinning);
+    *sample_counter = n.clock.sample_counter;
+    *wait = n.clock.wait;
+    *mu = n.clock.mu;
+    *cuts = n.clock.cuts;
+    *straight = flag(settings.straight);
+    *thinning = kind_number(settings.thinning);
     let moved = done.unwrap_or(NONE_MOVED);
     *taken = moved.taken;
     *written = moved.written;

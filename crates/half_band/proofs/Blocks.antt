@@ -1,12 +1,12 @@
 -- A section run by a loop over the front of a list: one more value, and what it leaves in a span filled from the front.
 use mathlib.Core.Path.{◌≡◌, refl, sym, ap, ◌∙◌}
-use mathlib.Core.List.{List, [], ◌∷◌, ◌++◌, append_assoc}
+use mathlib.Core.List.{List, [], ◌∷◌, ◌++◌, append-nil, append_assoc}
 use Rattle.std.specs.Prelude.{Option, Some}
-use Prim.Native.Nat.{ℕ, suc, ◌+◌, ◌<◌}
+use Prim.Native.Nat.{ℕ, suc, ◌+◌, ◌≤◌, ◌<◌}
 use native.Mathlib.Numerals.{add-one}
 use native.Mathlib.Omega.{arith}
-use lib.ListN.{length, get_or, set, take, drop, length-set, length-append}
-use lib.Seq.{take-suc, take_at, drop_at, take-add, drop-drop}
+use lib.ListN.{length, get_or, set, take, drop, length-set, length-append, drop_of_length-le}
+use lib.Seq.{take-suc, take_all, take_at, drop_at, take-add, drop-drop}
 use Rattle.theory.specs.Sections.{Section, onto, state, outs}
 use Rattle.theory.proofs.Sections.{state_append, outs_append}
 use Rattle.half_band.proofs.Filling.{store_next}
@@ -44,6 +44,15 @@ pub record Emitted {S A B : Type 0} (f : Section S A B) (s : S) (v : List A) (d�
   pub count_is : length (outs f s (take i v)) ≡ k
   pub span_is : d ≡ outs f s (take i v) ++ drop k d₀
   pub same : length d ≡ length d₀
+
+-- all values are taken, and the span is full
+pub emitted_all : {S A B : Type 0} (f : Section S A B) (s : S) (v : List A) (d₀ : List B) (t : S) (d : List B) (i k : ℕ) → Emitted f s v d₀ t d i k
+    → length v ≤ i → length d₀ ≤ k → (t ≡ state f s v) × (d ≡ outs f s v)
+emitted_all {B = B} f s v d₀ t d i k q taken full =
+    let all = take_all i v taken in (
+      q.state_is ∙ ap (state f s) all,
+      q.span_is ∙ ap (λ (l : List B). outs f s (take i v) ++ l) (drop_of_length-le d₀ full) ∙ append-nil (outs f s (take i v)) ∙ ap (outs f s) all,
+    )
 
 -- m values more, and their c outputs put behind those that are there
 pub emitted_many :

@@ -1,12 +1,12 @@
 -- `HbfDecCascade`: a block's frames fill the span's places in step, and the opening's claims follow from those of the streaming cascade.
-use mathlib.Core.Path.{◌≡◌, refl, sym, ap, ◌∙◌, subst}
-use mathlib.Core.List.{List, ◌++◌}
+use mathlib.Core.Path.{◌≡◌, sym, ap, ◌∙◌, subst}
+use mathlib.Core.List.{List, ◌++◌, append_assoc}
 use Prim.Native.Nat.{ℕ, zero, suc, ◌+◌, ◌-◌, ◌*◌, ◌/◌, ◌^◌, ◌≤◌, ◌<◌, min}
 use native.Mathlib.Nat.{le_trans, sub-zero, mul-one, mul_left_comm, add-mul, mul-le-mul_right, div-mul-le_self, pow-zero, pow-succ'}
 use native.Mathlib.Omega.{arith}
 use lib.Dec.{lit≤}
-use lib.ListN.{length, take, drop, replicate, length-replicate, get_or-replicate}
-use lib.Seq.{length-take-le, length_front, take_at}
+use lib.ListN.{length, take, drop, replicate, length-replicate, get_or-replicate, length-append, length-drop}
+use lib.Seq.{length-take-le, take_at}
 use lib.Ieee.{Float, nan}
 use Rattle.theory.specs.Sections.{Section, state, outs}
 use Rattle.float.specs.F32.{zero32}
@@ -15,7 +15,7 @@ use Rattle.half_band.specs.HbfStream.{stream, stream_of}
 use Rattle.half_band.specs.HbfDecCascade.{dec_cascade_fresh, MeetsBy}
 use Rattle.half_band.specs.declared.hbf_stream.HbfStream.{HbfStream}
 use Rattle.refusal.proofs.Limits.{Between, not_outside}
-use Rattle.half_band.proofs.WholeLists.{pairs_front}
+use Rattle.half_band.proofs.WholeLists.{length_pairs}
 use Rattle.half_band.specs.HbfTaps.{FiveStages}
 use Rattle.half_band.proofs.Streaming.{stream_whole}
 use Rattle.half_band.proofs.Reaching.{stream_reaches}
@@ -67,39 +67,43 @@ module _ (taps : ℕ → List Float) (five : FiveStages taps) where
   abbrev left : ℕ → ℕ → Section HbfStream Float Float
   left depth k = stages_on taps five (depth - k) k
 
-  -- the values so far in front of the span: n of them where k stages are done, and what the stages left make of them is what all make of the samples
-  pub record Shrinking (depth frames : ℕ) (delays₀ span₀ delays span : List Float) (n k : ℕ) : Type 0 where
+  -- the values so far in front of the tape: n of them where k stages are done, and what the stages left make of them is what all make of the samples v
+  pub record Shrinking (depth frames : ℕ) (delays₀ v delays tape : List Float) (n k : ℕ) : Type 0 where
     pub stages : k ≤ depth
     pub count : n ≡ frames * 2 ^ (depth - k)
     pub long : length delays ≡ 480
-    pub same : length span ≡ length span₀
-    pub room : n ≤ length span
-    pub state_is : state (left depth k) (bare depth delays) (take n span) ≡ state (stream taps) (bare depth delays₀) (take (frames * 2 ^ depth) span₀)
-    pub outs_is : outs (left depth k) (bare depth delays) (take n span) ≡ outs (stream taps) (bare depth delays₀) (take (frames * 2 ^ depth) span₀)
+    pub whole : length tape ≡ 192
+    pub room : n ≤ 192
+    pub state_is : state (left depth k) (bare depth delays) (take n tape) ≡ state (stream taps) (bare depth delays₀) v
+    pub outs_is : outs (left depth k) (bare depth delays) (take n tape) ≡ outs (stream taps) (bare depth delays₀) v
 
-  module _ (depth frames : ℕ) (delays₀ span₀ : List Float) (deep : depth ≤ 5) where
-    pub shrink_start : length delays₀ ≡ 480 → (n : ℕ) → n ≡ frames * 2 ^ depth → frames * 2 ^ depth ≤ length span₀ → Shrinking depth frames delays₀ span₀ delays₀ span₀ n 0
-    shrink_start long n e room =
+  module _ (depth frames : ℕ) (delays₀ v : List Float) (deep : depth ≤ 5) where
+    pub shrink_start : length delays₀ ≡ 480 → length v ≡ frames * 2 ^ depth → length v ≤ 192 → (tape : List Float) → length tape ≡ 192 → take (length v) tape ≡ v
+        → Shrinking depth frames delays₀ v delays₀ tape (length v) 0
+    shrink_start long e few tape wide laid =
         record {
           stages = omega arith;
           count = e ∙ ap (λ (m : ℕ). frames * 2 ^ m) (sym (sub-zero depth));
           long = long;
-          same = refl;
-          room = omega arith;
-          state_is = all.0 ∙ ap (λ (m : ℕ). state (stream taps) (bare depth delays₀) (take m span₀)) e;
-          outs_is = all.1 ∙ ap (λ (m : ℕ). outs (stream taps) (bare depth delays₀) (take m span₀)) e;
+          whole = wide;
+          room = few;
+          state_is = all.0 ∙ ap (state (stream taps) (bare depth delays₀)) laid;
+          outs_is = all.1 ∙ ap (outs (stream taps) (bare depth delays₀)) laid;
         }
       where
         many : min depth 5 ≡ depth - 0
         many = omega arith
 
-        all : (state (left depth 0) (bare depth delays₀) (take n span₀) ≡ state (stream taps) (bare depth delays₀) (take n span₀)) × (outs (left depth 0) (bare depth delays₀) (take n span₀) ≡ outs (stream taps) (bare depth delays₀) (take n span₀))
-        all = stages_all taps five (depth - 0) (bare depth delays₀) (take n span₀) many
+        u : List Float
+        u = take (length v) tape
 
-    module _ (delays span : List Float) (n k : ℕ) (q : Shrinking depth frames delays₀ span₀ delays span n k) where
+        all : (state (left depth 0) (bare depth delays₀) u ≡ state (stream taps) (bare depth delays₀) u) × (outs (left depth 0) (bare depth delays₀) u ≡ outs (stream taps) (bare depth delays₀) u)
+        all = stages_all taps five (depth - 0) (bare depth delays₀) u many
+
+    module _ (delays tape : List Float) (n k : ℕ) (q : Shrinking depth frames delays₀ v delays tape n k) where
       -- the values that the next stage makes are half as many
       module _ (more : k < depth) where
-        pub halved : (n / 2 ≡ frames * 2 ^ (depth - (k + 1))) × (n ≡ 2 * (n / 2))
+        halved : (n / 2 ≡ frames * 2 ^ (depth - (k + 1))) × (n ≡ 2 * (n / 2))
         halved = (omega (arith, twice), omega (arith, twice))
           where
             less : depth - k ≡ suc (depth - (k + 1))
@@ -111,24 +115,28 @@ module _ (taps : ℕ → List Float) (five : FiveStages taps) where
         abbrev window : List Float
         window = window_of taps five k (bare depth delays)
 
-        abbrev taken : List (Float × Float)
-        taken = pairs (take (2 * (n / 2)) span)
+        abbrev front : List Float
+        front = take n tape
 
         abbrev stage : Section (List Float) (Float × Float) Float
         stage = decimator (taps k)
 
+        abbrev made : List Float
+        made = outs stage window (pairs front)
+
+        -- r of them, put in front of those taken
         pub shrink_next :
-            (d t : List Float) → d ≡ spliced (96 * k) (4 * length (taps k)) (state stage window taken) delays → t ≡ outs stage window taken ++ drop (n / 2) span
-            → Shrinking depth frames delays₀ span₀ d t (n / 2) (k + 1)
-        shrink_next d t ed et =
+            (d y : List Float) (r : ℕ) → r ≡ n / 2 → d ≡ spliced (96 * k) (4 * length (taps k)) (state stage window (pairs front)) delays → y ≡ made ++ drop r front
+            → Shrinking depth frames delays₀ v d (y ++ drop n tape) (n / 2) (k + 1)
+        shrink_next d y r er ed ey =
             record {
               stages = omega arith;
               count = halved.0;
-              long = ap length ed ∙ staged_long taps five depth k more deep (bare depth delays) sized taken;
-              same = t_long ∙ q.same;
-              room = omega (arith, t_long, q.room);
-              state_is = sym (ap (state (left depth k) (bare depth delays)) front ∙ done.0 ∙ ap (λ (u : List Float). state (left depth (k + 1)) (bare depth u) (outs stage window taken)) (sym ed) ∙ ap (state (left depth (k + 1)) (bare depth d)) (sym t_front)) ∙ q.state_is;
-              outs_is = sym (ap (outs (left depth k) (bare depth delays)) front ∙ done.1 ∙ ap (λ (u : List Float). outs (left depth (k + 1)) (bare depth u) (outs stage window taken)) (sym ed) ∙ ap (outs (left depth (k + 1)) (bare depth d)) (sym t_front)) ∙ q.outs_is;
+              long = ap length ed ∙ staged_long taps five depth k more deep (bare depth delays) sized (pairs front);
+              whole = t_whole;
+              room = omega (arith, q.room);
+              state_is = sym (done.0 ∙ ap (λ (u : List Float). state (left depth (k + 1)) (bare depth u) made) (sym ed) ∙ ap (state (left depth (k + 1)) (bare depth d)) (sym t_front)) ∙ q.state_is;
+              outs_is = sym (done.1 ∙ ap (λ (u : List Float). outs (left depth (k + 1)) (bare depth u) made) (sym ed) ∙ ap (outs (left depth (k + 1)) (bare depth d)) (sym t_front)) ∙ q.outs_is;
             }
           where
             sized : Sized (bare depth delays)
@@ -137,35 +145,33 @@ module _ (taps : ℕ → List Float) (five : FiveStages taps) where
             ready : Ready taps five depth k more deep (bare depth delays)
             ready = record { sized = sized; held = get_or-replicate 5 k zero32 nan (omega arith); count = get_or-replicate {A = ℕ} 5 k 0 0 (omega arith) }
 
-            fit : 2 * (n / 2) ≤ length span
-            fit = omega (arith, q.room)
+            front_long : length front ≡ n
+            front_long = length-take-le n tape (omega (arith, q.room, q.whole))
 
-            front : take n span ≡ take (2 * (n / 2)) span
-            front = ap (λ (m : ℕ). take m span) halved.1
+            done : Staged taps five depth k more deep (bare depth delays) front
+            done = staged taps five depth k more deep front (n / 2) (front_long ∙ halved.1) (bare depth delays) ready
 
-            done : Staged taps five depth k more deep (bare depth delays) (take (2 * (n / 2)) span)
-            done = staged taps five depth k more deep (take (2 * (n / 2)) span) (n / 2) (length-take-le (2 * (n / 2)) span fit) (bare depth delays) ready
+            made_long : length made ≡ n / 2
+            made_long = made_count (taps k) window (pairs front) ∙ length_pairs front ∙ ap (λ (m : ℕ). m / 2) front_long
 
-            made : length (outs stage window taken) ≡ n / 2
-            made = made_count (taps k) window taken ∙ pairs_front (n / 2) span fit
+            t_is : y ++ drop n tape ≡ made ++ (drop r front ++ drop n tape)
+            t_is = ap (λ (l : List Float). l ++ drop n tape) ey ∙ append_assoc made (drop r front) (drop n tape)
 
-            t_front : take (n / 2) t ≡ outs stage window taken
-            t_front = ap (take (n / 2)) et ∙ take_at (outs stage window taken) (drop (n / 2) span) (n / 2) made
+            t_front : take (n / 2) (y ++ drop n tape) ≡ made
+            t_front = ap (take (n / 2)) t_is ∙ take_at made (drop r front ++ drop n tape) (n / 2) made_long
 
-            t_long : length t ≡ length span
-            t_long = ap length et ∙ length_front span (outs stage window taken) (n / 2) (made ∙ sym (length-take-le (n / 2) span (omega arith)))
+            t_whole : length (y ++ drop n tape) ≡ 192
+            t_whole =
+                ap length t_is
+                ∙ simp (length-append, length-drop) (omega (arith, made_long, front_long, er, q.room, q.whole))
 
-      pub shrink_end : depth ≤ k
-          → (bare depth delays ≡ state (stream taps) (bare depth delays₀) (take (frames * 2 ^ depth) span₀)) × (take frames span ≡ outs (stream taps) (bare depth delays₀) (take (frames * 2 ^ depth) span₀))
+      pub shrink_end : depth ≤ k → (n ≡ frames) × ((bare depth delays ≡ state (stream taps) (bare depth delays₀) v) × (take n tape ≡ outs (stream taps) (bare depth delays₀) v))
       shrink_end h =
-          let none = stages_none taps five depth k (bare depth delays) (take n span) h in
-          let e : n ≡ frames = all_filled_of h in
-          (sym none.0 ∙ q.state_is, ap (λ (m : ℕ). take m span) (sym e) ∙ sym none.1 ∙ q.outs_is)
-        where
-          all_filled_of : depth ≤ k → n ≡ frames
-          all_filled_of h =
-              let z : depth - k ≡ 0 = omega arith in
-              q.count ∙ ap (λ (m : ℕ). frames * 2 ^ m) z ∙ ap (λ (m : ℕ). frames * m) (pow-zero 2) ∙ mul-one frames
+          let none = stages_none taps five depth k (bare depth delays) (take n tape) h in
+          let z : depth - k ≡ 0 = omega arith in (
+            q.count ∙ ap (λ (m : ℕ). frames * 2 ^ m) z ∙ ap (λ (m : ℕ). frames * m) (pow-zero 2) ∙ mul-one frames,
+            (sym none.0 ∙ q.state_is, sym none.1 ∙ q.outs_is),
+          )
 
   -- an opening
   pub fresh_meets : (d : ℕ) → Between 1 d 5 → MeetsBy taps d (dec_cascade_fresh d)

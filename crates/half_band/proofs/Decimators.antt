@@ -20,7 +20,7 @@ use Rattle.half_band.proofs.Choices.{third}
 use Rattle.half_band.proofs.Moving.{length_slid}
 use Rattle.half_band.proofs.Filling.{take_replicate}
 use Rattle.half_band.proofs.Stored as stored
-use Rattle.half_band.proofs.WholeLists.{decimator_whole}
+use Rattle.half_band.proofs.WholeLists.{pairs_taken, decimator_whole}
 
 -- a state that is not refused
 abbrev pub Usable : HbfDec → Type 0
@@ -53,17 +53,19 @@ module _ (d : HbfDec) (u : Usable d) where
 
   -- a block of n pairs that is not refused
   module _ (v span : List Float) (n : ℕ) (fine : dec_refused d ≡ false) (in_limits_lem : samples_refused (length v) (length span) ≡ false) (count : n ≡ min (length span) (length v / 2)) where
-    pub block_answer_lem : (w : List Float) → w ≡ state (decimator (dec_taps d)) (dec_window d) (take n (pairs v)) → told_on 0 (Ok n) (with_dec_window d w) ≡ dec_block d v (length span)
+    taken : pairs (take (2 * n) v) ≡ take n (pairs v)
+    taken = pairs_taken n v (omega arith)
+
+    pub block_answer_lem : (w : List Float) → w ≡ state (decimator (dec_taps d)) (dec_window d) (pairs (take (2 * n) v)) → told_on 0 (Ok n) (with_dec_window d w) ≡ dec_block d v (length span)
     block_answer_lem w e =
-        ap (λ (t : List Float). told_on 0 (Ok n) (with_dec_window d t)) e
+        ap (λ (t : List Float). told_on 0 (Ok n) (with_dec_window d t)) (e ∙ ap (state (decimator (dec_taps d)) (dec_window d)) taken)
         ∙ ap (λ (t : HbfDec). told_on 0 (Ok n) t) (sym (state_window (take n (pairs v))))
         ∙ ap (λ (k : ℕ). told_on 0 (Ok k) (state hbf_dec d (take k (pairs v)))) count
         ∙ third _ _ _ _ _ fine in_limits_lem
 
-    pub block_span_lem : (t : List Float) → t ≡ outs (decimator (dec_taps d)) (dec_window d) (take n (pairs v)) ++ drop n span → t ≡ dec_span d v span
-    block_span_lem t e =
-        e
-        ∙ ap (λ (l : List Float). l ++ drop n span) (sym (outs_window (take n (pairs v))))
+    pub block_span_lem : (y : List Float) → y ≡ outs (decimator (dec_taps d)) (dec_window d) (pairs (take (2 * n) v)) → y ++ drop n span ≡ dec_span d v span
+    block_span_lem y e =
+        ap (λ (l : List Float). l ++ drop n span) (e ∙ ap (outs (decimator (dec_taps d)) (dec_window d)) taken ∙ sym (outs_window (take n (pairs v))))
         ∙ ap (λ (k : ℕ). outs hbf_dec d (take k (pairs v)) ++ drop k span) count
         ∙ third _ _ _ _ _ fine in_limits_lem
 

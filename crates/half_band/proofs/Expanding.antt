@@ -1,8 +1,8 @@
--- A span whose last n samples are turned into 2n outputs in place: the outputs so far stand in front, and the samples still to be read as they were.
+-- A span of 2n places whose last n samples are turned into outputs in place: the outputs so far stand in front, and the samples still to be read as they were.
 use mathlib.Core.Path.{◌≡◌, sym, ap, ◌∙◌, subst}
 use mathlib.Core.List.{List, [], ◌∷◌, ◌++◌, append_assoc}
 use Rattle.std.specs.Prelude.{Some}
-use Prim.Native.Nat.{ℕ, suc, ◌+◌, ◌-◌, ◌*◌, ◌≤◌, ◌<◌}
+use Prim.Native.Nat.{ℕ, suc, ◌+◌, ◌-◌, ◌*◌, ◌<◌}
 use native.Mathlib.Nat.{add-zero}
 use native.Mathlib.Numerals.{add-one}
 use native.Mathlib.Omega.{arith}
@@ -15,42 +15,36 @@ use Rattle.half_band.proofs.Blocks.{state_next, outs_next}
 use Rattle.half_band.proofs.WholeLists.{flat_snoc}
 
 module _ {S : Type 0} (f : Section S Float (Float × Float)) (s : S) (span₀ : List Float) (n : ℕ) where
-  abbrev from : ℕ
-  from = length span₀ - n
-
-  abbrev to : ℕ
-  to = length span₀ - n - n
-
   -- the samples
   abbrev w : List Float
-  w = drop from span₀
+  w = drop n span₀
 
   pub record Expanded (t : S) (span : List Float) (i : ℕ) : Type 0 where
     pub state_is : t ≡ state f s (take i w)
-    pub front : take (to + 2 * i) span ≡ take to span₀ ++ flat (outs f s (take i w))
-    pub rest : drop (from + i) span ≡ drop (from + i) span₀
+    pub front : take (2 * i) span ≡ flat (outs f s (take i w))
+    pub rest : drop (n + i) span ≡ drop (n + i) span₀
     pub same : length span ≡ length span₀
 
-  module _ (room : 2 * n ≤ length span₀) where
+  module _ (room : length span₀ ≡ 2 * n) where
     sample_long : length w ≡ n
-    sample_long = length-drop from span₀ ∙ less
+    sample_long = length-drop n span₀ ∙ less
       where
-        less : length span₀ - from ≡ n
+        less : length span₀ - n ≡ n
         less = omega arith
 
-    module _ (t : S) (span : List Float) (i : ℕ) (q : Expanded t span i) (h : i < n) where
+    module _ (t : S) (span : List Float) (i : ℕ) (q : Expanded t span i) where
       -- the sample read
-      pub read : get_or span (from + i) nan ≡ get_or w i nan
+      pub read : get_or span (n + i) nan ≡ get_or w i nan
       read =
-          ap (λ (k : ℕ). get_or span k nan) (sym (add-zero (from + i)))
-          ∙ sym (get_or-drop (from + i) span 0 nan)
+          ap (λ (k : ℕ). get_or span k nan) (sym (add-zero (n + i)))
+          ∙ sym (get_or-drop (n + i) span 0 nan)
           ∙ ap (λ (l : List Float). get_or l 0 nan) q.rest
-          ∙ get_or-drop (from + i) span₀ 0 nan
-          ∙ ap (λ (k : ℕ). get_or span₀ k nan) (add-zero (from + i))
-          ∙ sym (get_or-drop from span₀ i nan)
+          ∙ get_or-drop (n + i) span₀ 0 nan
+          ∙ ap (λ (k : ℕ). get_or span₀ k nan) (add-zero (n + i))
+          ∙ sym (get_or-drop n span₀ i nan)
 
-      pub expanded_next : (u : S) (a b : Float) → u ≡ f.next t (get_or w i nan) → f.out t (get_or w i nan) ≡ Some (a, b) → Expanded u (set (set span (to + 2 * i) a) (to + 2 * i + 1) b) (i + 1)
-      expanded_next u a b eu eo =
+      pub expanded_next : i < n → (u : S) (a b : Float) → u ≡ f.next t (get_or w i nan) → f.out t (get_or w i nan) ≡ Some (a, b) → Expanded u (set (set span (2 * i) a) (2 * i + 1) b) (i + 1)
+      expanded_next h u a b eu eo =
           record {
             state_is = eu ∙ ap (λ (x : S). f.next x (get_or w i nan)) q.state_is ∙ sym (state_next f s w i nan in_range);
             front =
@@ -59,11 +53,11 @@ module _ {S : Type 0} (f : Section S Float (Float × Float)) (s : S) (span₀ : 
                 ∙ ap (λ (l : List Float). l ++ (b ∷ [])) (ap (λ (k : ℕ). take k (set span p a)) (add-one p) ∙ take-suc-set span p a (omega arith))
                 ∙ append_assoc (take p span) (a ∷ []) (b ∷ [])
                 ∙ ap (λ (l : List Float). l ++ (a ∷ b ∷ [])) q.front
-                ∙ append_assoc (take to span₀) (flat (outs f s (take i w))) (a ∷ b ∷ [])
-                ∙ ap (λ (l : List Float). take to span₀ ++ l) (sym (flat_snoc (outs f s (take i w)) (a, b)) ∙ ap flat (sym (outs_next f s w i nan in_range (Some (a, b)) (ap (λ (x : S). f.out x (get_or w i nan)) (sym q.state_is) ∙ eo))));
+                ∙ sym (flat_snoc (outs f s (take i w)) (a, b))
+                ∙ ap flat (sym (outs_next f s w i nan in_range (Some (a, b)) (ap (λ (x : S). f.out x (get_or w i nan)) (sym q.state_is) ∙ eo)));
             rest =
-                drop-set-lt (from + (i + 1)) (set span p a) (p + 1) b (omega arith)
-                ∙ drop-set-lt (from + (i + 1)) span p a (omega arith)
+                drop-set-lt (n + (i + 1)) (set span p a) (p + 1) b (omega arith)
+                ∙ drop-set-lt (n + (i + 1)) span p a (omega arith)
                 ∙ more span
                 ∙ ap (drop 1) q.rest
                 ∙ sym (more span₀);
@@ -71,19 +65,19 @@ module _ {S : Type 0} (f : Section S Float (Float × Float)) (s : S) (span₀ : 
           }
         where
           p : ℕ
-          p = to + 2 * i
+          p = 2 * i
 
           in_range : i < length w
           in_range = omega (arith, sample_long)
 
-          later : to + 2 * i + 1 < length span
+          later : 2 * i + 1 < length span
           later = omega (arith, q.same)
 
-          two : to + 2 * (i + 1) ≡ suc (to + 2 * i + 1)
+          two : 2 * (i + 1) ≡ suc (2 * i + 1)
           two = omega arith
 
-          more : (l : List Float) → drop (from + (i + 1)) l ≡ drop 1 (drop (from + i) l)
-          more l = ap (λ (k : ℕ). drop k l) further ∙ sym (drop-drop 1 (from + i) l)
+          more : (l : List Float) → drop (n + (i + 1)) l ≡ drop 1 (drop (n + i) l)
+          more l = ap (λ (k : ℕ). drop k l) further ∙ sym (drop-drop 1 (n + i) l)
             where
-              further : from + (i + 1) ≡ from + i + 1
+              further : n + (i + 1) ≡ n + i + 1
               further = omega arith

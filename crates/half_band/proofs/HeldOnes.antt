@@ -2,13 +2,14 @@
 use mathlib.Core.Path.{◌≡◌, refl, sym, ap, ◌∙◌, subst}
 use mathlib.Core.Bool.{Bool, true, false, cond, ◌&&◌, true≢false, false≢true}
 use mathlib.Core.List.{List, [], ◌∷◌}
-use Rattle.std.specs.Prelude.{Option, None, Some}
+use Rattle.std.specs.Prelude.{◌↔◌, Option, None, Some, EachIndex, IsFalse, slice_index}
 use Prim.Native.Nat.{ℕ, zero, suc, ◌≤◌, ◌<◌, min}
 use native.Mathlib.Omega.{arith}
 use native.Mathlib.Decide.{dec_le, dec_lt}
 use borrow.Author.Tests.{leb-true, le-leb}
 use lib.Dec.{eqb, leb, eqb-suc-zero}
-use lib.ListN.{get_or, set, replicate, get_or-replicate}
+use lib.ListN.{length, get_or, set, take, replicate, get_or-replicate}
+use lib.Seq.{length-take-le, get_or-take}
 use lib.Ieee.{Float}
 use Rattle.refusal.specs.Rows.{outside}
 use Rattle.refusal.proofs.Limits.{within, not_outside}
@@ -46,14 +47,6 @@ unfolding held_fine
 held_is zero counts a = refl
 held_is (suc n) counts a =
     ap (λ (b : Bool). b && leb (get_or counts n 0) 1) (held_is n counts (λ j h. a j (omega arith))) ∙ le-leb (get_or counts n 0) 1 (a n (omega arith))
-
--- one stage that holds more
-pub held_not : (n k : ℕ) (counts : List ℕ) → k < n → 1 < get_or counts k 0 → held_fine n counts ≡ false
-held_not n k counts h l = go (held_fine n counts) refl
-  where
-    go : (b : Bool) → held_fine n counts ≡ b → b ≡ false
-    go true e = let m = held_says n counts e k h in absurd (omega arith)
-    go false e = refl
 
 -- a state that is not refused
 pub record Fine (d : ℕ) (counts : List ℕ) : Type 0 where
@@ -157,10 +150,24 @@ pub not_so_deep : (d : ℕ) (counts : List ℕ) → outside d 1 5 ≡ true → s
 unfolding stream_refused
 not_so_deep d counts h = ap (λ (b : Bool). cond b true (cond (held_fine d counts) false true)) h
 
-pub too_many : (d k : ℕ) (counts : List ℕ) → outside d 1 5 ≡ false → k < d → 1 < get_or counts k 0 → stream_refused d counts ≡ true
+-- where a test says whether a stage holds more than one
+pub refused_as : (d : ℕ) (counts : List ℕ) (b : Bool) → outside d 1 5 ≡ false → length counts ≡ 5 → (IsFalse b ↔ EachIndex (take d counts) (λ k. slice_index (take d counts) k ≤ 1)) → b ≡ stream_refused d counts
 unfolding stream_refused
-too_many d k counts h l m =
-    ap (λ (b : Bool). cond b true (cond (held_fine d counts) false true)) h ∙ ap (λ (b : Bool). cond b false true) (held_not d k counts l m)
+refused_as d counts b h long none = tested b none ∙ sym (ap (λ (o : Bool). cond o true (cond (held_fine d counts) false true)) h)
+  where
+    front_long : length (take d counts) ≡ d
+    front_long = length-take-le d counts (omega (arith, (within d 1 5 h).most, long))
+
+    front_at : (k : ℕ) → k < d → get_or (take d counts) k 0 ≡ get_or counts k 0
+    front_at k l = get_or-take d counts k 0 l
+
+    tested : (b : Bool) → (IsFalse b ↔ EachIndex (take d counts) (λ k. slice_index (take d counts) k ≤ 1)) → b ≡ cond (held_fine d counts) false true
+    tested false e = sym (ap (λ (o : Bool). cond o false true) (held_is d counts (λ k l. subst (λ (n : ℕ). n ≤ 1) (front_at k l) (e.0 refl k (omega (arith, front_long))))))
+    tested true e = go (held_fine d counts) refl
+      where
+        go : (o : Bool) → held_fine d counts ≡ o → true ≡ cond o false true
+        go true f = absurd (true≢false (e.1 (λ k l. subst (λ (n : ℕ). n ≤ 1) (sym (front_at k (omega (arith, front_long)))) (held_says d counts f k (omega (arith, front_long))))))
+        go false f = refl
 
 -- a cascade of no stages stays as it is
 pub off_next : (s : HbfStream) (x : Float) → s.depth ≡ 0 → hbf_stream.next s x ≡ s

@@ -3,14 +3,14 @@
 use Rattle.std.specs.Prelude.{Ok}
 use mathlib.Core.Path.{◌≡◌, refl, sym, ap, ◌∙◌, subst}
 use mathlib.Core.Bool.{false}
-use mathlib.Core.List.{List, [], ◌∷◌, ◌++◌}
-use Prim.Native.Nat.{ℕ, zero, suc, ◌+◌, ◌-◌, ◌*◌, ◌^◌, ◌≤◌, ◌<◌, min}
+use mathlib.Core.List.{List, [], ◌∷◌, ◌++◌, append-nil}
+use Prim.Native.Nat.{ℕ, zero, suc, ◌+◌, ◌-◌, ◌*◌, ◌/◌, ◌%◌, ◌^◌, ◌≤◌, ◌<◌, min}
 use native.Mathlib.Nat.{mul_assoc, mul_left_comm, pow-succ', pow-zero, mul-one, mul_comm}
 use native.Mathlib.Numerals.{add-one}
 use native.Mathlib.Omega.{arith}
 use lib.Pow.{pow_pos}
-use lib.ListN.{length, take, drop, replicate, length-append, length-drop, length-replicate}
-use lib.Seq.{drop-append-add, length-take-le}
+use lib.ListN.{length, take, drop, replicate, length-append, length-drop, length-replicate, drop_of_length-le}
+use lib.Seq.{take_all, drop-append-add, drop-drop, length-take-le}
 use lib.Ieee.{Float}
 use Rattle.theory.specs.Sections.{Section, state, outs}
 use Rattle.theory.proofs.Sections.{outs_append, state_keeps}
@@ -348,14 +348,55 @@ stage_more want depth L delays span n k five g h d t ed et =
         place : L - 2 * n ≡ length (take (length span - 2 * n) span) + 0
         place = omega (arith, g.same, front)
 
--- the code's product has its factors the other way round
-pub grow_next : (want : Upsampled) (depth L : ℕ) (delays span : List Float) (n k : ℕ) → depth ≤ 5 → Growing want depth L delays span n k → k < depth
-    → (d t : List Float)
-    → d ≡ spliced (48 * k) (2 * length (stage_taps interpolation k)) (state (interpolator (stage_taps interpolation k)) (int_stage (stage_taps interpolation) k delays) (drop (length span - n) span)) delays
-    → t ≡ take (length span - 2 * n) span ++ flat (outs (interpolator (stage_taps interpolation k)) (int_stage (stage_taps interpolation) k delays) (drop (length span - n) span))
-    → Growing want depth L d t (n * 2) (k + 1)
-grow_next want depth L delays span n k five g h d t ed et =
-    subst (λ (m : ℕ). Growing want depth L d t m (k + 1)) (mul_comm 2 n) (stage_more want depth L delays span n k five g h d t ed et)
+-- the part that a stage is lent
+pub lent_even : (want : Upsampled) (depth L : ℕ) (delays span : List Float) (n k : ℕ) → Growing want depth L delays span n k → k < depth
+    → (from : ℕ) → from ≡ length span - n * 2 → length (take (length span - from) (drop from span)) % 2 ≡ 0
+lent_even want depth L delays span n k g h from e =
+    let room : 2 * n ≤ length span = omega (arith, (doubled n L depth k h g.filled).1, g.same) in
+    let rest = length-drop from span in
+    let long = length-take-le (length span - from) (drop from span) (omega (arith, rest)) in
+    omega (arith, long)
+
+-- the code's product has its factors the other way round, and it lends the part from `from` on, which the outputs fill
+pub grow_next : (want : Upsampled) (depth L : ℕ) (delays span : List Float) (n k from : ℕ) → depth ≤ 5 → Growing want depth L delays span n k → k < depth → from ≡ length span - n * 2
+    → (p d y : List Float) → p ≡ take (length span - from) (drop from span)
+    → d ≡ spliced (48 * k) (2 * length (stage_taps interpolation k)) (state (interpolator (stage_taps interpolation k)) (int_stage (stage_taps interpolation) k delays) (drop (length p / 2) p)) delays
+    → y ≡ flat (outs (interpolator (stage_taps interpolation k)) (int_stage (stage_taps interpolation) k delays) (drop (length p / 2) p))
+    → Growing want depth L d (take from span ++ (y ++ drop (length span - from) (drop from span))) (n * 2) (k + 1)
+grow_next want depth L delays span n k from five g h ef p d y ep ed ey =
+    subst (λ (m : ℕ). Growing want depth L d (take from span ++ (y ++ drop (length span - from) (drop from span))) m (k + 1)) (mul_comm 2 n)
+    (stage_more want depth L delays span n k five g h d (take from span ++ (y ++ drop (length span - from) (drop from span)))
+    (ed ∙ ap (λ (v : List Float). spliced (48 * k) (2 * length c) (state (interpolator c) w v) delays) same)
+    (ap (λ (m : ℕ). take m span ++ (y ++ drop (length span - from) (drop from span))) (ef ∙ place)
+    ∙ ap (λ (v : List Float). take (length span - 2 * n) span ++ (y ++ v)) (drop_of_length-le (drop from span) (omega (arith, rest)))
+    ∙ ap (λ (v : List Float). take (length span - 2 * n) span ++ v) (append-nil y ∙ ey ∙ ap (λ (v : List Float). flat (outs (interpolator c) w v)) same)))
+  where
+    c : List Float
+    c = stage_taps interpolation k
+
+    w : List Float
+    w = int_stage (stage_taps interpolation) k delays
+
+    rest : length (drop from span) ≡ length span - from
+    rest = length-drop from span
+
+    room : 2 * n ≤ length span
+    room = omega (arith, (doubled n L depth k h g.filled).1, g.same)
+
+    place : length span - n * 2 ≡ length span - 2 * n
+    place = omega arith
+
+    part : p ≡ drop from span
+    part = ep ∙ take_all (length span - from) (drop from span) (omega (arith, rest))
+
+    long : length p ≡ length span - from
+    long = ap length part ∙ rest
+
+    half : from + length p / 2 ≡ length span - n
+    half = omega (arith, long, room, ef)
+
+    same : drop (length p / 2) p ≡ drop (length span - n) span
+    same = ap (drop (length p / 2)) part ∙ drop-drop (length p / 2) from span ∙ ap (λ (m : ℕ). drop m span) half
 
 -- all stages
 pub grow_end : (want : Upsampled) (depth L : ℕ) (delays span : List Float) (n k : ℕ) → Growing want depth L delays span n k → depth ≤ k → (delays ≡ want.delays) × (span ≡ want.outs)

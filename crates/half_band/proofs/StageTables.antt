@@ -1,13 +1,13 @@
 -- The parts that the code takes of its tables are the stages' taps: each pattern is the f32 nearest to its printed decimal.
-use mathlib.Core.Path.{◌≡◌, sym, ap, ◌∙◌}
+use mathlib.Core.Path.{◌≡◌, refl, sym, ap, ◌∙◌}
 use mathlib.Core.List.{List, []}
-use Prim.Native.Nat.{ℕ, ◌*◌, ◌^◌, ◌≤◌}
+use Prim.Native.Nat.{ℕ, ◌-◌, ◌*◌, ◌^◌, ◌≤◌, ◌<◌}
 use native.Mathlib.Nat.{mul-one, mul-le-mul_left}
 use native.Mathlib.Omega.{arith}
 use lib.Pow.{pow_pos}
 use lib.ListN.{length, get_or, take, drop, get_or-eq_default}
 use lib.Ieee.{Float}
-use Rattle.half_band.specs.HbfTaps.{Table, stage_taps}
+use Rattle.half_band.specs.HbfTaps.{Table, stage_taps, by_five, decimation, interpolation}
 
 -- stage k, the j-th of the table, has so many taps from so far on
 pub cut : (cells : List Float) (t : Table) → cells ≡ t.taps → (k j first count : ℕ) → k ≡ j → first ≡ get_or t.starts j 0 → count ≡ get_or t.lengths j 0 → take count (drop first cells) ≡ stage_taps t k
@@ -22,6 +22,15 @@ cut cells t e k j first count ek ef ec =
 pub past : (t : Table) (k : ℕ) → length t.lengths ≤ k → [] ≡ stage_taps t k
 unfolding stage_taps
 past t k h = ap (λ (n : ℕ). take n (drop (get_or t.starts k 0) t.taps)) (sym (get_or-eq_default t.lengths 0 h))
+
+-- an interpolation runs the stages of a decimation from the last to the first
+pub turned : (k : ℕ) → k < 5 → stage_taps decimation (5 - 1 - k) ≡ stage_taps interpolation k
+unfolding stage_taps decimation interpolation
+turned = by_five (λ k. stage_taps decimation (5 - 1 - k) ≡ stage_taps interpolation k) refl refl refl refl refl
+
+pub turned_past : (k : ℕ) → 5 ≤ k → [] ≡ stage_taps interpolation k
+unfolding interpolation
+turned_past k h = past interpolation k h
 
 pub fewer : (m l d : ℕ) → l ≡ m * 2 ^ d → m ≤ l
 fewer m l d e = let a : m * 1 ≤ m * 2 ^ d = mul-le-mul_left m (pow_pos d) in omega (arith, mul-one m)

@@ -2,13 +2,13 @@
 -- make of the values there what all make of the block.
 use mathlib.Core.Path.{◌≡◌, refl, sym, ap, ◌∙◌, subst}
 use mathlib.Core.Bool.{cond}
-use mathlib.Core.List.{List, [], ◌∷◌, ◌++◌}
+use mathlib.Core.List.{List, [], ◌∷◌, ◌++◌, append_assoc}
 use Rattle.std.specs.Prelude.{Option, None, Some}
 use Prim.Native.Nat.{ℕ, suc, ◌+◌, ◌-◌, ◌*◌, ◌/◌, ◌%◌, ◌≤◌, ◌<◌, min}
 use native.Mathlib.Omega.{arith}
 use lib.Dec.{eqb}
-use lib.ListN.{length, get_or, set, take, drop, length-append}
-use lib.Seq.{length-take-le, length_front, take_at, take-append-add, drop-append-add, drop-drop, get_or-append-add, get_or-take}
+use lib.ListN.{length, get_or, set, take, drop, length-append, length-drop}
+use lib.Seq.{length-take-le, take_at, take_all, get_or-append-add}
 use lib.Ieee.{Float, nan}
 use Rattle.theory.specs.Sections.{Section, onto, state, outs}
 use Rattle.float.specs.F32.{zero32}
@@ -20,35 +20,36 @@ use Rattle.half_band.specs.declared.hbf_stream.HbfStream.{HbfStream}
 use Rattle.half_band.proofs.WholeLists.{length_pairs}
 use Rattle.half_band.proofs.Frames.{made_count}
 use Rattle.half_band.proofs.Stages.{Sized}
-use Rattle.half_band.proofs.StageRuns.{odd_one, odd_is, front_pairs, rested, half_run, half_made}
+use Rattle.half_band.proofs.StageRuns.{odd_one, odd_is, rested, half_run, half_made}
 use Rattle.half_band.proofs.StageLists.{stages_on, with_same, sized_staged, ByStage, by_stage}
 use Rattle.half_band.proofs.StageByStage.{stages_all, stages_none}
 
 abbrev T : ℕ → List Float
 T = stage_taps decimation
 
--- ---- stage k with the arrays lent, over the first n values of a span
-module _ (k : ℕ) (delays held : List Float) (counts : List ℕ) (span : List Float) where
+-- ---- stage k with the arrays lent, over the values of a span
+module _ (k : ℕ) (delays held : List Float) (counts : List ℕ) where
   abbrev lent : HbfStream
   lent = stream_of 0 delays held counts
 
   -- no value
-  pub stage_none : (n : ℕ) → n ≡ 0
-      → (lent ≡ stage_after k lent (take n span)) × ((0 ≡ length (stage_outs k lent (take n span))) × (span ≡ stage_outs k lent (take n span) ++ drop 0 span))
-  stage_none n e =
-      subst (λ (m : ℕ). (lent ≡ stage_after k lent (take m span)) × ((0 ≡ length (stage_outs k lent (take m span))) × (span ≡ stage_outs k lent (take m span) ++ drop 0 span))) (sym e)
-      (sym (with_same T decimation_five k lent), (refl, refl))
+  pub stage_none : (span : List Float) → length span ≡ 0 → (lent ≡ stage_after k lent span) × ((0 ≡ length (stage_outs k lent span)) × (span ≡ stage_outs k lent span ++ drop 0 span))
+  stage_none [] e = (sym (with_same T decimation_five k lent), (refl, refl))
+  stage_none (x ∷ v) e = absurd (omega arith)
 
   abbrev window : List Float
   window = take (4 * length (T k)) (drop (96 * k) delays)
 
   -- some, with `before` samples held before them
-  module _ (n before : ℕ) (some_in : 1 ≤ n) (room : n ≤ length span) (counted : before ≡ min (get_or counts k 0) 1) where
+  module _ (span : List Float) (before : ℕ) (some_in : 1 ≤ length span) (counted : before ≡ min (get_or counts k 0) 1) where
+    abbrev n : ℕ
+    n = length span
+
     abbrev lead : List Float
     lead = take before (get_or held k nan ∷ [])
 
     abbrev values : List Float
-    values = lead ++ take n span
+    values = lead ++ span
 
     lead_long : length lead ≡ before
     lead_long = length-take-le before (get_or held k nan ∷ []) few
@@ -57,20 +58,7 @@ module _ (k : ℕ) (delays held : List Float) (counts : List ℕ) (span : List F
         few = omega arith
 
     values_long : length values ≡ before + n
-    values_long = length-append lead (take n span) ∙ ap (λ (m : ℕ). m + length (take n span)) lead_long ∙ ap (λ (m : ℕ). before + m) (length-take-le n span room)
-
-    -- the pairs that are taken in
-    abbrev taken : List (Float × Float)
-    taken = pairs (take (2 * ((before + n) / 2)) (lead ++ span))
-
-    taken_is : taken ≡ pairs values
-    taken_is =
-        front_pairs (before + n) (lead ++ span) enough
-        ∙ ap (λ (m : ℕ). pairs (take (m + n) (lead ++ span))) (sym lead_long)
-        ∙ ap pairs (take-append-add lead span n)
-      where
-        enough : before + n ≤ length (lead ++ span)
-        enough = omega (arith, length-append lead span, lead_long)
+    values_long = length-append lead span ∙ ap (λ (m : ℕ). m + n) lead_long
 
     -- the stage as the arrays have it
     abbrev stage : Half
@@ -80,27 +68,20 @@ module _ (k : ℕ) (delays held : List Float) (counts : List ℕ) (span : List F
     unfolding stage_in
     stage_is = refl
 
-    run_is : state (half (T k)) (stage_in T k lent) (take n span) ≡ rested (T k) window values
+    run_is : state (half (T k)) (stage_in T k lent) span ≡ rested (T k) window values
     run_is =
-        ap (λ (h : Half). state (half (T k)) h (take n span)) stage_is
-        ∙ half_run (T k) window (get_or held k nan) (get_or counts k 0) (take n span) (some_taken (length-take-le n span room))
-        ∙ ap (λ (m : ℕ). rested (T k) window (take m (get_or held k nan ∷ []) ++ take n span)) (sym counted)
-      where
-        some_taken : length (take n span) ≡ n → 1 ≤ length (take n span)
-        some_taken e = omega arith
+        ap (λ (h : Half). state (half (T k)) h span) stage_is
+        ∙ half_run (T k) window (get_or held k nan) (get_or counts k 0) span some_in
+        ∙ ap (λ (m : ℕ). rested (T k) window (take m (get_or held k nan ∷ []) ++ span)) (sym counted)
 
-    made_is : stage_outs k lent (take n span) ≡ outs (decimator (T k)) window taken
+    made_is : stage_outs k lent span ≡ outs (decimator (T k)) window (pairs values)
     made_is =
-        ap (λ (h : Half). outs (half (T k)) h (take n span)) stage_is
-        ∙ half_made (T k) window (get_or held k nan) (get_or counts k 0) (take n span)
-        ∙ ap (λ (m : ℕ). outs (decimator (T k)) window (pairs (take m (get_or held k nan ∷ []) ++ take n span))) (sym counted)
-        ∙ ap (outs (decimator (T k)) window) (sym taken_is)
+        ap (λ (h : Half). outs (half (T k)) h span) stage_is
+        ∙ half_made (T k) window (get_or held k nan) (get_or counts k 0) span
+        ∙ ap (λ (m : ℕ). outs (decimator (T k)) window (pairs (take m (get_or held k nan ∷ []) ++ span))) (sym counted)
 
     last_is : get_or values (before + n - 1) nan ≡ get_or span (n - 1) nan
-    last_is =
-        ap (λ (i : ℕ). get_or values i nan) (place lead_long)
-        ∙ get_or-append-add lead (take n span) (n - 1) nan
-        ∙ get_or-take n span (n - 1) nan (omega arith)
+    last_is = ap (λ (i : ℕ). get_or values i nan) (place lead_long) ∙ get_or-append-add lead span (n - 1) nan
       where
         place : length lead ≡ before → before + n - 1 ≡ length lead + (n - 1)
         place e = omega arith
@@ -110,11 +91,11 @@ module _ (k : ℕ) (delays held : List Float) (counts : List ℕ) (span : List F
     put h = refl
 
     pub stage_next :
-        (d h : List Float) (c : List ℕ) (z : Float) → d ≡ spliced (96 * k) (4 * length (T k)) (state (decimator (T k)) window taken) delays
+        (d h : List Float) (c : List ℕ) (z : Float) → d ≡ spliced (96 * k) (4 * length (T k)) (state (decimator (T k)) window (pairs values)) delays
         → z ≡ cond (eqb ((before + n) % 2) 0) zero32 (get_or span (n - 1) nan) → h ≡ set held k z → c ≡ set counts k ((before + n) % 2)
-        → stream_of 0 d h c ≡ stage_after k lent (take n span)
+        → stream_of 0 d h c ≡ stage_after k lent span
     stage_next d h c z ed ez eh ec =
-        ap (λ (l : List Float). stream_of 0 l h c) (ed ∙ ap (λ (p : List (Float × Float)). spliced (96 * k) (4 * length (T k)) (state (decimator (T k)) window p) delays) taken_is)
+        ap (λ (l : List Float). stream_of 0 l h c) ed
         ∙ ap (λ (l : List Float). stream_of 0 (spliced (96 * k) (4 * length (T k)) (state (decimator (T k)) window (pairs values)) delays) l c)
         (eh ∙ ap (set held k) (ez ∙ odd_is values (before + n) (get_or span (n - 1) nan) values_long last_is))
         ∙ ap (λ (l : List ℕ). stream_of 0 (spliced (96 * k) (4 * length (T k)) (state (decimator (T k)) window (pairs values)) delays) (set held k (odd_one values)) l)
@@ -123,16 +104,17 @@ module _ (k : ℕ) (delays held : List Float) (counts : List ℕ) (span : List F
         ∙ ap (λ (g : Half). with_stage T k g lent) (sym run_is)
 
     pub stage_made :
-        (t : List Float) → t ≡ outs (decimator (T k)) window taken ++ drop ((before + n) / 2) span
-        → ((before + n) / 2 ≡ length (stage_outs k lent (take n span))) × (t ≡ stage_outs k lent (take n span) ++ drop ((before + n) / 2) span)
+        (t : List Float) → t ≡ outs (decimator (T k)) window (pairs values) ++ drop ((length lead + n) / 2) span
+        → ((before + n) / 2 ≡ length (stage_outs k lent span)) × (t ≡ stage_outs k lent span ++ drop ((before + n) / 2) span)
     stage_made t et = (
       sym (
-          ap length (made_is ∙ ap (outs (decimator (T k)) window) taken_is)
+          ap length made_is
           ∙ made_count (T k) window (pairs values)
           ∙ length_pairs values
           ∙ ap (λ (m : ℕ). m / 2) values_long
           ),
-      et ∙ ap (λ (l : List Float). l ++ drop ((before + n) / 2) span) (sym made_is),
+      et ∙ ap (λ (m : ℕ). outs (decimator (T k)) window (pairs values) ++ drop ((m + n) / 2) span) lead_long
+          ∙ ap (λ (l : List Float). l ++ drop ((before + n) / 2) span) (sym made_is),
     )
 
 -- ---- the depth is nothing to a stage
@@ -154,106 +136,97 @@ outs_few f s (a ∷ v) = more (f.out s a) (outs f (f.next s a) v) (outs_few f (f
     more None l h = omega arith
     more (Some b) l h = omega arith
 
--- values put in front of a span leave what lies behind them
-put_in_front_lem : (t l span : List Float) (r n : ℕ) → r ≡ length l → r ≤ n → n ≤ length span → t ≡ l ++ drop r span → (length t ≡ length span) × (drop n t ≡ drop n span)
-put_in_front_lem t l span r n er few room e = (
-  ap length e ∙ length_front span l r (sym er ∙ sym (length-take-le r span (omega arith))),
-  ap (drop n) e ∙ ap (λ (m : ℕ). drop m (l ++ drop r span)) parts ∙ drop-append-add l (drop r span) (n - r) ∙ drop-drop (n - r) r span ∙ ap (λ (m : ℕ). drop m span) back,
-)
-  where
-    parts : n ≡ length l + (n - r)
-    parts = omega arith
-
-    back : r + (n - r) ≡ n
-    back = omega arith
-
 -- ---- the loop over the stages
 abbrev left : ℕ → ℕ → Section HbfStream Float Float
 left most k = stages_on T decimation_five (most - k) k
 
--- m values in front of the span where k stages are done: what the stages left make of them is what all make of the first n values of the span lent
-pub record Going (depth n most : ℕ) (s₀ : HbfStream) (span₀ delays held : List Float) (counts : List ℕ) (span : List Float) (m k : ℕ) : Type 0 where
+-- m values in front of the span where k stages are done: what the stages left make of them is what all make of the values v lent
+pub record Going (depth most : ℕ) (s₀ : HbfStream) (v delays held : List Float) (counts : List ℕ) (span : List Float) (m k : ℕ) : Type 0 where
   pub stages : k ≤ most
   pub deep : most ≡ min depth 5
   pub sized : Sized (stream_of depth delays held counts)
-  pub room : n ≤ length span₀
-  pub fewer : m ≤ n
-  pub same : length span ≡ length span₀
-  pub behind : drop n span ≡ drop n span₀
-  pub state_is : state (left most k) (stream_of depth delays held counts) (take m span) ≡ state hbf_stream s₀ (take n span₀)
-  pub outs_is : outs (left most k) (stream_of depth delays held counts) (take m span) ≡ outs hbf_stream s₀ (take n span₀)
+  pub room : m ≤ length span
+  pub same : length span ≡ length v
+  pub state_is : state (left most k) (stream_of depth delays held counts) (take m span) ≡ state hbf_stream s₀ v
+  pub outs_is : outs (left most k) (stream_of depth delays held counts) (take m span) ≡ outs hbf_stream s₀ v
 
-module _ (depth n most : ℕ) (delays₀ held₀ : List Float) (counts₀ : List ℕ) (span₀ : List Float) where
+module _ (depth most : ℕ) (delays₀ held₀ : List Float) (counts₀ : List ℕ) (v : List Float) where
   abbrev s₀ : HbfStream
   s₀ = stream_of depth delays₀ held₀ counts₀
 
-  pub going_start : most ≡ min depth 5 → Sized s₀ → n ≤ length span₀ → Going depth n most s₀ span₀ delays₀ held₀ counts₀ span₀ n 0
+  pub going_start : most ≡ min depth 5 → Sized s₀ → Going depth most s₀ v delays₀ held₀ counts₀ v (length v) 0
   unfolding hbf_stream
-  going_start e z h =
+  going_start e z =
       let many : min depth 5 ≡ most - 0 = omega arith in
-      let all = stages_all T decimation_five (most - 0) s₀ (take n span₀) many in
-      record { stages = omega arith; deep = e; sized = z; room = h; fewer = omega arith; same = refl; behind = refl; state_is = all.0; outs_is = all.1 }
+      let front = take_all (length v) v (omega arith) in
+      let all = stages_all T decimation_five (most - 0) s₀ v many in
+      record {
+        stages = omega arith;
+        deep = e;
+        sized = z;
+        room = omega arith;
+        same = refl;
+        state_is = ap (state (left most 0) s₀) front ∙ all.0;
+        outs_is = ap (outs (left most 0) s₀) front ∙ all.1;
+      }
 
-  module _ (delays held : List Float) (counts : List ℕ) (span : List Float) (m k : ℕ) (q : Going depth n most s₀ span₀ delays held counts span m k) where
+  module _ (delays held : List Float) (counts : List ℕ) (span : List Float) (m k : ℕ) (q : Going depth most s₀ v delays held counts span m k) where
     abbrev s : HbfStream
     s = stream_of depth delays held counts
 
+    abbrev front : List Float
+    front = take m span
+
     abbrev made : List Float
-    made = stage_outs k s (take m span)
+    made = stage_outs k s front
 
     pub going_next :
-        k < most → (d h : List Float) (c : List ℕ) (t : List Float) (r : ℕ) → stream_of 0 d h c ≡ stage_after k (stream_of 0 delays held counts) (take m span)
-        → r ≡ length (stage_outs k (stream_of 0 delays held counts) (take m span)) → t ≡ stage_outs k (stream_of 0 delays held counts) (take m span) ++ drop r span
-        → Going depth n most s₀ span₀ d h c t r (k + 1)
-    going_next more d h c t r next count put =
+        k < most → (d h : List Float) (c : List ℕ) (y : List Float) (r : ℕ) → stream_of 0 d h c ≡ stage_after k (stream_of 0 delays held counts) front
+        → r ≡ length (stage_outs k (stream_of 0 delays held counts) front) → y ≡ stage_outs k (stream_of 0 delays held counts) front ++ drop r front
+        → Going depth most s₀ v d h c (y ++ drop m span) r (k + 1)
+    going_next more d h c y r next count put =
         record {
           stages = omega arith;
           deep = q.deep;
-          sized = subst Sized (sym after) (sized_staged T decimation_five most k more under s (take m span) q.sized);
-          room = q.room;
-          fewer = few;
-          same = fronted.0 ∙ q.same;
-          behind = fronted.1 ∙ q.behind;
-          state_is = ap (state (left most (k + 1)) (stream_of depth d h c)) front ∙ ap (λ (u : HbfStream). state (left most (k + 1)) u made) after ∙ sym done.0 ∙ q.state_is;
-          outs_is = ap (outs (left most (k + 1)) (stream_of depth d h c)) front ∙ ap (λ (u : HbfStream). outs (left most (k + 1)) u made) after ∙ sym done.1 ∙ q.outs_is;
+          sized = subst Sized (sym after) (sized_staged T decimation_five most k more under s front q.sized);
+          room = omega (arith, few, long, q.room);
+          same = long ∙ q.same;
+          state_is = ap (state (left most (k + 1)) (stream_of depth d h c)) made_front ∙ ap (λ (u : HbfStream). state (left most (k + 1)) u made) after ∙ sym done.0 ∙ q.state_is;
+          outs_is = ap (outs (left most (k + 1)) (stream_of depth d h c)) made_front ∙ ap (λ (u : HbfStream). outs (left most (k + 1)) u made) after ∙ sym done.1 ∙ q.outs_is;
         }
       where
         under : most ≤ 5
         under = omega (arith, q.deep)
 
-        done : ByStage T decimation_five most k more under s (take m span)
-        done = by_stage T decimation_five most k more under (take m span) s q.sized
+        done : ByStage T decimation_five most k more under s front
+        done = by_stage T decimation_five most k more under front s q.sized
 
-        after : stream_of depth d h c ≡ stage_after k s (take m span)
-        after = next_at depth k delays held counts (take m span) d h c next
+        after : stream_of depth d h c ≡ stage_after k s front
+        after = next_at depth k delays held counts front d h c next
 
-        made_is : stage_outs k (stream_of 0 delays held counts) (take m span) ≡ made
-        made_is = outs_at depth k delays held counts (take m span)
+        made_is : stage_outs k (stream_of 0 delays held counts) front ≡ made
+        made_is = outs_at depth k delays held counts front
 
         counted : r ≡ length made
         counted = count ∙ ap length made_is
 
-        put_made : t ≡ made ++ drop r span
-        put_made = put ∙ ap (λ (l : List Float). l ++ drop r span) made_is
+        put_made : y ++ drop m span ≡ made ++ (drop r front ++ drop m span)
+        put_made = ap (λ (l : List Float). l ++ drop m span) (put ∙ ap (λ (l : List Float). l ++ drop r front) made_is) ∙ append_assoc made (drop r front) (drop m span)
 
-        long : m ≤ length span
-        long = omega (arith, q.room, q.fewer, q.same)
+        front_long : length front ≡ m
+        front_long = length-take-le m span q.room
 
-        few : r ≤ n
-        few = omega (arith, counted, q.fewer, outs_few (half (T k)) (stage_in T k s) (take m span), length-take-le m span long)
+        few : r ≤ m
+        few = omega (arith, counted, front_long, outs_few (half (T k)) (stage_in T k s) front)
 
-        fronted : (length t ≡ length span) × (drop n t ≡ drop n span)
-        fronted = put_in_front_lem t made span r n counted few (omega (arith, q.room, q.same)) put_made
+        long : length (y ++ drop m span) ≡ length span
+        long = ap length put_made ∙ simp (length-append, length-drop) (omega (arith, counted, front_long, few, q.room))
 
-        front : take r t ≡ made
-        front = ap (take r) put_made ∙ take_at made (drop r span) r (sym counted)
+        made_front : take r (y ++ drop m span) ≡ made
+        made_front = ap (take r) put_made ∙ take_at made (drop r front ++ drop m span) r (sym counted)
 
-    pub going_end :
-        most ≤ k
-        → (stream_of depth delays held counts ≡ state hbf_stream s₀ (take n span₀))
-        × (((m ≡ length (outs hbf_stream s₀ (take n span₀))) × (take m span ≡ outs hbf_stream s₀ (take n span₀)))
-        × ((length span ≡ length span₀) × (drop n span ≡ drop n span₀)))
+    pub going_end : most ≤ k → (stream_of depth delays held counts ≡ state hbf_stream s₀ v) × ((m ≡ length (outs hbf_stream s₀ v)) × (take m span ≡ outs hbf_stream s₀ v))
     going_end h =
         let e = stages_none T decimation_five most k s (take m span) h in
-        let f : take m span ≡ outs hbf_stream s₀ (take n span₀) = sym e.1 ∙ q.outs_is in
-        (sym e.0 ∙ q.state_is, ((sym (length-take-le m span (omega (arith, q.room, q.fewer, q.same))) ∙ ap length f, f), (q.same, q.behind)))
+        let f : take m span ≡ outs hbf_stream s₀ v = sym e.1 ∙ q.outs_is in
+        (sym e.0 ∙ q.state_is, (sym (length-take-le m span q.room) ∙ ap length f, f))

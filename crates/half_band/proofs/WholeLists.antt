@@ -103,6 +103,15 @@ flat_pairs (suc k) (a ∷ b ∷ w) h = ap (λ (l : List Float). a ∷ b ∷ l) (
     more : (k : ℕ) → suc (suc (2 * k)) ≡ 2 * suc k
     more k = omega arith
 
+pub pairs_taken : (k : ℕ) (w : List Float) → 2 * k ≤ length w → pairs (take (2 * k) w) ≡ take k (pairs w)
+pairs_taken zero w h = refl
+pairs_taken (suc k) [] h = absurd (omega arith)
+pairs_taken (suc k) (a ∷ []) h = absurd (omega arith)
+pairs_taken (suc k) (a ∷ b ∷ w) h = ap (λ (n : ℕ). pairs (take n (a ∷ b ∷ w))) (fewer k) ∙ ap (λ (l : List (Float × Float)). (a, b) ∷ l) (pairs_taken k w (omega arith))
+  where
+    fewer : (k : ℕ) → 2 * suc k ≡ suc (suc (2 * k))
+    fewer k = omega arith
+
 pub decimator_whole : (c : List Float) → 1 ≤ length c → (w : List Float) → outs (decimator c) (replicate (4 * length c) zero32) (pairs w) ≡ decimated c w
 unfolding decimator decimated
 decimator_whole c p w =

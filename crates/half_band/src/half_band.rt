@@ -1,5 +1,5 @@
 // What the half-band filters do to a window of the last samples, the newest at its end.
-ghost use Rattle.std.specs.Prelude.{◌≡◌, [], ◌∷◌, ◌++◌, ◌≤◌, ◌+◌, ◌-◌, ◌*◌, length, take, drop, replicate};
+ghost use Rattle.std.specs.Prelude.{◌≡◌, [], ◌∷◌, ◌++◌, ◌≤◌, ◌+◌, ◌-◌, ◌*◌, ◌/◌, ◌%◌, length, take, drop, replicate};
 ghost use Rattle.std.specs.Float.{binary32};
 ghost use Rattle.std.specs.Float.Ieee.{add, mul};
 ghost use Rattle.theory.specs.Sections.{state, outs};
@@ -56,27 +56,27 @@ pub(crate) fn take_pair(window: &mut [f32], taps: &[f32], a: f32, b: f32) -> f32
     dec_at(window, taps)
 }
 
-// The decimator takes n pairs of src in, and their outputs stand in front of dst.
-pub(crate) fn decimate(window: &mut [f32], taps: &[f32], src: &[f32], dst: &mut [f32], n: usize)
-    requires { (1 ≤ length taps.now) × (length window.old ≡ 4 * length taps.now) × (2 * n ≤ length src.now) × (n ≤ length dst.old) }
-    ensures { (window.new ≡ state (decimator taps.now) window.old (take n (pairs src.now))) × (dst.new ≡ outs (decimator taps.now) window.old (take n (pairs src.now)) ++ drop n dst.old) }
+// The decimator takes the pairs of src in, and their outputs fill dst.
+pub(crate) fn decimate(window: &mut [f32], taps: &[f32], src: &[f32], dst: &mut [f32])
+    requires { (1 ≤ length taps.now) × (length window.old ≡ 4 * length taps.now) × (length src.now ≡ 2 * length dst.old) }
+    ensures { (window.new ≡ state (decimator taps.now) window.old (pairs src.now)) × (dst.new ≡ outs (decimator taps.now) window.old (pairs src.now)) }
 {
-    for i in 0..n {
-        dst[i] = take_pair(window, taps, src[2 * i], src[2 * i + 1]);
+    for (i, place) in dst.iter_mut().enumerate() {
+        *place = take_pair(window, taps, src[2 * i], src[2 * i + 1]);
     }
 }
 
-// The window in front of a line moves along it by pairs, and the outputs stand in front of the span.
-fn decimate_along(line: &[f32], taps: &[f32], span: &mut [f32], n: usize)
-    requires { (1 ≤ length taps.now) × (length taps.now ≤ 23) × (length line.now ≡ 4 * length taps.now + 2 * n) × (n ≤ length span.old) }
+// The window in front of a line moves along it by pairs, and the outputs fill the span.
+fn decimate_along(line: &[f32], taps: &[f32], span: &mut [f32])
+    requires { (1 ≤ length taps.now) × (length taps.now ≤ 23) × (length line.now ≡ 4 * length taps.now + 2 * length span.old) }
     ensures { let long = 4 * length taps.now in
         let line = line.entry.now in
-        span.new ≡ outs (decimator taps.now) (take long line) (pairs (drop long line)) ++ drop n span.old }
+        span.new ≡ outs (decimator taps.now) (take long line) (pairs (drop long line)) }
 {
     let long = 4 * taps.len();
-    for i in 0..n {
+    for (i, place) in span.iter_mut().enumerate() {
         let from = 2 * i + 2;
-        span[i] = dec_at(&line[from..from + long], taps);
+        *place = dec_at(&line[from..from + long], taps);
     }
 }
 
@@ -99,27 +99,22 @@ fn lay_led(line: &mut [f32], window: &[f32], lead: &[f32], values: &[f32])
     line[behind..past].copy_from_slice(values);
 }
 
-// The first 2n values of the lead and the span go through the decimator, and their outputs stand in front of the span. They are put behind the window on a line
-// of their own, so that nothing is moved for a pair; and a sample that was held before the values needs no place in the span.
-pub(crate) fn decimate_in_place(
-    window: &mut [f32],
-    taps: &[f32],
-    lead: &[f32],
-    span: &mut [f32],
-    n: usize,
-)
-    requires { (1 ≤ length taps.now) × (length taps.now ≤ 23) × (length window.old ≡ 4 * length taps.now) × (length lead.now ≤ 2 * n) × (2 * n ≤ length lead.now + length span.old) × (n ≤ length span.old) × (2 * n ≤ 192) }
+// The pairs of the lead and the span go through the decimator, and their outputs stand in front of the span. They are put behind the window on a line of their
+// own, so that nothing is moved for a pair; and a sample that was held before the values needs no place in the span. An odd last value is left out.
+pub(crate) fn decimate_in_place(window: &mut [f32], taps: &[f32], lead: &[f32], span: &mut [f32])
+    requires { (1 ≤ length taps.now) × (length taps.now ≤ 23) × (length window.old ≡ 4 * length taps.now) × (length lead.now ≤ length span.old) × (length lead.now + length span.old ≤ 193) }
     ensures { let stage = decimator taps.now in
-        let taken = pairs (take (2 * n) (lead.now ++ span.old)) in
-        (window.new ≡ state stage window.old taken) × (span.new ≡ outs stage window.old taken ++ drop n span.old) }
+        let taken = pairs (lead.now ++ span.old) in
+        (window.new ≡ state stage window.old taken) × (span.new ≡ outs stage window.old taken ++ drop ((length lead.now + length span.old) / 2) span.old) }
 {
+    let n = (lead.len() + span.len()) / 2;
     let values = 2 * n;
     let past = values + window.len();
     let behind = values - lead.len();
     let mut line = [0.0; LINE];
     lay_led(&mut line, window, lead, &span[..behind]);
     window.copy_from_slice(&line[values..past]);
-    decimate_along(&line[..past], taps, span, n);
+    decimate_along(&line[..past], taps, &mut span[..n]);
 }
 
 // The interpolator's even and odd output at a window.
@@ -171,22 +166,22 @@ fn put_on(tape: &mut [f32; TAPE], at: usize, long: usize, x: f32) -> usize
     1
 }
 
-// The last n samples of the span go through the interpolator, and their 2n outputs stand at its end. An output is never written over a sample that is
-// still to be read: output 2i + 1 stands n - 1 - i places before sample i. The window moves along a tape, so that it is not moved for each sample.
-pub(crate) fn expand(window: &mut [f32], taps: &[f32], span: &mut [f32], n: usize)
-    requires { (1 ≤ length taps.now) × (length taps.now ≤ 23) × (length window.old ≡ 2 * length taps.now) × (2 * n ≤ length span.old) }
-    ensures { (window.new ≡ state (interpolator taps.now) window.old (drop (length span.old - n) span.old)) × (span.new ≡ take (length span.old - 2 * n) span.old ++ flat (outs (interpolator taps.now) window.old (drop (length span.old - n) span.old))) }
+// The samples in the second half of the span go through the interpolator, and their outputs fill the span. An output is never written over a sample that is still
+// to be read: output 2i + 1 stands n - 1 - i places before sample i. The window moves along a tape, so that it is not moved for each sample.
+pub(crate) fn expand(window: &mut [f32], taps: &[f32], span: &mut [f32])
+    requires { (1 ≤ length taps.now) × (length taps.now ≤ 23) × (length window.old ≡ 2 * length taps.now) × (length span.old % 2 ≡ 0) }
+    ensures { let samples = drop (length span.old / 2) span.old in
+        (window.new ≡ state (interpolator taps.now) window.old samples) × (span.new ≡ flat (outs (interpolator taps.now) window.old samples)) }
 {
-    let from = span.len() - n;
-    let to = from - n;
+    let n = span.len() / 2;
     let long = window.len();
     let mut tape = on_tape(window);
     let mut at = 0;
     for i in 0..n {
-        at = put_on(&mut tape, at, long, span[from + i]);
+        at = put_on(&mut tape, at, long, span[n + i]);
         let (even, odd) = both_at(&tape[at..at + long], taps);
-        span[to + 2 * i] = even;
-        span[to + 2 * i + 1] = odd;
+        span[2 * i] = even;
+        span[2 * i + 1] = odd;
     }
     window.copy_from_slice(&tape[at..at + long]);
 }
@@ -197,7 +192,7 @@ pub(crate) fn interpolate(window: &mut [f32], taps: &[f32], src: &[f32], span: &
     ensures { (window.new ≡ state (interpolator taps.now) window.old src.now) × (span.new ≡ flat (outs (interpolator taps.now) window.old src.now)) }
 {
     span[src.len()..].copy_from_slice(src);
-    expand(window, taps, span, src.len());
+    expand(window, taps, span);
 }
 
 // The taps in front, and zeros behind them.

@@ -111,6 +111,11 @@ pub fn pairs_lent(
         return Err(Refusal::Samples);
     }
     let n = dst.len().min(src.len() / 2);
-    decimate(&mut delay[..4 * m], &coeffs[..m], src, dst, n);
+    decimate(
+        &mut delay[..4 * m],
+        &coeffs[..m],
+        &src[..2 * n],
+        &mut dst[..n],
+    );
     Ok(n)
 }

@@ -1,6 +1,6 @@
 // 01, section 4, and 02, §11: blocks through a cascade of half-band decimators, one output of each 2^depth samples. The samples are put on a tape, as many whole
 // frames of 2^depth as it has places for, and each stage turns the list there into half as many values in place: nothing is held at the end of whole frames.
-ghost use Rattle.std.specs.Prelude.{◌≡◌, ◌++◌, ◌+◌, ◌*◌, ◌^◌, ◌≤◌, ◌<◌, length, take, drop, replicate, IfOk};
+ghost use Rattle.std.specs.Prelude.{◌≡◌, ◌++◌, ◌+◌, ◌*◌, ◌/◌, ◌^◌, ◌≤◌, ◌<◌, length, take, drop, replicate, IfOk};
 ghost use Rattle.theory.specs.Sections.{state, outs};
 ghost use Rattle.refusal.specs.Outcome.{told_on, told_reset};
 ghost use Rattle.float.specs.F32.{zero32};
@@ -28,44 +28,27 @@ pub type HbfDecCascade = DecCascade<Db140>;
 
 pub type HbfDecCascade98 = DecCascade<Db98>;
 
-// The first 2n values of the lead and the span go through stage k, and their outputs stand in front of the span.
+// The pairs of the lead and the span go through stage k, and their outputs stand in front of the span.
 pub(crate) fn decimate_stage<T: StageTable>(
     k: usize,
     delays: &mut [f32],
     lead: &[f32],
     span: &mut [f32],
-    n: usize,
 )
-    requires { (k < 5) × (length delays.old ≡ 480) × (length lead.now ≤ 2 * n) × (2 * n ≤ length lead.now + length span.old) × (n ≤ length span.old) × (2 * n ≤ 192) }
+    requires { (k < 5) × (length delays.old ≡ 480) × (length lead.now ≤ length span.old) × (length lead.now + length span.old ≤ 193) }
     ensures { let taps = stage_taps T.table k in
         let window = take (4 * length taps) (drop (96 * k) delays.old) in
-        let taken = pairs (take (2 * n) (lead.now ++ span.old)) in
+        let taken = pairs (lead.now ++ span.old) in
         (delays.new ≡ spliced (96 * k) (4 * length taps) (state (decimator taps) window taken) delays.old)
-        × (span.new ≡ outs (decimator taps) window taken ++ drop n span.old) }
+        × (span.new ≡ outs (decimator taps) window taken ++ drop ((length lead.now + length span.old) / 2) span.old) }
 {
     let taps = T::stage(k);
     let from = DEC_DELAYS * k;
     let past = from + 4 * taps.len();
-    decimate_in_place(&mut delays[from..past], taps, lead, span, n)
+    decimate_in_place(&mut delays[from..past], taps, lead, span)
 }
 
-// So many frames of the span go through the stages, and an output of each stands in front of it. Nothing is held before them, so the lead is empty.
-fn decimate_stages<T: StageTable>(depth: usize, delays: &mut [f32], span: &mut [f32], frames: usize)
-    requires { (depth ≤ 5) × (length delays.old ≡ 480) × (frames * 2 ^ depth ≤ length span.old) × (length span.old ≤ 192) }
-    ensures { let cascade = stream (stage_taps T.table) in
-        let before = stream_of depth delays.old (replicate 5 zero32) (replicate 5 0) in
-        let after = stream_of depth delays.new (replicate 5 zero32) (replicate 5 0) in
-        let taken = take (frames * 2 ^ depth) span.old in
-        (after ≡ state cascade before taken) × (take frames span.new ≡ outs cascade before taken) }
-{
-    let mut n = frames * rate_change(depth);
-    for k in 0..depth {
-        n /= 2;
-        decimate_stage::<T>(k, delays, &[], span, n);
-    }
-}
-
-// The frames of src, at most a tape long, go through the stages on a tape, and an output of each fills dst.
+// The frames of src, at most a tape long, go through the stages on a tape, and an output of each fills dst. Nothing is held before them, so the lead is empty.
 fn decimate_on_tape<T: StageTable>(depth: usize, delays: &mut [f32], src: &[f32], dst: &mut [f32])
     requires { (depth ≤ 5) × (length delays.old ≡ 480) × (length src.now ≡ length dst.old * 2 ^ depth) × (length src.now ≤ 192) }
     ensures { let cascade = stream (stage_taps T.table) in
@@ -73,29 +56,26 @@ fn decimate_on_tape<T: StageTable>(depth: usize, delays: &mut [f32], src: &[f32]
         let after = stream_of depth delays.new (replicate 5 zero32) (replicate 5 0) in
         (after ≡ state cascade before src.now) × (dst.new ≡ outs cascade before src.now) }
 {
-    let frames = dst.len();
     let mut tape = on_tape(src);
-    decimate_stages::<T>(depth, delays, &mut tape, frames);
-    dst.copy_from_slice(&tape[..frames]);
+    let mut n = src.len();
+    for k in 0..depth {
+        decimate_stage::<T>(k, delays, &[], &mut tape[..n]);
+        n /= 2;
+    }
+    dst.copy_from_slice(&tape[..n]);
 }
 
-// So many frames of src go through the stages, and an output of each stands in front of dst.
-fn decimate_frames<T: StageTable>(
-    depth: usize,
-    delays: &mut [f32],
-    src: &[f32],
-    dst: &mut [f32],
-    frames: usize,
-)
-    requires { (depth ≤ 5) × (length delays.old ≡ 480) × (frames * 2 ^ depth ≤ length src.now) × (frames ≤ length dst.old) × (length src.now ≤ 65536) }
+// The frames of src go through the stages, and an output of each fills dst.
+fn decimate_frames<T: StageTable>(depth: usize, delays: &mut [f32], src: &[f32], dst: &mut [f32])
+    requires { (depth ≤ 5) × (length delays.old ≡ 480) × (length src.now ≡ length dst.old * 2 ^ depth) × (length src.now ≤ 65536) }
     ensures { let cascade = stream (stage_taps T.table) in
         let before = stream_of depth delays.old (replicate 5 zero32) (replicate 5 0) in
         let after = stream_of depth delays.new (replicate 5 zero32) (replicate 5 0) in
-        let taken = take (frames * 2 ^ depth) src.now in
-        (after ≡ state cascade before taken) × (dst.new ≡ outs cascade before taken ++ drop frames dst.old) }
+        (after ≡ state cascade before src.now) × (dst.new ≡ outs cascade before src.now) }
 {
     let factor = rate_change(depth);
     let most = TAPE / factor;
+    let frames = dst.len();
     let mut done = 0;
     // By hand: of what stands behind an iterator of `chunks_mut` a proof knows the length alone.
     while done < frames {
@@ -149,8 +129,10 @@ impl<T: StageTable> DecCascade<T> {
         if samples_refused(src.len(), dst.len()) {
             return Err(Refusal::Samples);
         }
-        let frames = dst.len().min(src.len() / rate_change(depth));
-        decimate_frames::<T>(depth, &mut self.delays, src, dst, frames);
+        let factor = rate_change(depth);
+        let frames = dst.len().min(src.len() / factor);
+        let count = frames * factor;
+        decimate_frames::<T>(depth, &mut self.delays, &src[..count], &mut dst[..frames]);
         Ok(frames)
     }
 

@@ -1,6 +1,6 @@
 // 01, section 7: blocks through a cascade of half-band interpolators, 2^depth outputs of each sample. The samples are put at the end of the places that
 // the outputs will fill, and each stage turns the whole list there into twice as many values in place.
-ghost use Rattle.std.specs.Prelude.{◌≡◌, ◌++◌, ◌-◌, ◌*◌, ◌^◌, ◌≤◌, ◌<◌, length, take, drop, IfOk};
+ghost use Rattle.std.specs.Prelude.{◌≡◌, ◌*◌, ◌/◌, ◌%◌, ◌^◌, ◌≤◌, ◌<◌, length, drop, IfOk};
 ghost use Rattle.theory.specs.Sections.{state, outs};
 ghost use Rattle.refusal.specs.Outcome.{told_on, told_opened, told_reset};
 ghost use Rattle.half_band.specs.HalfBand.{flat};
@@ -21,19 +21,18 @@ pub struct HbfIntCascade {
     pub delays: [f32; INT_CASCADE_DELAYS],
 }
 
-// The last n values of the span go through stage k.
-fn expand_stage<T: StageTable>(k: usize, delays: &mut [f32], span: &mut [f32], n: usize)
-    requires { (k < 5) × (length delays.old ≡ 240) × (2 * n ≤ length span.old) }
+// The values in the second half of the span go through stage k, and their outputs fill it.
+fn expand_stage<T: StageTable>(k: usize, delays: &mut [f32], span: &mut [f32])
+    requires { (k < 5) × (length delays.old ≡ 240) × (length span.old % 2 ≡ 0) }
     ensures { let taps = stage_taps T.table k in
         let window = int_stage (stage_taps T.table) k delays.old in
-        let taken = drop (length span.old - n) span.old in
-        (delays.new ≡ spliced (48 * k) (2 * length taps) (state (interpolator taps) window taken) delays.old)
-        × (span.new ≡ take (length span.old - 2 * n) span.old ++ flat (outs (interpolator taps) window taken)) }
+        let taken = drop (length span.old / 2) span.old in
+        (delays.new ≡ spliced (48 * k) (2 * length taps) (state (interpolator taps) window taken) delays.old) × (span.new ≡ flat (outs (interpolator taps) window taken)) }
 {
     let taps = T::stage(k);
     let from = INT_DELAYS * k;
     let past = from + 2 * taps.len();
-    expand(&mut delays[from..past], taps, span, n)
+    expand(&mut delays[from..past], taps, span)
 }
 
 // The samples go through the first `depth` stages, and their outputs fill the span.
@@ -46,8 +45,9 @@ fn expand_stages(depth: usize, delays: &mut [f32], src: &[f32], span: &mut [f32]
     let from = span.len() - n;
     span[from..].copy_from_slice(src);
     for k in 0..depth {
-        expand_stage::<Interpolation>(k, delays, span, n);
         n *= 2;
+        let from = span.len() - n;
+        expand_stage::<Interpolation>(k, delays, &mut span[from..]);
     }
 }
 

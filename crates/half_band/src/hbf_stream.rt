@@ -65,15 +65,7 @@ pub fn hbf_stream_at(
 fn hbf_stream_refused(depth: usize, counts: &[usize; MOST_STAGES]) -> bool
     ensures { result ≡ stream_refused depth counts.now }
 {
-    if outside(depth, 1, MOST_STAGES) {
-        return true;
-    }
-    for k in 0..depth {
-        if 1 < counts[k] {
-            return true;
-        }
-    }
-    false
+    outside(depth, 1, MOST_STAGES) || counts[..depth].iter().any(|count| 1 < *count)
 }
 
 // Refusal 15 of a state in the line, where no stages means off.

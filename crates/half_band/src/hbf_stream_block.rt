@@ -24,24 +24,24 @@ fn odd_one(count: usize, last: f32) -> f32
     last
 }
 
-// The first n values of the span go through stage k; what they make stands in front of it, and how many that are is returned. The pairs are those of the held
-// sample, if there is one, and the values.
+// The values of the span go through stage k; what they make stands in front of it, and how many that are is returned. The pairs are those of the held sample, if
+// there is one, and the values.
 fn stage_block(
     k: usize,
     delays: &mut [f32],
     held: &mut [f32; MOST_STAGES],
     counts: &mut [usize; MOST_STAGES],
     span: &mut [f32],
-    n: usize,
 ) -> usize
-    requires { (k < 5) × (length delays.old ≡ 480) × (n ≤ length span.old) × (n ≤ 192) }
+    requires { (k < 5) × (length delays.old ≡ 480) × (length span.old ≤ 192) }
     ensures next { let before = stream_of 0 delays.old held.old counts.old in
         let after = stream_of 0 delays.new held.new counts.new in
-        after ≡ stage_after k before (take n span.old) }
+        after ≡ stage_after k before span.old }
     ensures outputs { let before = stream_of 0 delays.old held.old counts.old in
-        let made = stage_outs k before (take n span.old) in
+        let made = stage_outs k before span.old in
         (result ≡ length made) × (span.new ≡ made ++ drop result span.old) }
 {
+    let n = span.len();
     if n == 0 {
         return 0;
     }
@@ -51,57 +51,53 @@ fn stage_block(
     let half = total / 2;
     held[k] = odd_one(total, span[n - 1]);
     counts[k] = total % 2;
-    decimate_stage::<Db140>(k, delays, &first[..before], span, half);
+    decimate_stage::<Db140>(k, delays, &first[..before], span);
     half
 }
 
-// The first n values of the span go through the first `depth` stages, or all five.
+// The values of the span go through the first `depth` stages, or all five.
 fn stages_block(
     depth: usize,
     delays: &mut [f32; DEC_CASCADE_DELAYS],
     held: &mut [f32; MOST_STAGES],
     counts: &mut [usize; MOST_STAGES],
     span: &mut [f32],
-    n: usize,
 ) -> usize
-    requires { (n ≤ length span.old) × (n ≤ 192) }
+    requires { length span.old ≤ 192 }
     ensures next { let before = stream_of depth delays.old held.old counts.old in
         let after = stream_of depth delays.new held.new counts.new in
-        after ≡ state hbf_stream before (take n span.old) }
+        after ≡ state hbf_stream before span.old }
     ensures outputs { let before = stream_of depth delays.old held.old counts.old in
-        let made = outs hbf_stream before (take n span.old) in
+        let made = outs hbf_stream before span.old in
         (result ≡ length made) × (take result span.new ≡ made) }
-    ensures span { (length span.new ≡ length span.old) × (drop n span.new ≡ drop n span.old) }
 {
-    let mut m = n;
+    let mut m = span.len();
     for k in 0..depth.min(MOST_STAGES) {
-        m = stage_block(k, delays, held, counts, span, m);
+        m = stage_block(k, delays, held, counts, &mut span[..m]);
     }
     m
 }
 
-// The first n values of the span go through the first `depth` stages, or all five, each stage over all of them in place; what comes of them stands in front of
-// the span, and how many that are is returned. What lies behind it, up to place n, are values of earlier stages, and of no use. With n over MOST_STREAM_BLOCK, or
-// past the span's end, nothing is done. A leaf for the line, which has looked at the numbers: it refuses nothing.
+// The values of the span go through the first `depth` stages, or all five, each stage over all of them in place; what comes of them stands in front of the span, and
+// how many that are is returned. What lies behind it are values of earlier stages, and of no use. With over MOST_STREAM_BLOCK values nothing is done. A leaf for the
+// line, which has looked at the numbers: it refuses nothing.
 pub fn hbf_stream_block_at(
     depth: usize,
     delays: &mut [f32; DEC_CASCADE_DELAYS],
     held: &mut [f32; MOST_STAGES],
     counts: &mut [usize; MOST_STAGES],
     span: &mut [f32],
-    n: usize,
 ) -> usize
     ensures next { let before = stream_of depth delays.old held.old counts.old in
         let after = stream_of depth delays.new held.new counts.new in
-        after ≡ stream_block_state before span.old n }
+        after ≡ stream_block_state before span.old }
     ensures made { let before = stream_of depth delays.old held.old counts.old in
-        result ≡ stream_block_made before span.old n }
+        result ≡ stream_block_made before span.old }
     ensures front { let before = stream_of depth delays.old held.old counts.old in
-        take result span.new ≡ stream_block_outs before span.old n }
-    ensures span { (length span.new ≡ length span.old) × (drop n span.new ≡ drop n span.old) }
+        take result span.new ≡ stream_block_outs before span.old }
 {
-    if n <= MOST_STREAM_BLOCK && n <= span.len() {
-        return stages_block(depth, delays, held, counts, span, n);
+    if span.len() <= MOST_STREAM_BLOCK {
+        return stages_block(depth, delays, held, counts, span);
     }
     0
 }

@@ -145,20 +145,17 @@ impl StageTable for Db98 {
 }
 
 // The first table turned round.
+#[tactic(auto, using(crate::proofs::StageTables::turned, crate::proofs::StageTables::turned_past))]
 impl StageTable for Interpolation {
     ghost table = { interpolation };
 
     ghost five = { interpolation_five };
 
     fn stage(k: usize) -> &'static [f32] {
-        match k {
-            0 => &HBF_TAPS[..23],
-            1 => &HBF_TAPS[23..33],
-            2 => &HBF_TAPS[33..38],
-            3 => &HBF_TAPS[38..42],
-            4 => &HBF_TAPS[42..],
-            _ => &[],
+        if k < MOST_STAGES {
+            return Db140::stage(MOST_STAGES - 1 - k);
         }
+        &[]
     }
 }
 

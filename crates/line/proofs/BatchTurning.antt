@@ -1,15 +1,14 @@
 -- A turn of the loop that feeds by batches: the outputs that are due are written, and a batch is taken of the samples left, so many that a place is left before its last sum.
-use mathlib.Core.Path.{◌≡◌, ap, ◌∙◌}
+use mathlib.Core.Path.{◌≡◌, ◌∙◌, subst⁻¹}
 use mathlib.Core.Bool.{true, false}
-use mathlib.Core.List.{List, map}
+use mathlib.Core.List.{List, ◌++◌, map}
 use Prim.Native.Nat.{ℕ, ◌+◌, ◌-◌, ◌/◌, ◌≤◌, ◌<◌}
 use native.Mathlib.Nat.{div-mul-le_self}
 use native.Mathlib.Omega.{arith}
 use borrow.Author.Tests.{lt-ltb}
 use lib.IntN.{ℤ}
 use lib.Ieee.{Float}
-use lib.ListN.{length, take, drop, length-drop}
-use lib.Seq.{take_all}
+use lib.ListN.{length, take, drop}
 use mir.Syntax.{w16}
 use Rattle.theory.specs.Sections.{outs}
 use Rattle.theory.specs.Tally.{held_sum}
@@ -27,6 +26,7 @@ use Rattle.line.specs.Line.{line, thinner_of, parts_of}
 use Rattle.line.specs.declared.gauge_line.Line.{Line}
 use Rattle.line.proofs.Flags.{and_left}
 use Rattle.line.proofs.Lawful.{Good, line_lawful, to_parts}
+use Rattle.line.proofs.Left.{left, left_are, left_long, none_behind}
 use Rattle.line.proofs.Numbers.{counter_below}
 use Rattle.line.proofs.Emitting.{Drained, emptied, with_mu}
 use Rattle.line.proofs.Batching.{after_line_batch}
@@ -40,39 +40,33 @@ module _ {l₀ : Line} {xs : List ℤ} {out₀ out : List Float} {l : Line} {t w
   abbrev quiet : Drained l₀ xs out₀ l t e
   quiet = emptied mid setting due
 
-  -- the line after the outputs that were due, and the places and the samples that are left
+  -- the line after the outputs that were due, and the samples and the places that are left
   abbrev m : Line
   m = with_mu l e.mu
 
-  abbrev places : ℕ
-  places = length e.span - e.written
-
   abbrev ys : List ℤ
-  ys = take (length xs - t) (drop t xs)
+  ys = left t xs
 
-  left_are : ys ≡ drop t xs
-  left_are = take_all (length xs - t) (drop t xs) (let n = length-drop t xs in omega (arith, n))
+  abbrev rest : List Float
+  rest = left e.written e.span
 
-  -- what a batch of k samples comes to, of whose values n were cut
+  -- what a batch of k samples comes to, after which n values were cut
   abbrev Batch : ℕ → ℕ → ℕ → Parts → List Float → Type 0
   Batch k n v p o =
       let sums : List ℤ = outs either (thinner_of m) (take k ys) in
-      (1 ≤ k) × Whole chain (parts_of m) (take k ys) places × Batched chain (parts_of m) (take k ys) e.written e.span o p v
-      × (n ≡ cut_count w16 sums + cut_count w16 (outs summing m.fir (map (cut w16) sums)))
+      (1 ≤ k) × Whole chain (parts_of m) (take k ys) (length rest) × Batched chain (parts_of m) (take k ys) rest o p v
+      × (n ≡ held_sum most_cuts l.cuts (cut_count w16 sums + cut_count w16 (outs summing m.fir (map (cut w16) sums))))
 
-  module _ (enough : l.cic.r ≤ (length xs - t) / 6) {count : ℕ} (some : 1 ≤ count) (counted : (count ≤ most_sums) × (1 ≤ count → 1 ≤ places))
-      (leaving : Q.valid_in_line m.fir ≡ true → valid_in_line m.resampler ≡ true → in_line.due m.resampler ≡ false → 1 ≤ count → Leaves from2 (parts_of m).1 count places)
+  module _ (enough : l.cic.r ≤ (length xs - t) / 6) {count : ℕ} (some : 1 ≤ count) (counted : (count ≤ most_sums) × (1 ≤ count → 1 ≤ length e.span - e.written))
+      (leaving : Q.valid_in_line m.fir ≡ true → valid_in_line m.resampler ≡ true → in_line.due m.resampler ≡ false → 1 ≤ count → Leaves from2 (parts_of m).1 count (length e.span - e.written))
       {k n v : ℕ} {p : Parts} {o : List Float} (few : k ≤ length ys)
-      (batch : valid_at m.thinning m.cic.stages m.cic.r m.cic.sample_counter ≡ true → valid_in_line m.resampler ≡ true → e.written < length e.span → 1 ≤ count
-      → count ≤ most_sums → 1 ≤ length ys → Leaves from2 (parts_of m).1 count places → Batch k n v p o) where
-    left_long : length ys ≡ length xs - t
-    left_long = ap length left_are ∙ length-drop t xs
-
+      (batch : valid_at m.thinning m.cic.stages m.cic.r m.cic.sample_counter ≡ true → valid_in_line m.resampler ≡ true → 1 ≤ count
+      → count ≤ most_sums → 1 ≤ length ys → Leaves from2 (parts_of m).1 count (length rest) → Batch k n v p o) where
     some_left : 1 ≤ length ys
     some_left =
         let below = counter_below _ mid.good in
         let six = div-mul-le_self (length xs - t) 6 in
-        let long = left_long in
+        let long = left_long t xs in
         omega (arith, below, six, long)
 
     place : e.written < length e.span
@@ -82,12 +76,14 @@ module _ {l₀ : Line} {xs : List ℤ} {out₀ out : List Float} {l : Line} {t w
     batched =
         let good = to_parts m quiet.mid.good in
         let inside = good.1.1.1.1.1 in
-        batch (valid_of m good.0) inside place some counted.0 some_left (leaving good.1.1.0 inside (quiet.quiet (lt-ltb e.written (length e.span) place)) some)
+        let leaves = leaving good.1.1.0 inside (quiet.quiet (lt-ltb e.written (length e.span) place)) some in
+        batch (valid_of m good.0) inside some counted.0 some_left (subst⁻¹ (λ (j : ℕ). Leaves from2 (parts_of m).1 count j) (left_long e.written e.span) leaves)
 
     -- some samples are taken, and not more than there are
     pub some_taken : (1 ≤ k) × (t + k ≤ length xs)
-    some_taken = let long = left_long in let here = mid.some_taken in (batched.0, omega (arith, long, here, few))
+    some_taken = let long = left_long t xs in let here = mid.some_taken in (batched.0, omega (arith, long, here, few))
 
-    pub after_batch_turn : (l' : Line) → parts_of l' ≡ p → l'.cuts ≡ held_sum most_cuts l.cuts n → Midway line 64 Good line_lawful l₀ xs out₀ o l' (t + k) v
+    pub after_batch_turn : (l' : Line) → parts_of l' ≡ p → l'.cuts ≡ n → Midway line 64 Good line_lawful l₀ xs out₀ (take e.written e.span ++ (o ++ drop (length e.span - e.written) (drop e.written e.span))) l' (t + k) (e.written + v)
     after_batch_turn l' parts cuts =
-        after_line_batch l₀ xs out₀ e.span m t e.written quiet.mid ys left_are l' k v o few batched.1 (rw parts batched.2) (cuts ∙ ap (held_sum most_cuts l.cuts) batched.3)
+        subst⁻¹ (λ (u : List Float). Midway line 64 Good line_lawful l₀ xs out₀ (take e.written e.span ++ u) l' (t + k) (e.written + v)) (none_behind e.written e.span o)
+        (after_line_batch l₀ xs out₀ e.span m t e.written quiet.mid ys (left_are t xs) rest (left_are e.written e.span) l' k v o few batched.1 (rw parts batched.2) (cuts ∙ batched.3))

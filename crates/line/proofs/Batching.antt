@@ -1,12 +1,12 @@
 -- What a batch of the sections comes to for the line, whose count of cut values has grown by those of the block.
 use mathlib.Core.Path.{◌≡◌, refl, sym, ap, ap₂, ◌∙◌, subst⁻¹}
 use mathlib.Core.Bool.{true}
-use mathlib.Core.List.{List, ◌++◌, map, append_assoc, append-nil}
+use mathlib.Core.List.{List, ◌++◌, map, append_assoc}
 use Prim.Native.Nat.{ℕ, ◌+◌, ◌-◌, ◌≤◌}
 use native.Mathlib.Omega.{arith}
 use lib.IntN.{ℤ}
 use lib.Ieee.{Float}
-use lib.ListN.{length, take, drop, length-append, length-drop, drop_of_length-le}
+use lib.ListN.{length, take, drop, length-append, length-drop}
 use lib.Seq.{take_all, length-take-le, drop-drop}
 use mir.Syntax.{w16}
 use Rattle.theory.specs.Sections.{outs}
@@ -27,14 +27,15 @@ use Rattle.line.specs.Line.{thinner_of, parts_of, counted_of, of_counted, cuts_a
 use Rattle.line.specs.Together.{Begun, RanTo}
 use Rattle.line.specs.declared.gauge_line.Line.{Line}
 use Rattle.line.proofs.Lawful.{Good, line_lawful}
+use Rattle.line.proofs.Left.{left, left_are, none_behind}
 use Rattle.line.proofs.Cuts.{front, weight, front_of, tallies, weights_are}
 
-module _ (l : Line) (zs : List ℤ) (from : ℕ) (o₀ o : List Float) (k : Line) (w : ℕ) where
+module _ (l : Line) (zs : List ℤ) (o₀ o : List Float) (k : Line) (w : ℕ) where
   abbrev sums : List ℤ
   sums = outs either (thinner_of l) zs
 
   abbrev places : ℕ
-  places = length o₀ - from
+  places = length o₀
 
   module _ (whole : Whole chain (parts_of l) zs places) where
     fed : (F.feed (tallied most_cuts cuts_at chain) (counted_of l) zs places).line.0 ≡ (F.feed chain (parts_of l) zs places).line
@@ -65,40 +66,40 @@ module _ (l : Line) (zs : List ℤ) (from : ℕ) (o₀ o : List Float) (k : Line
         ∙ ap (held_sum most_cuts l.cuts) (weights_are zs (thinner_of l) l.fir)
 
     pub line_batched :
-        Batched chain (parts_of l) zs from o₀ o (parts_of k) w
+        Batched chain (parts_of l) zs o₀ o (parts_of k) w
         → k.cuts ≡ held_sum most_cuts l.cuts (cut_count w16 sums + cut_count w16 (outs summing l.fir (map (cut w16) sums)))
-        → Batched line l zs from o₀ o k w
+        → Batched line l zs o₀ o k w
     line_batched b c =
         record {
           state =
               ap₂ {C = Line} (λ (p : Parts) (n : ℕ). of_counted (p, n)) (b.state ∙ sym fed ∙ sym (ap (λ (g : F.Fed Line Float). parts_of g.line) seen)) (c ∙ sym cuts_by);
-          wrote = b.wrote ∙ sym (ap (λ (v : List Float). from + length v) (ap (λ (g : F.Fed Line Float). g.written) seen ∙ written_by));
-          span =
-              b.span
-              ∙ sym (ap (λ (v : List Float). take from o₀ ++ (v ++ drop (length v) (drop from o₀))) (ap (λ (g : F.Fed Line Float). g.written) seen ∙ written_by));
+          wrote = b.wrote ∙ sym (ap (λ (v : List Float). length v) (ap (λ (g : F.Fed Line Float). g.written) seen ∙ written_by));
+          span = b.span ∙ sym (ap (λ (v : List Float). v ++ drop (length v) o₀) (ap (λ (g : F.Fed Line Float). g.written) seen ∙ written_by));
         }
 
 -- ---- between two batches
 module _ (l₀ : Line) (xs : List ℤ) (out₀ out : List Float) (l : Line) (t w : ℕ) (mid : Midway line 64 Good line_lawful l₀ xs out₀ out l t w) where
-  -- the samples ys are those left: so many of them are taken whole
+  -- the samples ys and the places `rest` are those left: so many of the samples are taken whole
   pub after_line_batch :
-      (ys : List ℤ) → ys ≡ drop t xs → (k : Line) (taken v : ℕ) (after : List Float) → taken ≤ length ys
-      → Whole chain (parts_of l) (take taken ys) (length out - w) → Batched chain (parts_of l) (take taken ys) w out after (parts_of k) v
+      (ys : List ℤ) → ys ≡ drop t xs → (rest : List Float) → rest ≡ drop w out → (k : Line) (taken v : ℕ) (part : List Float) → taken ≤ length ys
+      → Whole chain (parts_of l) (take taken ys) (length rest) → Batched chain (parts_of l) (take taken ys) rest part (parts_of k) v
       → k.cuts ≡ held_sum most_cuts l.cuts (cut_count w16 (outs either (thinner_of l) (take taken ys)) + cut_count w16 (outs summing l.fir (map (cut w16) (outs either (thinner_of l) (take taken ys)))))
-      → Midway line 64 Good line_lawful l₀ xs out₀ after k (t + taken) v
-  after_line_batch ys e k taken v after few whole batched cuts =
+      → Midway line 64 Good line_lawful l₀ xs out₀ (take w out ++ part) k (t + taken) (w + v)
+  after_line_batch ys e rest er k taken v part few whole batched cuts =
       let zs : List ℤ = take taken ys in
-      let g : F.Fed Line Float = F.feed line l zs (length out - w) in
-      let b : Batched line l zs w out after k v = line_batched l zs w out after k v whole batched cuts in
+      let g : F.Fed Line Float = F.feed line l zs (length rest) in
+      let b : Batched line l zs rest part k v = line_batched l zs rest part k v whole batched cuts in
       let long : length zs ≡ taken = length-take-le taken ys few in
+      let room : length out₀ - w ≡ length rest = ap (λ (n : ℕ). n - w) (sym mid.same) ∙ sym (ap length er ∙ length-drop w out) in
       let places : F.feed line l (take taken (drop t xs)) (length out₀ - w) ≡ g =
-      ap₂ {C = F.Fed Line Float} (λ (v : List ℤ) (n : ℕ). F.feed line l v n) (ap (take taken) (sym e)) (ap (λ (n : ℕ). n - w) (sym mid.same))
+      ap₂ {C = F.Fed Line Float} (λ (v : List ℤ) (n : ℕ). F.feed line l v n) (ap (take taken) (sym e)) room
       in
       let within : t + taken ≤ length xs = let q = ap length e ∙ length-drop t xs in let s = mid.some_taken in omega (arith, q, few, s) in
-      let next = after_batch line 64 Good line_lawful l₀ xs out₀ out l t w taken mid within g places (line_whole l zs w out after k v whole ∙ long) in
-      subst⁻¹ (λ (o : List Float). Midway line 64 Good line_lawful l₀ xs out₀ o k (t + taken) v) b.span
-      (subst⁻¹ (λ (m : Line). Midway line 64 Good line_lawful l₀ xs out₀ (spanned g) m (t + taken) v) b.state
-      (subst⁻¹ (λ (n : ℕ). Midway line 64 Good line_lawful l₀ xs out₀ (spanned g) g.line (t + taken) n) b.wrote next))
+      let next = after_batch line 64 Good line_lawful l₀ xs out₀ out l t w taken mid within g places (line_whole l zs rest part k v whole ∙ long) in
+      let span : part ≡ g.written ++ drop (length g.written) (drop w out) = b.span ∙ ap (λ (o : List Float). g.written ++ drop (length g.written) o) er in
+      subst⁻¹ (λ (o : List Float). Midway line 64 Good line_lawful l₀ xs out₀ (take w out ++ o) k (t + taken) (w + v)) span
+      (subst⁻¹ (λ (m : Line). Midway line 64 Good line_lawful l₀ xs out₀ (spanned g) m (t + taken) (w + v)) b.state
+      (subst⁻¹ (λ (n : ℕ). Midway line 64 Good line_lawful l₀ xs out₀ (spanned g) g.line (t + taken) (w + n)) b.wrote next))
     where
       spanned : F.Fed Line Float → List Float
       spanned g = take w out ++ (g.written ++ drop (length g.written) (drop w out))
@@ -146,14 +147,11 @@ begun_ran l xs before mid t w m ys rest part t' w' k b ey er r =
 -- the same of the parts of the samples and of the span that the code lends for the rest
 pub begun_ran_on :
     (l : Line) (xs : List ℤ) (before mid : List Float) (t w : ℕ) (m : Line) (part : List Float) (t' w' : ℕ) (k : Line)
-    → Begun l xs before mid t w m → RanTo m (take (length xs - t) (drop t xs)) (take (length mid - w) (drop w mid)) part t' w' k
+    → Begun l xs before mid t w m → RanTo m (left t xs) (left w mid) part t' w' k
     → RanTo l xs before (take w mid ++ (part ++ drop (length mid - w) (drop w mid))) (t + t') (w + w') k
 begun_ran_on l xs before mid t w m part t' w' k b r =
-    let all : length (drop w mid) ≤ length mid - w = let e = length-drop w mid in omega (arith, e) in
-    let none_behind : part ++ drop (length mid - w) (drop w mid) ≡ part = ap (λ (v : List Float). part ++ v) (drop_of_length-le (drop w mid) all) ∙ append-nil part in
-    subst⁻¹ (λ (v : List Float). RanTo l xs before (take w mid ++ v) (t + t') (w + w') k) none_behind
-    (begun_ran l xs before mid t w m (take (length xs - t) (drop t xs)) (take (length mid - w) (drop w mid)) part t' w' k b
-    (take_all (length xs - t) (drop t xs) (let e = length-drop t xs in omega (arith, e))) (take_all (length mid - w) (drop w mid) all) r)
+    subst⁻¹ (λ (v : List Float). RanTo l xs before (take w mid ++ v) (t + t') (w + w') k) (none_behind w mid part)
+    (begun_ran l xs before mid t w m (left t xs) (left w mid) part t' w' k b (left_are t xs) (left_are w mid) r)
 
 -- a feed of a valid line stays within the samples and the span
 module _ (l : Line) (xs : List ℤ) (before after : List Float) (taken written : ℕ) (k : Line) (good : valid l ≡ true) (r : RanTo l xs before after taken written k) where
@@ -162,9 +160,3 @@ module _ (l : Line) (xs : List ℤ) (before after : List Float) (taken written :
   ran_within =
       let f = feed_right line 64 Good line_lawful l xs (length before) good in
       (subst⁻¹ (λ (n : ℕ). n ≤ length xs) r.took f.within, subst⁻¹ (λ (n : ℕ). n ≤ length before) r.wrote f.room)
-
-  pub ran_long : length after ≡ length before
-  ran_long =
-      let w = (fed_line l xs (length before)).written in
-      ap length r.span ∙ length-append w (drop (length w) before)
-      ∙ (let d = length-drop (length w) before in let f = ran_within.1 in let e = r.wrote in omega (arith, d, f, e))

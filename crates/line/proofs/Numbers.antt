@@ -20,10 +20,9 @@ use Rattle.float.proofs.PolyphaseOutput.{limits_say}
 use Rattle.float.proofs.PolyphaseRange.{on_in_limits, on_step}
 use Rattle.line.specs.Line.{line, valid, thinner_of, half_band_fine, depth_number, resampler_number, number_at, opened, opening_of, reset}
 use Rattle.line.specs.Together.{bits_at, valid_at}
-use Rattle.line.specs.Lent.{numbers_in, fixed_in, changing_in}
+use Rattle.line.specs.Lent.{numbers_in, fixed_in}
 use Rattle.line.specs.declared.gauge_line.Line.{Line}
 use Rattle.chain.specs.declared.fixed.Fixed.{Fixed}
-use Rattle.line.specs.declared.sample.Numbers.{Numbers}
 use Rattle.line.proofs.Flags.{and_left, not_says}
 use Rattle.line.proofs.Lawful.{to_parts}
 
@@ -40,7 +39,7 @@ unfolding in_line is_on
 due_limits l v d = on_in_limits l.resampler (and_left (not (eqb l.resampler.phases 0)) _ d) (to_parts l v).1.1.1.1.1
 
 -- the tests of a line held apart are those of the line
-pub valid_apart : (l : Line) → valid_at (fixed_in (numbers_in l)) (changing_in (numbers_in l)) l.half_band.counts ≡ valid l
+pub valid_apart : (l : Line) → valid_at (fixed_in (numbers_in l)) (numbers_in l).clock l.half_band.counts ≡ valid l
 unfolding valid_at valid E.fine half_band_fine bits_at valid_in_line
 valid_apart l = ap (λ (b : Bool). b && (Q.valid_in_line l.fir && (half_band_fine l.half_band && valid_in_line l.resampler))) (go (valid_of l))
   where
@@ -49,8 +48,8 @@ valid_apart l = ap (λ (b : Bool). b && (Q.valid_in_line l.fir && (half_band_fin
     go false = refl
 
 -- what the code knows of a line once it has looked at its numbers
-pub tested : (l : Line) {f : Fixed} {s : Numbers} {b v : Bool} → f ≡ fixed_in (numbers_in l) → s ≡ changing_in (numbers_in l) → b ≡ valid_at f s l.half_band.counts → b ≡ v → valid l ≡ v
-tested l ef es eb ev = sym (valid_apart l) ∙ sym (rw (ef, es) at eb) ∙ ev
+pub tested : (l : Line) {f : Fixed} {b v : Bool} → f ≡ fixed_in (numbers_in l) → b ≡ valid_at f (numbers_in l).clock l.half_band.counts → b ≡ v → valid l ≡ v
+tested l ef eb ev = sym (valid_apart l) ∙ sym (rw ef at eb) ∙ ev
 
 pub bits_apart : (l : Line) → valid l ≡ true → (fixed_in (numbers_in l)).bits ≡ gain_bits l.cic.stages l.cic.r
 unfolding E.fine bits_at

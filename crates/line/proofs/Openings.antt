@@ -14,8 +14,6 @@ use Rattle.theory.specs.Sections.{each, outs}
 use Rattle.theory.proofs.Sections.{outs_each}
 use Rattle.theory.proofs.Machines.{all}
 use Rattle.integer.specs.Limits.{stages_ok, factor_ok}
-use Rattle.integer.specs.Opening as CicOpening
-use Rattle.integer.specs.CicDecimator as C
 use Rattle.nonrecursive.specs.EitherKind.{either}
 use Rattle.nonrecursive.specs.EitherKind as E
 use Rattle.nonrecursive.proofs.EitherKind.{either_made, either_opens}
@@ -27,7 +25,7 @@ use Rattle.q15.proofs.FirStream.{line_streamed}
 use Rattle.q15.proofs.FirOpenings as FirOpening
 use Rattle.half_band.specs.HalfBand.{decimated_by}
 use Rattle.half_band.specs.HbfTaps.{stage_taps, decimation}
-use Rattle.half_band.specs.HbfStream.{hbf_stream, stream_fresh, stream_opening}
+use Rattle.half_band.specs.HbfStream.{hbf_stream, stream_fresh}
 use Rattle.float.specs.PolyphaseResamp.{in_line, in_limits, step_in_line, valid_in_line}
 use Rattle.float.specs.PolyphaseResamp as R
 use Rattle.float.specs.declared.polyphase_resamp.PolyphaseResampF32.{PolyphaseResampF32}
@@ -35,8 +33,7 @@ use Rattle.half_band.proofs.HeldOnes.{line_fresh_not_refused, fresh_whole}
 use Rattle.float.proofs.PolyphaseRange.{line_fresh, line_off}
 use Rattle.float.proofs.PolyphaseWhole.{becomes_all, becomes_one, off_hands_on}
 use Rattle.float.specs.Level.{level}
-use Rattle.refusal.specs.Rows.{outside}
-use Rattle.refusal.proofs.Limits.{first_none, not_outside}
+use Rattle.refusal.proofs.Limits.{first_none}
 use Rattle.line.specs.Outputs.{Opening, levels, Resampled, Outputs}
 use Rattle.line.specs.Line.{line, half_band_fine, valid, depth_number, resampler_number, number_at, opening_number_of, resampler_fresh, fresh}
 use Rattle.line.proofs.Flags.{and_both, not_is}
@@ -155,19 +152,7 @@ one_list o w a b = go o.settings.phases
     go zero p q = p ∙ sym q
     go (suc n) p q = becomes_one o.settings.straight (suc n) o.settings.taps o.prototype o.settings.step (levels o w) a b p q
 
--- the half-band part: of no stages zeros, which a refused opening leaves
-opened_to : (d : ℕ) → d ≤ 5 → (stream_opening d).state ≡ stream_fresh d
-opened_to zero h = unfold outside in refl
-opened_to (suc d) h = rw (not_outside (suc d) 1 5 (omega arith) h)
-
--- the layers' openings, with settings that the line takes
+-- the FIR's opening, with settings that the line takes
 module _ (o : Opening) (ok : Accepted o) where
-  pub cic_opened : (CicOpening.opening C.fresh o.settings.stages o.settings.r).state ≡ C.fresh o.settings.stages o.settings.r
-  unfolding CicOpening.opening
-  cic_opened = rw (ok.stages, ok.factor)
-
   pub fir_opened_lem : (Q.fir_opened o.taps o.settings.factor).state ≡ Q.fresh_in_line o.taps o.settings.factor
   fir_opened_lem = FirOpening.line_opened o.taps o.settings.factor ok.filter
-
-  pub half_band_opened : (stream_opening o.settings.depth).state ≡ stream_fresh o.settings.depth
-  half_band_opened = opened_to o.settings.depth ok.depth

@@ -1,95 +1,54 @@
 -- The line of 01, section 6, as a caller has it who keeps its arrays: the numbers and the arrays lent.
-use Rattle.std.specs.Prelude.{List, ℕ, ℤ, Float}
 use Rattle.integer.specs.CicDecimator.{decimator_of}
 use Rattle.q15.specs.FirDecimator.{fir_state}
-use Rattle.half_band.specs.HbfStream.{stream_of}
 use Rattle.float.specs.PolyphaseResamp as R
-use Rattle.line.specs.Together.{bits_at}
+use Rattle.line.specs.Together.{bits_at, line_held}
 use Rattle.line.specs.declared.gauge_line.Line.{Line}
 use Rattle.line.specs.declared.lent.LineNumbers.{LineNumbers}
 use Rattle.chain.specs.declared.arrays.Arrays.{Arrays}
+use Rattle.chain.specs.declared.clock.Clock.{Clock}
 use Rattle.chain.specs.declared.fixed.Fixed.{Fixed}
-use Rattle.line.specs.declared.sample.Numbers.{Numbers}
+
+-- what a feed never changes, with the gain bits that follow
+abbrev pub fixed_in : LineNumbers → Fixed
+fixed_in n = record { settings = n.settings; tap_count = n.tap_count; bits = bits_at n.settings n.clock.sample_counter }
 
 -- the line of these numbers and arrays
-abbrev pub line_of : LineNumbers → List ℤ → List ℤ → List ℤ → List ℤ → List ℤ → List Float → List Float → List ℕ → List Float → List Float → Line
-line_of n integrators combs neighbours taps fir_delay delays held counts delay prototype =
-    record {
-      thinning = n.thinning;
-      cic = decimator_of n.stages n.r integrators combs n.sample_counter;
-      neighbours = neighbours;
-      fir = fir_state taps n.tap_count n.factor fir_delay n.wait;
-      half_band = stream_of n.depth delays held counts;
-      resampler = R.together n.straight n.phases n.taps n.mu n.step delay prototype;
-      cuts = n.cuts;
-    }
-
--- the same of the arrays lent together
 abbrev pub line_in : LineNumbers → Arrays → Line
-line_in n lent =
-    line_of n lent.integrators.now lent.combs.now lent.neighbours.now lent.taps.now lent.fir_delay.now lent.delays.now lent.held.now lent.counts.now lent.delay.now
-    lent.prototype.now
+line_in n lent = line_held (fixed_in n) n.clock lent
 
 -- the numbers of a line
 abbrev pub numbers_in : Line → LineNumbers
 numbers_in l =
     record {
-      stages = l.cic.stages;
-      r = l.cic.r;
-      sample_counter = l.cic.sample_counter;
+      settings =
+          record {
+            stages = l.cic.stages;
+            r = l.cic.r;
+            factor = l.fir.factor;
+            depth = l.half_band.depth;
+            phases = l.resampler.phases;
+            taps = l.resampler.taps;
+            straight = l.resampler.straight;
+            step = l.resampler.step;
+            thinning = l.thinning;
+          };
       tap_count = l.fir.tap_count;
-      factor = l.fir.factor;
-      wait = l.fir.wait;
-      depth = l.half_band.depth;
-      phases = l.resampler.phases;
-      taps = l.resampler.taps;
-      straight = l.resampler.straight;
-      mu = l.resampler.mu;
-      step = l.resampler.step;
-      cuts = l.cuts;
+      clock = record { sample_counter = l.cic.sample_counter; wait = l.fir.wait; mu = l.resampler.mu; cuts = l.cuts };
+    }
+
+-- a line with another clock
+abbrev pub with_clock : Clock → Line → Line
+with_clock c l =
+    let d = l.cic in
+    let s = l.fir in
+    let r = l.resampler in
+    record {
       thinning = l.thinning;
-    }
-
--- a line with other numbers
-abbrev pub with_numbers : LineNumbers → Line → Line
-with_numbers n l =
-    line_of n l.cic.integrator_state l.cic.comb_state l.neighbours l.fir.taps l.fir.delay l.half_band.delays l.half_band.held l.half_band.counts l.resampler.delay
-    l.resampler.prototype
-
--- for the private functions: the numbers that a feed never changes, with the gain bits that follow from them; those that it does change; and these put back
-abbrev pub fixed_in : LineNumbers → Fixed
-fixed_in n =
-    record {
-      stages = n.stages;
-      r = n.r;
-      bits = bits_at n.thinning n.stages n.r n.sample_counter;
-      tap_count = n.tap_count;
-      factor = n.factor;
-      depth = n.depth;
-      phases = n.phases;
-      taps = n.taps;
-      straight = n.straight;
-      step = n.step;
-    }
-
-abbrev pub changing_in : LineNumbers → Numbers
-changing_in n = record { sample_counter = n.sample_counter; wait = n.wait; mu = n.mu; cuts = n.cuts }
-
-abbrev pub gone_on : LineNumbers → Numbers → LineNumbers
-gone_on n s =
-    record {
-      stages = n.stages;
-      r = n.r;
-      sample_counter = s.sample_counter;
-      tap_count = n.tap_count;
-      factor = n.factor;
-      wait = s.wait;
-      depth = n.depth;
-      phases = n.phases;
-      taps = n.taps;
-      straight = n.straight;
-      mu = s.mu;
-      step = n.step;
-      cuts = s.cuts;
-      thinning = n.thinning;
+      cic = decimator_of d.stages d.r d.integrator_state d.comb_state c.sample_counter;
+      neighbours = l.neighbours;
+      fir = fir_state s.taps s.tap_count s.factor s.delay c.wait;
+      half_band = l.half_band;
+      resampler = R.together r.straight r.phases r.taps c.mu r.step r.delay r.prototype;
+      cuts = c.cuts;
     }

@@ -26,7 +26,7 @@ use Rattle.half_band.specs.declared.hbf_stream.HbfStream.{HbfStream}
 use Rattle.float.specs.declared.polyphase_resamp.PolyphaseResampF32.{PolyphaseResampF32}
 use Rattle.chain.specs.Chain.{Parts, chain}
 use Rattle.line.specs.Outputs.{Opening, most_cuts}
-use Rattle.line.specs.declared.settings.Settings.{Settings}
+use Rattle.chain.specs.declared.settings.Settings.{Settings}
 use Rattle.line.specs.declared.gauge_line.Line.{Line}
 use Rattle.line.specs.declared.step.LineStep.{LineStep}
 use Rattle.line.specs.declared.step.LineStep.TheVariants as step

@@ -10,7 +10,7 @@ use Rattle.half_band.specs.HalfBand.{decimated_by}
 use Rattle.half_band.specs.HbfTaps.{stage_taps, decimation}
 use Rattle.float.specs.PolyphaseWhole.{Becomes}
 use Rattle.float.specs.Level.{level}
-use Rattle.line.specs.declared.settings.Settings.{Settings}
+use Rattle.chain.specs.declared.settings.Settings.{Settings}
 
 -- what a line is opened with
 pub record Opening : Type 0 where

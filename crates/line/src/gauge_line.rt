@@ -9,12 +9,13 @@ ghost use Rattle.line.specs.Demand3.{Demand3};
 
 use crate::lent::{LineNumbers, feed_lent, step_lent};
 use crate::opening::answer;
-use crate::settings::Settings;
 use crate::step::LineStep;
 use crate::validity::valid_at;
 use chain::arrays::Arrays;
+use chain::clock::Clock;
+use chain::settings::Settings;
 use float::PolyphaseResampF32;
-use float::settings::{MOST_CELLS, Setting};
+use float::settings::MOST_CELLS;
 use half_band::HbfStream;
 use integer::CicDecimator;
 use nonrecursive::Thinning;
@@ -58,13 +59,7 @@ fn resampler_of(s: Settings, prototype: &[f32]) -> PolyphaseResampF32
     if s.phases == 0 {
         return PolyphaseResampF32::zeros();
     }
-    let setting = Setting {
-        phases: s.phases,
-        taps: s.taps,
-        straight: s.straight,
-        step: s.step,
-    };
-    PolyphaseResampF32::fresh(setting, prototype)
+    PolyphaseResampF32::fresh(s.resampler(), prototype)
 }
 
 // A FIR that is off is one that its own opening refuses, and what that leaves is what the line has for it: zeros, settings too.
@@ -93,20 +88,24 @@ fn numbers_in(l: &Line) -> LineNumbers
     ensures { result ≡ N.numbers_in l.now }
 {
     LineNumbers {
-        stages: l.cic.stages,
-        r: l.cic.r,
-        sample_counter: l.cic.sample_counter,
+        settings: Settings {
+            stages: l.cic.stages,
+            r: l.cic.r,
+            factor: l.fir.factor,
+            depth: l.half_band.depth,
+            phases: l.resampler.phases,
+            taps: l.resampler.taps,
+            straight: l.resampler.straight,
+            step: l.resampler.step,
+            thinning: l.thinning,
+        },
         tap_count: l.fir.tap_count,
-        factor: l.fir.factor,
-        wait: l.fir.wait,
-        depth: l.half_band.depth,
-        phases: l.resampler.phases,
-        taps: l.resampler.taps,
-        straight: l.resampler.straight,
-        mu: l.resampler.mu,
-        step: l.resampler.step,
-        cuts: l.cuts,
-        thinning: l.thinning,
+        clock: Clock {
+            sample_counter: l.cic.sample_counter,
+            wait: l.fir.wait,
+            mu: l.resampler.mu,
+            cuts: l.cuts,
+        },
     }
 }
 
@@ -121,7 +120,7 @@ pub fn line_valid(l: &Line) -> bool
     ensures { result ≡ L.valid l.now }
 {
     let n = numbers_in(l);
-    valid_at(n.fixed(), n.changing(), &l.half_band.counts)
+    valid_at(n.fixed(), n.clock, &l.half_band.counts)
 }
 
 impl Line {
@@ -133,24 +132,14 @@ impl Line {
         Ok(fresh(settings, taps, prototype))
     }
 
-    // The numbers as a call left them.
-    fn put_numbers(&mut self, n: LineNumbers)
-        ensures { self.new ≡ N.with_numbers n self.old }
+    // The clock as a call left it.
+    fn put_clock(&mut self, clock: Clock)
+        ensures { self.new ≡ N.with_clock clock self.old }
     {
-        self.thinning = n.thinning;
-        self.cic.stages = n.stages;
-        self.cic.r = n.r;
-        self.cic.sample_counter = n.sample_counter;
-        self.fir.tap_count = n.tap_count;
-        self.fir.factor = n.factor;
-        self.fir.wait = n.wait;
-        self.half_band.depth = n.depth;
-        self.resampler.phases = n.phases;
-        self.resampler.taps = n.taps;
-        self.resampler.straight = n.straight;
-        self.resampler.mu = n.mu;
-        self.resampler.step = n.step;
-        self.cuts = n.cuts;
+        self.cic.sample_counter = clock.sample_counter;
+        self.fir.wait = clock.wait;
+        self.resampler.mu = clock.mu;
+        self.cuts = clock.cuts;
     }
 
     // One step, where the span has a place or not, with the sample at `at` of those lent as the next, if there is one. Refusal 15.
@@ -171,7 +160,7 @@ impl Line {
             prototype: &self.resampler.prototype,
         };
         let step = step_lent(&mut n, &mut lent, samples, at, place);
-        self.put_numbers(n);
+        self.put_clock(n.clock);
         step
     }
 
@@ -196,7 +185,7 @@ impl Line {
             prototype: &self.resampler.prototype,
         };
         let moved = feed_lent(&mut n, &mut lent, samples, out);
-        self.put_numbers(n);
+        self.put_clock(n.clock);
         moved
     }
 
@@ -208,17 +197,7 @@ impl Line {
         if !line_valid(self) {
             return Err(Refusal::State);
         }
-        let settings = Settings {
-            stages: self.cic.stages,
-            r: self.cic.r,
-            factor: self.fir.factor,
-            depth: self.half_band.depth,
-            phases: self.resampler.phases,
-            taps: self.resampler.taps,
-            straight: self.resampler.straight,
-            step: self.resampler.step,
-            thinning: self.thinning,
-        };
+        let settings = numbers_in(self).settings;
         lengths(&self.fir.taps, &self.resampler.prototype);
         let cells = self.resampler.phases * self.resampler.taps;
         let taps = &self.fir.taps[..self.fir.tap_count];

@@ -4,76 +4,36 @@ ghost use Rattle.theory.specs.Feeds.{head_of};
 ghost use Rattle.refusal.specs.Outcome.{told_on, none_moved};
 ghost use Rattle.chain.specs.Lending.{Same};
 ghost use Rattle.line.specs.Line as L;
-ghost use Rattle.line.specs.Together as T;
 ghost use Rattle.line.specs.Lent as N;
 ghost use Rattle.line.specs.Demand3.{Demand3};
 
 use crate::feed::feed_by;
-use crate::sample::Numbers;
 use crate::step::{LineStep, step_on};
 use crate::validity::{bits_at, valid_at};
 use chain::arrays::Arrays;
+use chain::clock::Clock;
 use chain::fixed::Fixed;
-use nonrecursive::Thinning;
+use chain::settings::Settings;
 use refusal::{Moved, Refusal};
 
-// The settings of a line, and the numbers that feeds change.
+// The settings of a line, how many taps its FIR has, and what feeds change.
 #[derive(Clone, Copy)]
 pub struct LineNumbers {
-    pub stages: usize,
-    pub r: usize,
-    pub sample_counter: usize,
+    pub settings: Settings,
     pub tap_count: usize,
-    pub factor: usize,
-    pub wait: usize,
-    pub depth: usize,
-    pub phases: usize,
-    pub taps: usize,
-    pub straight: bool,
-    pub mu: f32,
-    pub step: f32,
-    pub cuts: u32,
-    pub thinning: Thinning,
+    pub clock: Clock,
 }
 
 impl LineNumbers {
-    // The numbers that no feed changes, with the gain bits that follow from them.
+    // What no feed changes, with the gain bits that follow.
     pub(crate) fn fixed(self) -> Fixed
         ensures { result ≡ N.fixed_in self }
     {
         Fixed {
-            stages: self.stages,
-            r: self.r,
-            bits: bits_at(self.thinning, self.stages, self.r, self.sample_counter),
+            settings: self.settings,
             tap_count: self.tap_count,
-            factor: self.factor,
-            depth: self.depth,
-            phases: self.phases,
-            taps: self.taps,
-            straight: self.straight,
-            step: self.step,
+            bits: bits_at(self.settings, self.clock.sample_counter),
         }
-    }
-
-    // Those that a feed changes.
-    pub(crate) fn changing(self) -> Numbers
-        ensures { result ≡ N.changing_in self }
-    {
-        Numbers {
-            sample_counter: self.sample_counter,
-            wait: self.wait,
-            mu: self.mu,
-            cuts: self.cuts,
-        }
-    }
-
-    fn go_on(&mut self, s: Numbers)
-        ensures { self.new ≡ N.gone_on self.old s }
-    {
-        self.sample_counter = s.sample_counter;
-        self.wait = s.wait;
-        self.mu = s.mu;
-        self.cuts = s.cuts;
     }
 }
 
@@ -86,17 +46,16 @@ pub fn step_lent(
     place: bool,
 ) -> Result<LineStep, Refusal>
     ensures same { Same lent.old lent.new }
+    ensures stays { (n.new.settings ≡ n.old.settings) × (n.new.tap_count ≡ n.old.tap_count) }
     ensures answer { let before = N.line_in n.old lent.old in
         let after = N.line_in n.new lent.new in
         L.told_step result after ≡ L.step_outcome before place (head_of (drop at samples.now)) }
 {
     let f = n.fixed();
-    let mut s = n.changing();
-    if !valid_at(f, s, lent.counts) {
+    if !valid_at(f, n.clock, lent.counts) {
         return Err(Refusal::State);
     }
-    let step = step_on(n.thinning, f, &mut s, lent, samples, at, place);
-    n.go_on(s);
+    let step = step_on(f, &mut n.clock, lent, samples, at, place);
     Ok(step)
 }
 
@@ -109,6 +68,7 @@ pub fn feed_lent(
     out: &mut [f32],
 ) -> Result<Moved, Refusal>
     ensures same { Same lent.old lent.new }
+    ensures stays { (n.new.settings ≡ n.old.settings) × (n.new.tap_count ≡ n.old.tap_count) }
     ensures answer { let before = N.line_in n.old lent.old in
         let after = N.line_in n.new lent.new in
         told_on none_moved result after ≡ L.feed_outcome before samples.now (length out.old) }
@@ -119,11 +79,9 @@ pub fn feed_lent(
         Demand3 before samples.now out.old out.new (told_on none_moved result after) }
 {
     let f = n.fixed();
-    let mut s = n.changing();
-    if !valid_at(f, s, lent.counts) {
+    if !valid_at(f, n.clock, lent.counts) {
         return Err(Refusal::State);
     }
-    let moved = feed_by(n.thinning, f, &mut s, lent, samples, out);
-    n.go_on(s);
+    let moved = feed_by(f, &mut n.clock, lent, samples, out);
     Ok(moved)
 }

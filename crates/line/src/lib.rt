@@ -8,13 +8,11 @@ pub mod lent;
 pub mod opening;
 mod pieces;
 mod sample;
-pub mod settings;
 mod step;
 mod validity;
 
 pub use crate::gauge_line::{Line, line_valid, zeros};
 pub use crate::lent::{LineNumbers, feed_lent, step_lent};
 pub use crate::pieces::next_piece;
-pub use crate::settings::Settings;
 pub use crate::step::LineStep;
-pub use chain::Arrays;
+pub use chain::{Arrays, Clock, Settings};

@@ -4,14 +4,13 @@ ghost use Rattle.refusal.specs.Outcome.{number_in};
 ghost use Rattle.nonrecursive.specs.EitherKind.{settings_number};
 ghost use Rattle.line.specs.Line as L;
 
-use crate::settings::Settings;
+use chain::settings::Settings;
 use float::settings::{in_limits, step_in_line};
 use half_band::MOST_STAGES;
 use integer::gain::{bits_of, gain_of};
 use integer::limits::{factor_ok, stages_ok};
 use nonrecursive::Thinning;
 use nonrecursive::thinning::factor_for;
-use q15::fir_decimator::settings_answer_in_line;
 use refusal::Refusal;
 
 // 01, section 1: "for g up to 31".
@@ -71,7 +70,7 @@ pub fn answer(s: Settings, tap_count: usize, cells: usize) -> Result<(), Refusal
     ensures { number_in result ≡ L.number_at s tap_count cells }
 {
     thinning_answer(s.thinning, s.stages, s.r)?;
-    settings_answer_in_line(tap_count, s.factor)?;
+    s.fir(tap_count).answer_in_line()?;
     depth_answer(s.depth)?;
     resampler_answer(s.phases, s.taps, cells, s.step)
 }

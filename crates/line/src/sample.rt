@@ -1,5 +1,5 @@
-// A sample on its way through sections 1 to 5, the numbers and the arrays lent.
-ghost use Rattle.std.specs.Prelude.{◌≡◌, cond, List, ◌+◌, Float};
+// A sample on its way through sections 1 to 5, the clock and the arrays lent.
+ghost use Rattle.std.specs.Prelude.{◌≡◌, List, Float};
 ghost use Rattle.theory.specs.Tally.{held_sum};
 ghost use Rattle.integer.specs.Gain.{gain_bits};
 ghost use Rattle.nonrecursive.specs.EitherKind as E;
@@ -14,6 +14,7 @@ ghost use Rattle.chain.specs.Lending.{Same, ThinnerStays};
 ghost use Rattle.line.specs.Together as T;
 
 use chain::arrays::Arrays;
+use chain::clock::{Clock, held_sum};
 use chain::fixed::Fixed;
 use float::due::shift_in;
 use float::q15_to_f32;
@@ -22,18 +23,6 @@ use half_band::{DEC_CASCADE_DELAYS, MOST_STAGES, hbf_stream_at};
 use integer::gain::scaled;
 use nonrecursive::thinning::thin_at;
 use q15::{Q15, cut_q15, fir_at};
-
-// Where the count of cut values holds.
-pub const MOST_CUTS: u32 = 4294967295;
-
-// The numbers that a feed changes.
-#[derive(Clone, Copy)]
-pub struct Numbers {
-    pub sample_counter: usize,
-    pub wait: usize,
-    pub mu: f32,
-    pub cuts: u32,
-}
 
 // A level into the resampler, or past it where it is off.
 #[tactic(auto, unfolding(float::specs::PolyphaseResamp::in_line, float::specs::PolyphaseResamp::is_on, float::specs::PolyphaseResamp::consumed))]
@@ -46,10 +35,10 @@ fn resampler_in(
     ensures { (h : List Float) →
         T.Takes C.from5 (P.resampler_of f mu.old delay.old h) level result (P.resampler_of f mu.new delay.new h) }
 {
-    if f.phases == 0 {
+    if f.settings.phases == 0 {
         return Some(level);
     }
-    shift_in(delay, f.taps, level);
+    shift_in(delay, f.settings.taps, level);
     *mu -= 1.0;
     None
 }
@@ -81,74 +70,58 @@ fn half_band_in(f: Fixed, mu: &mut f32, lent: &mut Arrays<'_>, level: f32) -> Op
     ensures takes { T.Takes C.from4 (A.half_band_in f lent.old, A.resampler_in f mu.old lent.old) level result
         (A.half_band_in f lent.new, A.resampler_in f mu.new lent.new) }
 {
-    let made = stages_in(f.depth, lent.delays, lent.held, lent.counts, level);
+    let made = stages_in(f.settings.depth, lent.delays, lent.held, lent.counts, level);
     match made {
         None => None,
         Some(y) => resampler_in(f, mu, lent.delay, y),
     }
 }
 
-// The count of cut values, with so many more; it holds at its end.
-pub(crate) fn held_sum(cuts: u32, more: u32) -> u32
-    ensures { result ≡ held_sum most_cuts cuts more }
-{
-    cuts.saturating_add(more)
-}
-
-// The same with one more for a value that was cut.
-fn counted(cuts: u32, cut: bool) -> u32
-    ensures { result ≡ held_sum most_cuts cuts (cond cut 1 0) }
-{
-    held_sum(cuts, u32::from(cut))
-}
-
 // A value into the FIR, and what it makes, counted where it was cut, into the half-band stages.
-fn fir_in(f: Fixed, s: &mut Numbers, lent: &mut Arrays<'_>, value: Q15) -> Option<f32>
+fn fir_in(f: Fixed, clock: &mut Clock, lent: &mut Arrays<'_>, value: Q15) -> Option<f32>
     ensures same { Same lent.old lent.new }
     ensures stays { ThinnerStays lent.old lent.new }
-    ensures takes { T.Takes C.from3 (A.from_fir_in f s.old.wait s.old.mu lent.old) value.0 result
-        (A.from_fir_in f s.new.wait s.new.mu lent.new) }
-    ensures cuts { let sum = fir_sum_out (A.fir_in f s.old.wait lent.old) value.0 in
-        s.new.cuts ≡ held_sum most_cuts s.old.cuts (L.sum_cut sum) }
-    ensures counter { s.new.sample_counter ≡ s.old.sample_counter }
+    ensures takes { T.Takes C.from3 (A.from_fir_in f clock.old lent.old) value.0 result (A.from_fir_in f clock.new lent.new) }
+    ensures cuts { let sum = fir_sum_out (A.fir_in f clock.old.wait lent.old) value.0 in
+        clock.new.cuts ≡ held_sum most_cuts clock.old.cuts (L.sum_cut sum) }
+    ensures counter { clock.new.sample_counter ≡ clock.old.sample_counter }
 {
+    let settings = f.settings.fir(f.tap_count);
     let made = fir_at(
         lent.fir_delay,
         lent.taps,
-        f.tap_count,
-        f.factor,
-        &mut s.wait,
+        settings,
+        &mut clock.wait,
         value,
     );
     match made {
         None => None,
         Some(y) => {
-            s.cuts = counted(s.cuts, y.cut);
+            clock.cuts = held_sum(clock.cuts, u32::from(y.cut));
             let level = q15_to_f32(y.value);
-            half_band_in(f, &mut s.mu, lent, level)
+            half_band_in(f, &mut clock.mu, lent, level)
         }
     }
 }
 
-// A sample into the decimator of this kind, and what it makes, scaled and cut, into the FIR.
+// A sample into the decimator of the line's kind, and what it makes, scaled and cut, into the FIR.
 pub(crate) fn sample_in(
     by_neighbours: bool,
     f: Fixed,
-    s: &mut Numbers,
+    clock: &mut Clock,
     lent: &mut Arrays<'_>,
     x: i32,
 ) -> Option<f32>
-    requires { f.bits ≡ gain_bits f.stages f.r }
+    requires { (f.bits ≡ gain_bits f.settings.stages f.settings.r) × (E.kind_of by_neighbours ≡ f.settings.thinning) }
     ensures same { Same lent.old lent.new }
-    ensures takes { let before = T.line_in (E.kind_of by_neighbours) f s.old lent.old in
-        let after = T.line_in (E.kind_of by_neighbours) f s.new lent.new in
-        T.Takes L.line before x result after }
+    ensures takes { T.Takes L.line (T.line_held f clock.old lent.old) x result (T.line_held f clock.new lent.new) }
 {
+    let s = f.settings;
     let made = thin_at(
         by_neighbours,
-        f.stages,
-        f.r,
-        &mut s.sample_counter,
+        s.stages,
+        s.r,
+        &mut clock.sample_counter,
         lent.integrators,
         lent.combs,
         lent.neighbours,
@@ -158,8 +131,8 @@ pub(crate) fn sample_in(
         None => None,
         Some(v) => {
             let first = cut_q15(scaled(v, f.bits) as i64);
-            s.cuts = counted(s.cuts, first.cut);
-            fir_in(f, s, lent, first.value)
+            clock.cuts = held_sum(clock.cuts, u32::from(first.cut));
+            fir_in(f, clock, lent, first.value)
         }
     }
 }

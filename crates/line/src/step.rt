@@ -1,6 +1,6 @@
 // 01, section 6: "One step of the line: a full span stops it; else a due output is written; else the next sample is taken ..; else it stops."
-ghost use Rattle.std.specs.Prelude.{◌≡◌, true, false, length, drop};
-ghost use Rattle.theory.specs.Feeds.{step, head_of, taking};
+ghost use Rattle.std.specs.Prelude.{◌≡◌, true, drop};
+ghost use Rattle.theory.specs.Feeds.{step, head_of};
 ghost use Rattle.integer.specs.Gain.{gain_bits};
 ghost use Rattle.nonrecursive.specs.EitherKind as E;
 ghost use Rattle.float.specs.PolyphaseResamp.{in_limits};
@@ -8,8 +8,9 @@ ghost use Rattle.chain.specs.Lending.{Same};
 ghost use Rattle.line.specs.Line as L;
 ghost use Rattle.line.specs.Together as T;
 
-use crate::sample::{Numbers, sample_in};
+use crate::sample::sample_in;
 use chain::arrays::Arrays;
+use chain::clock::Clock;
 use chain::fixed::Fixed;
 use nonrecursive::Thinning;
 
@@ -22,39 +23,12 @@ pub enum LineStep {
     Stopped,
 }
 
-// The same of a step at which no output was due: a type of its own, since of such a step a caller has no case in which it only wrote.
-#[derive(Drop)]
-pub enum Taken {
-    Took,
-    TookAndWrote(f32),
-    Stopped,
-}
-
 // "An output is due when the resampler is on and mu < 1."
 #[tactic(auto, unfolding(crate::specs::Together::due_at))]
-pub(crate) fn due(f: Fixed, mu: f32) -> bool
+fn due(f: Fixed, mu: f32) -> bool
     ensures { result ≡ T.due_at f mu }
 {
-    f.phases != 0 && mu < 1.0
-}
-
-fn taking(out: Option<f32>) -> Taken
-    ensures { T.taken_of result ≡ taking out }
-{
-    match out {
-        None => Taken::Took,
-        Some(y) => Taken::TookAndWrote(y),
-    }
-}
-
-fn step_of(step: Taken) -> LineStep
-    ensures { L.event_of result ≡ T.taken_of step }
-{
-    match step {
-        Taken::Took => LineStep::Took,
-        Taken::TookAndWrote(y) => LineStep::TookAndWrote(y),
-        Taken::Stopped => LineStep::Stopped,
-    }
+    f.settings.phases != 0 && mu < 1.0
 }
 
 // Whether a line of this kind sums neighbours.
@@ -64,59 +38,38 @@ fn sums_neighbours(thinning: Thinning) -> bool
     thinning == Thinning::Neighbours
 }
 
-// A step where no output is due: a full span stops it, else the next sample is taken, else it stops.
-pub(crate) fn take_on(
-    by_neighbours: bool,
-    f: Fixed,
-    s: &mut Numbers,
-    lent: &mut Arrays<'_>,
-    samples: &[i32],
-    at: usize,
-    place: bool,
-) -> Taken
-    requires { (f.bits ≡ gain_bits f.stages f.r) × (place ≡ true → T.due_at f s.old.mu ≡ false) }
-    ensures same { Same lent.old lent.new }
-    ensures steps { let before = T.line_in (E.kind_of by_neighbours) f s.old lent.old in
-        let stepped = T.stepped_in (E.kind_of by_neighbours) f (T.taken_of result) s.new lent.new in
-        stepped ≡ step L.line place before (head_of (drop at samples.now)) }
-    ensures room { T.Room result place at (length samples.now) }
-{
-    if !place {
-        return Taken::Stopped;
-    }
-    if samples.len() <= at {
-        return Taken::Stopped;
-    }
-    let x = samples[at];
-    let out = sample_in(by_neighbours, f, s, lent, x);
-    taking(out)
-}
-
-// One step, the numbers and the arrays lent.
+// One step, the clock and the arrays lent.
 pub(crate) fn step_on(
-    thinning: Thinning,
     f: Fixed,
-    s: &mut Numbers,
+    clock: &mut Clock,
     lent: &mut Arrays<'_>,
     samples: &[i32],
     at: usize,
     place: bool,
 ) -> LineStep
-    requires { (f.bits ≡ gain_bits f.stages f.r) × (T.due_at f s.old.mu ≡ true → in_limits f.phases f.taps ≡ true) }
+    requires { (f.bits ≡ gain_bits f.settings.stages f.settings.r)
+        × (T.due_at f clock.old.mu ≡ true → in_limits f.settings.phases f.settings.taps ≡ true) }
     ensures same { Same lent.old lent.new }
-    ensures steps { let before = T.line_in thinning f s.old lent.old in
-        let stepped = T.stepped_in thinning f (L.event_of result) s.new lent.new in
-        stepped ≡ step L.line place before (head_of (drop at samples.now)) }
+    ensures steps { T.stepped_in f (L.event_of result) clock.new lent.new
+        ≡ step L.line place (T.line_held f clock.old lent.old) (head_of (drop at samples.now)) }
 {
     if !place {
         return LineStep::Stopped;
     }
-    if due(f, s.mu) {
-        let y = f.setting().interpolate(lent.prototype, lent.delay, s.mu);
-        s.mu += f.step;
+    if due(f, clock.mu) {
+        let setting = f.settings.resampler();
+        let y = setting.interpolate(lent.prototype, lent.delay, clock.mu);
+        clock.mu += f.settings.step;
         return LineStep::Wrote(y);
     }
-    let by_neighbours = sums_neighbours(thinning);
-    let step = take_on(by_neighbours, f, s, lent, samples, at, place);
-    step_of(step)
+    if samples.len() <= at {
+        return LineStep::Stopped;
+    }
+    let x = samples[at];
+    let by_neighbours = sums_neighbours(f.settings.thinning);
+    let made = sample_in(by_neighbours, f, clock, lent, x);
+    match made {
+        None => LineStep::Took,
+        Some(y) => LineStep::TookAndWrote(y),
+    }
 }

@@ -3,31 +3,31 @@ ghost use Rattle.std.specs.Prelude.{◌≡◌};
 ghost use Rattle.line.specs.Together as T;
 
 use crate::opening::MAX_BITS;
-use crate::sample::Numbers;
+use chain::clock::Clock;
 use chain::fixed::Fixed;
+use chain::settings::Settings;
 use half_band::{MOST_STAGES, hbf_stream_refused_in_line};
 use integer::gain::{bits_of, gain_of};
-use nonrecursive::Thinning;
 use nonrecursive::thinning::thinning_valid;
-use q15::fir_valid_in_line;
 
 // The gain bits of a valid decimator; 64 for another, whose gain is not looked at.
 #[tactic(auto, unfolding(crate::specs::Together::bits_at))]
-pub(crate) fn bits_at(thinning: Thinning, stages: usize, r: usize, sample_counter: usize) -> u32
-    ensures { result ≡ T.bits_at thinning stages r sample_counter }
+pub(crate) fn bits_at(s: Settings, sample_counter: usize) -> u32
+    ensures { result ≡ T.bits_at s sample_counter }
 {
-    if !thinning_valid(thinning, stages, r, sample_counter) {
+    if !thinning_valid(s.thinning, s.stages, s.r, sample_counter) {
         return 64;
     }
-    bits_of(gain_of(stages, r))
+    bits_of(gain_of(s.stages, s.r))
 }
 
 #[tactic(auto, unfolding(crate::specs::Together::valid_at))]
-pub(crate) fn valid_at(f: Fixed, s: Numbers, counts: &[usize; MOST_STAGES]) -> bool
-    ensures { result ≡ T.valid_at f s counts.now }
+pub(crate) fn valid_at(f: Fixed, clock: Clock, counts: &[usize; MOST_STAGES]) -> bool
+    ensures { result ≡ T.valid_at f clock counts.now }
 {
+    let s = f.settings;
     f.bits <= MAX_BITS
-        && fir_valid_in_line(f.tap_count, f.factor, s.wait)
-        && !hbf_stream_refused_in_line(f.depth, counts)
-        && f.setting().is_valid_in_line(s.mu)
+        && s.fir(f.tap_count).is_valid_in_line(clock.wait)
+        && !hbf_stream_refused_in_line(s.depth, counts)
+        && s.resampler().is_valid_in_line(clock.mu)
 }

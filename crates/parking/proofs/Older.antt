@@ -32,7 +32,7 @@ use Rattle.parking.specs.Entries.{fir_on, resampler_on, settings_in, tap_bytes, 
 use Rattle.parking.specs.Parking.{parked_line, park_number, park_answer, park_span, taken_up, taken_up_number}
 use Rattle.parking.specs.Between.{sheet_in}
 use Rattle.parking.specs.Told.{Lengths, on}
-use Rattle.parking.specs.Limits.{Arrays}
+use Rattle.parking.specs.Limits.{ArrayLengths}
 use Rattle.parking.specs.Older.{held_by, ForOlder, formerly, StillTaken}
 use Rattle.parking.proofs.Panels.{Fits, settings_back, Small, sum_of_lengths, seven_shaped, eight_misshapen, past_limit, misshapen, still_taken, wider_taken, parked_marked, older_refuses, marked_parked, unmarked_same}
 use Rattle.words.specs.Reading.{bits_below}
@@ -83,7 +83,7 @@ on_taps s h = go (eqb s.tap_count 0) refl
     go false e = refl
 
 module _ (l : Line) (v : valid l ≡ true)
-    (a : Arrays l.cic (fir_on l.fir) l.half_band (resampler_on l.resampler)) (ln : length l.neighbours ≡ 96)
+    (a : ArrayLengths l.cic (fir_on l.fir) l.half_band (resampler_on l.resampler)) (ln : length l.neighbours ≡ 96)
     (step : IsFloat (resampler_on l.resampler).step) (word : l.cuts < 4294967296) where
   abbrev q : Settings
   q = settings_in l.cic (fir_on l.fir) l.half_band.depth (resampler_on l.resampler) l.cuts

@@ -26,7 +26,7 @@ use Rattle.sheet.proofs.Laying.{pairs_length}
 use Rattle.parking.specs.Parked.{Settings, panel, sizes, thin_sizes, flat, parked}
 use Rattle.parking.specs.Entries.{fir_on, resampler_on, settings_in, entries_of, thin_entries}
 use Rattle.parking.specs.Parking.{parked_line, park_number, park_answer, park_span, sheet_answer, sheet_span}
-use Rattle.parking.specs.Limits.{InLimits, Arrays}
+use Rattle.parking.specs.Limits.{InLimits, ArrayLengths}
 use Rattle.parking.proofs.Panels.{sum_of_lengths}
 use Rattle.parking.proofs.Thinned.{few_neighbours}
 use Rattle.parking.proofs.Whole.{thin_numbers}
@@ -71,7 +71,7 @@ thin_most q m =
     let a = few_neighbours q.stages q.r m.stages m.r in let b = m.taps in let c = bytes_most q.depth m.depth in let h = cells_most q.phases q.cells m.phases m.cells in let i = m.cells in
     omega arith
 
-module _ (d : CicDecimator) (n : List ℤ) (f : FirDecimator) (s : HbfStream) (p : PolyphaseResampF32) (cuts : ℕ) (a : Arrays d f s p) (ln : length n ≡ 96) (m : InLimits (settings_in d f s.depth p cuts)) where
+module _ (d : CicDecimator) (n : List ℤ) (f : FirDecimator) (s : HbfStream) (p : PolyphaseResampF32) (cuts : ℕ) (a : ArrayLengths d f s p) (ln : length n ≡ 96) (m : InLimits (settings_in d f s.depth p cuts)) where
   pub thin_long : length (parked present (thin_entries d n f s p cuts)) ≡ 66 + sum (thin_sizes (settings_in d f s.depth p cuts))
   unfolding parked written thin_sizes
   thin_long =
@@ -82,7 +82,7 @@ module _ (d : CicDecimator) (n : List ℤ) (f : FirDecimator) (s : HbfStream) (p
       let k = length-append (pairs_from 66 (thin_sizes q)) (flat es) in
       rw (thin_lengths_of d n f s p cuts a ln m) (let r : 2 + length (pairs_from 66 (thin_sizes q) ++ flat es) ≡ 66 + sum (thin_sizes q) = omega arith in omega arith)
 
-module _ (d : CicDecimator) (f : FirDecimator) (s : HbfStream) (p : PolyphaseResampF32) (cuts : ℕ) (a : Arrays d f s p) (m : InLimits (settings_in d f s.depth p cuts)) where
+module _ (d : CicDecimator) (f : FirDecimator) (s : HbfStream) (p : PolyphaseResampF32) (cuts : ℕ) (a : ArrayLengths d f s p) (m : InLimits (settings_in d f s.depth p cuts)) where
   pub sheet_long : length (parked present (entries_of d f s p cuts)) ≡ 58 + sum (sizes (settings_in d f s.depth p cuts))
   unfolding parked written sizes
   sheet_long =

@@ -52,14 +52,6 @@ use Rattle.parking.proofs.Back.{cic_back, cic_length, place_back, neighbours_bac
 
 -- ---- the numbers of a sound line
 
-factor_most : (T D : ℕ) → settings_number T D ≡ 0 → D ≤ 4096
-unfolding settings_number
-factor_most T D e = go (outside D 1 4096) refl e
-  where
-    go : (a : Bool) → outside D 1 4096 ≡ a → ◌≡◌ {A = ℕ} (cond a 5 (cond (outside T 1 most_taps) 6 0)) 0 → D ≤ 4096
-    go true p e = absurd (omega (arith, e))
-    go false p e = (within D 1 4096 p).most
-
 pub record FirNumbers (s : FirDecimator) : Type 0 where
   pub taps : s.tap_count ≤ most_taps
   pub factor : s.factor ≤ 4096
@@ -75,7 +67,7 @@ on_numbers s v = go (eqb s.tap_count 0) refl
     go false e =
         let n : s.tap_count ≡ 0 → ⊥ = eqb-false s.tap_count 0 e in
         let o = valid_on s.tap_count s.factor s.wait (line_valid s.tap_count s.factor s.wait n v) in
-        let f = o.within.few in let m = factor_most s.tap_count s.factor o.settings in let b = o.waits.1 in
+        let f = o.within.few in let m = o.within.factor_most in let b = o.waits.1 in
         record { taps = f; factor = m; wait = omega arith }
 
 pub record ResamplerNumbers (p : PolyphaseResampF32) : Type 0 where

@@ -11,12 +11,12 @@ use Rattle.half_band.specs.declared.hbf_stream.HbfStream.{HbfStream}
 use Rattle.float.specs.declared.polyphase_resamp.PolyphaseResampF32.{PolyphaseResampF32}
 use Rattle.parking.specs.Parked.{settings_bytes, sizes, thin_sizes, neighbour_count, flat, lengths_of, half_band_bytes}
 use Rattle.parking.specs.Entries.{settings_in, cic_bytes, tap_bytes, delay_bytes, stages_bytes, prototype_bytes, resampler_bytes, entries_of, neighbours_bytes, thin_entries}
-use Rattle.parking.specs.Limits.{InLimits, Arrays}
+use Rattle.parking.specs.Limits.{InLimits, ArrayLengths}
 use Rattle.parking.proofs.StageLengths.{stages_long, cells_most}
 use Rattle.parking.proofs.EntryLengths.{cic_long, fir_long, resampler_long, delay_long, cells_long, neighbours_long}
 use Rattle.parking.proofs.Thinned.{few_neighbours}
 
-module _ (d : CicDecimator) (f : FirDecimator) (s : HbfStream) (p : PolyphaseResampF32) (cuts : ℕ) (a : Arrays d f s p) (m : InLimits (settings_in d f s.depth p cuts)) where
+module _ (d : CicDecimator) (f : FirDecimator) (s : HbfStream) (p : PolyphaseResampF32) (cuts : ℕ) (a : ArrayLengths d f s p) (m : InLimits (settings_in d f s.depth p cuts)) where
   few_cells : p.phases * p.taps ≤ 1024
   unfolding settings_in
   few_cells = cells_most p.phases p.taps m.phases m.cells
@@ -79,6 +79,6 @@ module _ (d : CicDecimator) (f : FirDecimator) (s : HbfStream) (p : PolyphaseRes
     thin_flat = rw depth_min
 
 pub thin_lengths_of :
-    (d : CicDecimator) (n : List ℤ) (f : FirDecimator) (s : HbfStream) (p : PolyphaseResampF32) (cuts : ℕ) → Arrays d f s p → length n ≡ 96 → InLimits (settings_in d f s.depth p cuts)
+    (d : CicDecimator) (n : List ℤ) (f : FirDecimator) (s : HbfStream) (p : PolyphaseResampF32) (cuts : ℕ) → ArrayLengths d f s p → length n ≡ 96 → InLimits (settings_in d f s.depth p cuts)
     → lengths_of (thin_entries d n f s p cuts) ≡ thin_sizes (settings_in d f s.depth p cuts)
 thin_lengths_of d n f s p cuts a ln m = thin_lengths d f s p cuts a m n ln

@@ -8,11 +8,11 @@ use Rattle.line.specs.Line.{feed_outcome, feed_span}
 use Rattle.line.specs.Demand3.{History, none_yet, fed}
 use Rattle.line.specs.declared.gauge_line.Line.{Line}
 use Rattle.words.specs.Fields.{All, IsFloat}
-use Rattle.parking.specs.Limits.{Arrays}
+use Rattle.parking.specs.Limits.{ArrayLengths}
 
 -- a record has its types: arrays of their lengths, integers and floats in their widths
 pub record LineTyped (l : Line) : Type 0 where
-  pub arrays : Arrays l.cic l.fir l.half_band l.resampler
+  pub arrays : ArrayLengths l.cic l.fir l.half_band l.resampler
   pub integrators : All (SFits w32) l.cic.integrator_state
   pub combs : All (SFits w32) l.cic.comb_state
   pub neighbours_long : length l.neighbours ≡ most_neighbours

@@ -23,7 +23,7 @@ pub record InWords (q : Settings) : Type 0 where
   pub phases : q.phases < 65536
   pub cells : q.cells < 65536
 
-pub record Arrays (d : CicDecimator) (f : FirDecimator) (s : HbfStream) (p : PolyphaseResampF32) : Type 0 where
+pub record ArrayLengths (d : CicDecimator) (f : FirDecimator) (s : HbfStream) (p : PolyphaseResampF32) : Type 0 where
   pub integrators : length d.integrator_state ≡ 8
   pub combs : length d.comb_state ≡ 8
   pub taps : length f.taps ≡ most_taps

@@ -6,7 +6,7 @@ use Rattle.line.specs.declared.gauge_line.Line.{Line}
 use Rattle.parking.specs.Parked.{Settings, sizes, thin_sizes}
 use Rattle.parking.specs.Entries.{fir_on, resampler_on, cic_bytes, neighbours_bytes, settings_in, entries_by}
 use Rattle.words.specs.Fields.{IsFloat}
-use Rattle.parking.specs.Limits.{InLimits, Arrays}
+use Rattle.parking.specs.Limits.{InLimits, ArrayLengths}
 use Rattle.parking.specs.declared.settings.ParkedSettings.{ParkedSettings}
 
 abbrev pub numbers_of : ParkedSettings → Settings
@@ -69,7 +69,7 @@ settings_by l = settings_in l.cic l.fir l.half_band.depth l.resampler l.cuts
 
 -- what the types say of a line: its arrays' lengths, that the step is an f32 and the cut count has 32 bits
 pub record Lengths (l : Line) : Type 0 where
-  pub arrays : Arrays l.cic l.fir l.half_band l.resampler
+  pub arrays : ArrayLengths l.cic l.fir l.half_band l.resampler
   pub neighbours : length l.neighbours ≡ 96
   pub step : IsFloat l.resampler.step
   pub cuts : l.cuts < 4294967296

@@ -5,7 +5,7 @@ ghost use Rattle.refusal.specs.Outcome.{count_answer};
 ghost use Rattle.sheet.specs.Laid.{laid};
 ghost use Rattle.sheet.specs.Sheet as S;
 ghost use Rattle.words.specs.Fields.{IsFloat};
-ghost use Rattle.parking.specs.Limits.{Arrays};
+ghost use Rattle.parking.specs.Limits.{ArrayLengths};
 ghost use Rattle.parking.specs.Older.{ForOlder};
 ghost use Rattle.parking.specs.Parked as P;
 ghost use Rattle.parking.specs.Parking as K;
@@ -52,7 +52,7 @@ fn parts_typed(
     resampler: PolyphaseResampF32,
     cuts: u32,
 )
-    ensures arrays { Arrays cic fir half_band resampler }
+    ensures arrays { ArrayLengths cic fir half_band resampler }
     ensures neighbours { length neighbours.now ≡ 96 }
     ensures step { IsFloat resampler.step }
     ensures cuts { cuts < 4294967296 }

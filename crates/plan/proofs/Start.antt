@@ -23,7 +23,7 @@ use Rattle.float.specs.F32.{zero32, one32}
 use Rattle.float.specs.PolyphaseResamp as R
 use Rattle.line.specs.Outputs.{Opening}
 use Rattle.line.specs.Line.{opened, opening_number_of, resampler_fresh, fresh}
-use Rattle.line.specs.declared.settings.Settings.{Settings}
+use Rattle.chain.specs.declared.settings.Settings.{Settings}
 use Rattle.line.specs.declared.gauge_line.Line.{Line}
 use Rattle.std.proofs.lemmas.Bool.{and_parts}
 use Rattle.line.proofs.Openings.{Accepted}
@@ -46,14 +46,6 @@ pub record Limits (s : Settings) (T : ℕ) : Type 0 where
   pub few_factor : or_one T s.factor ≤ 4096
   pub depth : s.depth ≤ 5
 
-few_factor : (T D : ℕ) → Q.settings_number T D ≡ 0 → D ≤ most_factor
-unfolding Q.settings_number
-few_factor T D e = go (outside D 1 most_factor) refl e
-  where
-    go : (a : Bool) → outside D 1 most_factor ≡ a → ◌≡◌ {A = ℕ} (cond a 5 (cond (outside T 1 Q.most_taps) 6 0)) 0 → D ≤ most_factor
-    go true p e = absurd (omega (arith, e))
-    go false p e = (within D 1 most_factor p).most
-
 pub limits : (o : Opening) → Accepted o → Limits o.settings (length o.taps)
 unfolding factor_ok
 limits o a =
@@ -67,7 +59,7 @@ limits o a =
       some_taps = or_one_lem (λ k. 1 ≤ k) T T (omega arith) (λ n. (settings_in_lem T D (on n)).some);
       few_taps = or_one_lem (λ k. k ≤ Q.most_taps) T T (omega arith) (λ n. (settings_in_lem T D (on n)).few);
       some_factor = or_one_lem (λ k. 1 ≤ k) T D (omega arith) (λ n. (settings_in_lem T D (on n)).factor);
-      few_factor = or_one_lem (λ k. k ≤ 4096) T D (omega arith) (λ n. few_factor T D (on n));
+      few_factor = or_one_lem (λ k. k ≤ 4096) T D (omega arith) (λ n. (settings_in_lem T D (on n)).factor_most);
       depth = a.depth;
     }
 

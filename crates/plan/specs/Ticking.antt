@@ -8,7 +8,7 @@ use Rattle.theory.specs.Feeds as F
 use Rattle.refusal.specs.declared.Moved.{Moved}
 use Rattle.float.specs.F32.{zero32, one32}
 use Rattle.chain.specs.Counting.{or_one}
-use Rattle.line.specs.declared.settings.Settings.{Settings}
+use Rattle.chain.specs.declared.settings.Settings.{Settings}
 use Rattle.plan.specs.declared.counting.Clock.{Clock}
 
 abbrev pub at_left : Clock → ℕ → Clock

@@ -11,7 +11,6 @@ use mir.Syntax.{w16, w32, w64}
 use mir.Val.{SFits, Fits}
 use Rattle.theory.proofs.Integers.{up, dn, fits_of, fits_is, mul_is, add_is, sub_is_ℤ, floor, lt_true}
 use Rattle.q15.specs.ResampleLinear.{part_of, between}
-use Rattle.q15.proofs.Sums.{both}
 
 module _ (d : ℤ) (frac : ℕ) (l : frac < 65536) where
   part_within : (up (part_of d frac) ≤ up d + dn (part_of d frac)) × (dn (part_of d frac) ≤ dn d + up (part_of d frac))
@@ -33,10 +32,6 @@ module _ (a b : ℤ) (f : SFits w16 a) (g : SFits w16 b) where
       go : (d : ℤ) → up d + (dn b + up a) ≡ (up b + dn a) + dn d → SFits w16 (a +ℤ part_of d frac)
       go (pos e) h = fits_of (a +ℤ part_of (pos e) frac) (omega (arith, part_within (pos e) frac l, add_is a (part_of (pos e) frac), fits_is a f, fits_is b g, h))
       go (negsuc e) h = fits_of (a +ℤ part_of (negsuc e) frac) (omega (arith, part_within (negsuc e) frac l, add_is a (part_of (negsuc e) frac), fits_is a f, fits_is b g, h))
-
-  -- a difference of two samples
-  pub apart : (up (b -ℤ a) ≤ 65535) × (dn (b -ℤ a) ≤ 65535)
-  apart = both 65535 (b -ℤ a) (let fa = fits_is a f in let fb = fits_is b g in let s = sub_is_ℤ b a in (omega arith, omega arith))
 
 -- a ratio above zero as an unsigned number
 pub ratio_fits : (z : ℤ) → SFits w32 z → lt_z (pos 0) z ≡ true → (T (non_neg z) × Fits w64 (nat_abs z)) × (nat_abs z < 2 ^ 31)

@@ -16,7 +16,7 @@ use Rattle.theory.specs.Lists.{listed}
 use Rattle.theory.proofs.Listed.{length_listed}
 use Rattle.q15.specs.Fixed.{cut, is_cut, cut_one, cut_count}
 use Rattle.q15.specs.Block.{block_span, block_cuts}
-use Rattle.q15.proofs.Filling.{Filled, none_filled, next_filled, all_filled, whole_filled, more_filled, listed_more, least_listed, block_filled}
+use Rattle.q15.proofs.Filling.{Filled, next_filled, all_filled, whole_filled, more_filled, listed_more, least_listed, block_filled}
 
 -- a list joined to another
 pub count_append : (k l : List ℤ) → cut_count w16 (k ++ l) ≡ cut_count w16 k + cut_count w16 l
@@ -60,9 +60,6 @@ module _ (g : ℕ → ℤ) (d : List ℤ) where
   pub record CutFilled (count : ℕ) (e : List ℤ) (i cuts : ℕ) : Type 0 where
     pub filled : Filled (λ k. cut w16 (g k)) d count e i
     pub counted : cuts ≡ cut_count w16 (listed i g)
-
-  pub none_cut : (count : ℕ) → CutFilled count d 0 0
-  none_cut count = record { filled = none_filled (λ k. cut w16 (g k)) d count; counted = refl }
 
   -- no more were cut than stand there
   pub few_cut : (count : ℕ) (e : List ℤ) (i cuts : ℕ) → CutFilled count e i cuts → cuts ≤ i

@@ -36,9 +36,6 @@ module _ {A : Type 0} (g : ℕ → A) (d : List A) where
     pub within : i ≤ count
     pub long : length e ≡ length d
 
-  pub none_filled : (count : ℕ) → Filled count d 0
-  none_filled count = record { is = refl; within = omega arith; long = refl }
-
   pub next_filled : (count : ℕ) (e : List A) (i : ℕ) (v : A) → i < count → count ≤ length d → v ≡ g i → Filled count e i → Filled count (set e i v) (i + 1)
   next_filled count e i v l m q f =
       record {

@@ -5,15 +5,15 @@ use mathlib.Core.Bool.{Bool, true, false, cond, ◌&&◌, true≢false, false≢
 use mathlib.Core.List.{List, [], ◌∷◌, ◌++◌, append-nil, append_assoc, map}
 use Rattle.std.specs.Prelude.{Option, None, Some}
 use Prim.Native.Nat.{ℕ, suc, ◌+◌, ◌*◌, ◌/◌, ◌%◌, ◌-◌, ◌≤◌, ◌<◌}
-use native.Mathlib.Nat.{zero-mul, one-mul, add-zero, sub-zero, add-mul, mul-mod_left, div-eq_of_lt-le}
+use native.Mathlib.Nat.{zero-mul, one-mul, add-zero, sub-zero, add-mul, mul-le-mul_left, mul-mod_left, div-eq_of_lt-le}
 use native.Mathlib.Numerals.{add-one}
 use native.Mathlib.Omega.{arith}
 use native.Mathlib.Decide.{dec_le}
 use borrow.Author.Tests.{le-leb, lt-leb, leb-true, eq-eqb, ne_eqb, le-ltb}
 use lib.IntN.{ℤ, pos}
 use lib.Dec.{leb, eqb}
-use lib.ListN.{length, get_or, set, take, drop, replicate, length-append, length-drop, take-append-drop}
-use lib.Seq.{get_or-take, get_or-drop, length-take-le, take-length, take_all, take-suc, take_at, take-append-le, drop-append-le, drop-append-add, drop-set-lt, drop-drop, drop_at, set_split, ext_get_or}
+use lib.ListN.{length, get_or, set, take, drop, replicate, length-append, length-drop, length-set, take-append-drop}
+use lib.Seq.{take-suc-set, get_or-take, get_or-drop, length-take-le, take_all, take-suc, take_at, take-append-le, drop-append-le, drop-append-add, drop-set-lt, drop-drop, drop_at, set_split, ext_get_or}
 use mir.Syntax.{w16}
 use mir.Val.{bool_byte}
 use borrow.Rule.Slice.PartMut.{put_mid}
@@ -29,7 +29,7 @@ use Rattle.q15.specs.FirDecimator.{most_taps, fir_state, stored, moved, fir_next
 use Rattle.q15.specs.FirBlock.{most_fir_block, block_fits, fir_block_state, fir_block_outs, fir_block_cuts, Ran, stored_run}
 use Rattle.q15.specs.declared.fixed.Cut.{Cut}
 use Rattle.q15.specs.declared.fir_decimator.FirDecimator.{FirDecimator}
-use Rattle.q15.specs.declared.fir_block.FirBlockAt.{FirBlockAt}
+use Rattle.q15.specs.declared.block.FirBlock.{FirBlock}
 use Rattle.q15.proofs.CutFilling.{count_append, byte_one}
 use Rattle.q15.proofs.Windows.{length_stored}
 use Rattle.q15.proofs.FirSteps.{quiet, makes}
@@ -50,12 +50,12 @@ fits_in n places e = go (leb n most_fir_block) refl (leb n places) refl e
     go false p b q e = absurd (false≢true e)
 
 -- what the contract says of a block, by the place that it has
-abbrev pub Answers : FirDecimator → List ℤ → List ℤ → FirBlockAt → FirDecimator → List ℤ → Type 0
+abbrev pub Answers : FirDecimator → List ℤ → List ℤ → FirBlock → FirDecimator → List ℤ → Type 0
 Answers s xs dst r after span =
     (after ≡ fir_block_state s xs (length dst))
-    × (((r.made ≡ length (fir_block_outs s xs (length dst))) × (span ≡ fir_block_outs s xs (length dst) ++ drop r.made dst)) × (r.cuts ≡ fir_block_cuts s xs (length dst)))
+    × (((r.written ≡ length (fir_block_outs s xs (length dst))) × (span ≡ fir_block_outs s xs (length dst) ++ drop r.written dst)) × (r.cuts ≡ fir_block_cuts s xs (length dst)))
 
-taken : (s : FirDecimator) (xs dst : List ℤ) (r : FirBlockAt) (after : FirDecimator) (span : List ℤ) → block_fits (length xs) (length dst) ≡ true → Ran s xs dst r after span → Answers s xs dst r after span
+taken : (s : FirDecimator) (xs dst : List ℤ) (r : FirBlock) (after : FirDecimator) (span : List ℤ) → block_fits (length xs) (length dst) ≡ true → Ran s xs dst r after span → Answers s xs dst r after span
 taken s xs dst r after span e h = rw e (h.0, ((h.1, h.2), h.3))
 
 -- ---- off
@@ -65,10 +65,10 @@ off_state [] s e = refl
 off_state (a ∷ w) s e = rw (eq-eqb s.tap_count 0 e) (off_state w s e)
 
 pub off_taken :
-    (s : FirDecimator) (xs dst front : List ℤ) (w : ℕ) → true ≡ block_fits (length xs) (length dst) → s.tap_count ≡ 0 → front ≡ xs
-    → Answers s xs dst (record { made = length xs; cuts = 0; wait = w }) s (front ++ drop (length xs) dst)
-off_taken s xs dst front w fits e h =
-    taken s xs dst (record { made = length xs; cuts = 0; wait = w }) s (front ++ drop (length xs) dst) (sym fits) (
+    (s : FirDecimator) (xs dst front : List ℤ) → true ≡ block_fits (length xs) (length dst) → s.tap_count ≡ 0 → front ≡ xs
+    → Answers s xs dst (record { written = length xs; cuts = 0 }) s (front ++ drop (length xs) dst)
+off_taken s xs dst front fits e h =
+    taken s xs dst (record { written = length xs; cuts = 0 }) s (front ++ drop (length xs) dst) (sym fits) (
       sym (off_state xs s e),
       sym (ap length (off xs s e)),
       ap (λ (x : List ℤ). x ++ drop (length xs) dst) (h ∙ sym (off xs s e)),
@@ -197,16 +197,6 @@ module _ (s : FirDecimator) (xs dst : List ℤ) where
       (g ∙ p.1 ∙ ap (λ (n : ℕ). take made span ++ (onto (made_value m) [] ++ drop n span)) (sym f))
       (k ∙ ap (λ (n : ℕ). cuts + n) (count ∙ byte_one y.cut) ∙ ap (λ (q : Option Cut). cuts + cond (made_cut q) 1 0) (sym is)) h
 
-  pub all_taken : (after : FirDecimator) (span : List ℤ) (i made cuts w : ℕ) → length xs ≤ i → Taken after span i made cuts → Ran s xs dst (record { made = made; cuts = cuts; wait = w }) after span
-  all_taken after span i made cuts w l h =
-      let e : i ≡ length xs = omega (arith, h.within) in
-      let whole : take i xs ≡ xs = ap (λ (n : ℕ). take n xs) e ∙ take-length xs in (
-        h.state_is ∙ ap (state fir s) whole,
-        h.made_is ∙ ap (λ (v : List ℤ). length (outs fir s v)) whole,
-        h.span_is ∙ ap (λ (v : List ℤ). outs fir s v ++ drop made dst) whole,
-        h.cuts_is ∙ ap (λ (v : List ℤ). cut_count w16 (outs summing s v)) whole,
-      )
-
 -- ---- by the tape
 collected_append : {A B : Type 0} (made : List A → Option B) (u v w : List A) → collected made u (v ++ w) ≡ collected made u v ++ collected made (u ++ v) w
 collected_append made u [] w = ap (λ x. collected made x w) (sym (append-nil u))
@@ -214,21 +204,30 @@ collected_append made u (a ∷ v) w =
     ap (onto (made (u ++ (a ∷ [])))) (collected_append made (u ++ (a ∷ [])) v w ∙ ap (λ x. collected made (u ++ (a ∷ [])) v ++ collected made x w) (append_assoc u (a ∷ []) v))
     ∙ onto_append (made (u ++ (a ∷ []))) (collected made (u ++ (a ∷ [])) v) (collected made (u ++ (a ∷ v)) w)
 
--- one sample more
-stored_snoc : (T w : ℕ) (xs : List ℤ) (x : ℤ) (d : List ℤ) → stored_run T w (xs ++ (x ∷ [])) d ≡ stored T (w - length xs) x (stored_run T w xs d)
-stored_snoc T w [] x d = ap (λ (i : ℕ). stored T i x d) (sym (sub-zero w))
-stored_snoc T w (y ∷ xs) x d =
-    let e : w - 1 - length xs ≡ w - suc (length xs) = omega arith in
-    stored_snoc T (w - 1) xs x (stored T w y d) ∙ ap (λ (i : ℕ). stored T i x (stored_run T (w - 1) xs (stored T w y d))) e
+-- samples stored one after the other stand in a row
+one_stored :
+    (i k : ℕ) (x : ℤ) (xs d : List ℤ) → i < length d
+    → put_mid i (suc k) d (x ∷ xs) ≡ put_mid (suc i) k (set d i x) xs
+one_stored i k x xs d l =
+    let e : i + suc k ≡ suc i + k = omega arith in
+    sym (ap₂ {C = List ℤ} (λ (p q : List ℤ). p ++ (xs ++ q)) (take-suc-set d i x l)
+    (drop-drop k (suc i) (set d i x) ∙ drop-set-lt (suc i + k) d i x (omega arith) ∙ ap (λ (j : ℕ). drop j d) (sym e) ∙ sym (drop-drop (suc k) i d))
+    ∙ append_assoc (take i d) (x ∷ []) (xs ++ drop (suc k) (drop i d)))
 
-pub stored_more :
-    (T w i : ℕ) (xs d e : List ℤ) → i < length xs → e ≡ stored_run T w (take i xs) d
-    → stored T (w - i) (at xs i) e ≡ stored_run T w (take (i + 1) xs) d
-stored_more T w i xs d e l h =
-    let n : length (take i xs) ≡ i = length-take-le i xs (omega arith) in
-    ap₂ {C = List ℤ} (λ (k : ℕ) (x : List ℤ). stored T (w - k) (at xs i) x) (sym n) h
-    ∙ sym (stored_snoc T w (take i xs) (at xs i) d)
-    ∙ ap (λ (x : List ℤ). stored_run T w x d) (sym (take-suc xs i (pos 0) l) ∙ ap (λ (k : ℕ). take k xs) (sym (add-one i)))
+run_stored : (T w : ℕ) (xs d : List ℤ) → w ≤ T → T ≤ length d → length xs ≤ w → put_mid (T - w) (length xs) d xs ≡ stored_run T w xs d
+unfolding stored
+run_stored T w [] d a b l = take-append-drop (T - w) d
+run_stored T w (x ∷ xs) d a b l =
+    let e : suc (T - w) ≡ T - (w - 1) = omega arith in
+    rw (le-leb w T a) (
+    one_stored (T - w) (length xs) x xs d (omega (arith, l))
+    ∙ ap (λ (j : ℕ). put_mid j (length xs) (set d (T - w) x) xs) e
+    ∙ run_stored T (w - 1) xs (set d (T - w) x) (omega arith) (omega (arith, length-set d (T - w) x)) (omega (arith, l)))
+
+pub copied_run :
+    (T w k : ℕ) (xs ys d : List ℤ) → w ≤ T → T ≤ length d → length xs ≤ w → ys ≡ xs → k ≡ length xs
+    → put_mid (T - w) k d ys ≡ stored_run T w xs d
+copied_run T w k xs ys d a b l e f = rw (e, f) (run_stored T w xs d a b l)
 
 -- no sum comes of a sample before the one that the wait is for
 no_sum : (c : List ℤ) (T D : ℕ) (d : List ℤ) (w : ℕ) (x : ℤ) → (T ≡ 0 → ⊥) → T ≤ most_taps → 1 < w → fir_sum_out (fir_state c T D d w) x ≡ None
@@ -254,7 +253,7 @@ module _ (c : List ℤ) (T D : ℕ) (pt : 0 < T) (small : T ≤ most_taps) (pd :
 
   pub quiet_ran :
       (zs d : List ℤ) (w : ℕ) (e dst : List ℤ) → length zs < w → e ≡ stored_run T w zs d
-      → Ran (fir_state c T D d w) zs dst (record { made = 0; cuts = 0; wait = w - length zs }) (fir_state c T D e (w - length zs)) dst
+      → Ran (fir_state c T D d w) zs dst (record { written = 0; cuts = 0 }) (fir_state c T D e (w - length zs)) dst
   quiet_ran zs d w e dst l h =
       let q = quiet_run zs d w l in
       let none : outs fir (fir_state c T D d w) zs ≡ [] = cut_sums zs (fir_state c T D d w) on ∙ ap (map (cut w16)) q.1 in (
@@ -486,16 +485,17 @@ module _ (c : List ℤ) (T D : ℕ) (pt : 0 < T) (small : T ≤ most_taps) (pd :
         sym (map_listed (cut w16) (k + 1) (λ i. window_sum c T X (i * D))) ∙ ap (map (cut w16)) tape_sums ∙ sym (cut_sums xs (fir_state c T D d w) on)
 
     pub tape_ran :
-        D ≤ T → (e dst span : List ℤ) (r : FirBlockAt)
-        → (e ≡ stored_run T D (drop (k * D + T) X) (moved T D (take T (drop (k * D) X) ++ drop T d))) × (r.wait + length X ≡ k * D + T + D)
-        → (r.made ≡ k + 1) × (span ≡ listed (k + 1) (λ i. filtered c T X (i * D)) ++ drop (k + 1) dst) × (r.cuts ≡ cut_count w16 (listed (k + 1) (λ i. window_sum c T X (i * D))))
-        → Ran (fir_state c T D d w) xs dst r (fir_state c T D e r.wait) span
-    tape_ran dt e dst span r h g = (
-      tape_state dt e r.wait h.0 h.1,
-      g.0 ∙ sym (length_listed (k + 1) (λ i. filtered c T X (i * D))) ∙ ap length tape_outs,
-      g.1 ∙ ap₂ {C = List ℤ} (λ (o : List ℤ) (n : ℕ). o ++ drop n dst) tape_outs (sym g.0),
-      g.2 ∙ ap (cut_count w16) tape_sums,
-    )
+        D ≤ T → (e dst part : List ℤ) (r cuts : ℕ) → length xs ≤ length dst
+        → (e ≡ stored_run T D (drop (k * D + T) X) (moved T D (take T (drop (k * D) X) ++ drop T d))) × (r + length X ≡ k * D + T + D)
+        → part ≡ listed (length (take (k + 1) dst)) (λ i. filtered c T X (i * D)) → cuts ≡ cut_count w16 (listed (length (take (k + 1) dst)) (λ i. window_sum c T X (i * D)))
+        → Ran (fir_state c T D d w) xs dst (record { written = k + 1; cuts = cuts }) (fir_state c T D e r) (part ++ drop (k + 1) dst)
+    tape_ran dt e dst part r cuts room h g q =
+        let n : length (take (k + 1) dst) ≡ k + 1 = length-take-le (k + 1) dst (let m : k * 1 ≤ k * D = mul-le-mul_left k pd in omega arith) in (
+          tape_state dt e r h.0 h.1,
+          sym (length_listed (k + 1) (λ i. filtered c T X (i * D))) ∙ ap length tape_outs,
+          ap (λ (o : List ℤ). o ++ drop (k + 1) dst) (g ∙ ap (λ (z : ℕ). listed z (λ i. filtered c T X (i * D))) n ∙ tape_outs),
+          q ∙ ap (λ (z : ℕ). cut_count w16 (listed z (λ i. window_sum c T X (i * D)))) n ∙ ap (cut_count w16) tape_sums,
+        )
 
 -- the tape, with the window's first samples in front and the block behind them
 pub tape_laid :

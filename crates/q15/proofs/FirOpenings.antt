@@ -10,8 +10,9 @@ use lib.IntN.{ℤ}
 use lib.ListN.{length, take}
 use lib.Seq.{length-take-le}
 use Rattle.refusal.specs.Outcome.{Opened}
-use Rattle.q15.specs.FirDecimator.{fir_zeros, most_taps, settings_number, settings_number_in_line, fir_valid_in_line, valid, valid_in_line, fresh, fresh_in_line, opened_by, fir_opened, fir_reset, Streams}
+use Rattle.q15.specs.FirDecimator.{fir_zeros, most_taps, settings_number, settings_number_in_line, fir_valid, fir_valid_in_line, valid, valid_in_line, settings_of, fresh, fresh_in_line, opened_by, fir_opened, fir_reset, Streams}
 use Rattle.q15.specs.declared.fir_decimator.FirDecimator.{FirDecimator}
+use Rattle.q15.specs.declared.fir_settings.FirSettings.{FirSettings}
 use Rattle.q15.proofs.Rounding.{rounded}
 use Rattle.q15.proofs.FirSteps.{settings_in_lem, valid_on, line_settings, on_valid, valid_in_line_lem, outs_steps, never_refused}
 use Rattle.q15.proofs.FirStream.{fresh_streamed, fresh_flagged}
@@ -65,14 +66,16 @@ row_passed : (b : Bool) → ◌≡◌ {A = ℕ} 0 (cond b 0 15) → b ≡ true
 row_passed true e = refl
 row_passed false e = absurd (omega (arith, e))
 
-module _ (s : FirDecimator) (e : ◌≡◌ {A = ℕ} 0 (cond (valid s) 0 15)) where
-  pub valid_taps : s.tap_count ≤ most_taps
-  valid_taps = (valid_on _ _ _ (row_passed (valid s) e)).within.few
+pub valid_taps : (T D w : ℕ) → ◌≡◌ {A = ℕ} 0 (cond (fir_valid T D w) 0 15) → T ≤ most_taps
+valid_taps T D w e = (valid_on T D w (row_passed (fir_valid T D w) e)).within.few
 
-  -- a reset of a valid state is an opening that is not refused
-  pub reset_is : length s.taps ≡ most_taps → ◌≡◌ {A = Opened FirDecimator} (record { number = 0; state = fresh (take s.tap_count s.taps) s.factor }) (fir_reset s)
-  reset_is l =
-      let v = row_passed (valid s) e in
-      let n : length (take s.tap_count s.taps) ≡ s.tap_count = length-take-le s.tap_count s.taps (omega (arith, l, valid_taps)) in
-      let z : settings_number (length (take s.tap_count s.taps)) s.factor ≡ 0 = ap (λ (k : ℕ). settings_number k s.factor) n ∙ (valid_on _ _ _ v).settings in
-      rw v (rw z)
+-- a reset of a valid state is an opening that is not refused
+pub reset_is :
+    (s : FirDecimator) (o : FirSettings) → o ≡ settings_of s → ◌≡◌ {A = ℕ} 0 (cond (fir_valid o.tap_count o.factor s.wait) 0 15) → length s.taps ≡ most_taps
+    → ◌≡◌ {A = Opened FirDecimator} (record { number = 0; state = fresh (take o.tap_count s.taps) o.factor }) (fir_reset s)
+reset_is s o is e l =
+    let f : ◌≡◌ {A = ℕ} 0 (cond (valid s) 0 15) = e ∙ ap (λ (p : FirSettings). cond (fir_valid p.tap_count p.factor s.wait) 0 15) is in
+    let v = row_passed (valid s) f in
+    let n : length (take s.tap_count s.taps) ≡ s.tap_count = length-take-le s.tap_count s.taps (omega (arith, l, valid_taps s.tap_count s.factor s.wait f)) in
+    let z : settings_number (length (take s.tap_count s.taps)) s.factor ≡ 0 = ap (λ (k : ℕ). settings_number k s.factor) n ∙ (valid_on _ _ _ v).settings in
+    ap (λ (p : FirSettings). record { number = 0; state = fresh (take p.tap_count s.taps) p.factor }) is ∙ rw v (rw z)

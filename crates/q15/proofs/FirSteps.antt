@@ -12,13 +12,12 @@ use lib.IntN.{ℤ}
 use mir.Syntax.{w16}
 use Rattle.theory.specs.Sections.{onto, outs, state}
 use Rattle.theory.proofs.Sections.{state_keeps}
-use Rattle.refusal.specs.Rows.{outside}
 use Rattle.q15.specs.Block.{most_factor}
 use Rattle.q15.specs.Fixed.{is_cut}
 use Rattle.q15.specs.PolyphaseDecimate.{window_sum, filtered}
 use Rattle.q15.specs.FirDecimator.{most_taps, fir_state, stored, moved, fir_next, fir_out, fir_sum_out, cut_in, fir, settings_number, settings_number_in_line, bad_wait, fir_valid, fir_valid_in_line, valid, valid_in_line, fir_step, steps}
 use Rattle.q15.specs.declared.fir_decimator.FirDecimator.{FirDecimator}
-use Rattle.refusal.proofs.Limits.{within}
+use Rattle.q15.proofs.Rows.{fir_in}
 
 -- what the section makes of a sample, and whether that was cut: off, still waiting, and with the sample that the wait was for
 module _ (c : List ℤ) (T D : ℕ) (d : List ℤ) (w : ℕ) (x : ℤ) where
@@ -45,17 +44,13 @@ pub record SettingsIn (T D : ℕ) : Type 0 where
   pub some : 1 ≤ T
   pub few : T ≤ most_taps
   pub factor : 1 ≤ D
+  pub factor_most : D ≤ most_factor
 
 pub settings_in_lem : (T D : ℕ) → settings_number T D ≡ 0 → SettingsIn T D
 unfolding settings_number
-settings_in_lem T D e = go (outside D 1 most_factor) refl (outside T 1 most_taps) refl e
-  where
-    go : (a : Bool) → outside D 1 most_factor ≡ a → (b : Bool) → outside T 1 most_taps ≡ b → ◌≡◌ {A = ℕ} (cond a 5 (cond b 6 0)) 0 → SettingsIn T D
-    go true p b q e = absurd (omega (arith, e))
-    go false p true q e = absurd (omega (arith, e))
-    go false p false q e =
-        let t = within T 1 most_taps q in
-        record { some = t.least; few = t.most; factor = (within D 1 most_factor p).least }
+settings_in_lem T D e =
+    let b = fir_in most_taps D T e in
+    record { some = b.1.least; few = b.1.most; factor = b.0.least; factor_most = b.0.most }
 
 -- in the line, of a part that is on
 pub line_settings : (T D : ℕ) → (T ≡ 0 → ⊥) → settings_number_in_line T D ≡ 0 → settings_number T D ≡ 0

@@ -11,7 +11,7 @@ use Rattle.refusal.proofs.Limits.{Between, within, Lengths, lengths_fine_lem, fi
 use Rattle.q15.specs.PolyphaseInterpolate.{interpolate_number}
 use Rattle.q15.specs.ResampleLinear.{linear_number}
 use Rattle.refusal.specs.Rows.{outside, most_block, samples_refused}
-use Rattle.q15.specs.Block.{most_factor, samples_number, block_number}
+use Rattle.q15.specs.Block.{most_factor, samples_number, fir_number, block_number}
 
 -- row q does not apply, nor do those below it
 passed : (b : Bool) (q rest : ℕ) → cond b (suc q) rest ≡ 0 → (b ≡ false) × (rest ≡ 0)
@@ -28,12 +28,20 @@ samples_in : (n m : ℕ) → samples_number n m ≡ 0 → Lengths n m
 unfolding samples_number
 samples_in n m e = lengths_fine_lem n m (passed (samples_refused n m) 6 0 e).0
 
+-- settings to which neither of rows 5 and 6 applies
+pub fir_in : (most D T : ℕ) → fir_number most D T ≡ 0 → Between 1 D most_factor × Between 1 T most
+unfolding fir_number
+fir_in most D T e =
+    let a = passed (outside D 1 most_factor) 4 (cond (outside T 1 most) 6 0) e in
+    let b = passed (outside T 1 most) 5 0 a.1 in
+    (within D 1 most_factor a.0, within T 1 most b.0)
+
 pub block_in : (D T n m : ℕ) → block_number D T n m ≡ 0 → BlockIn D T n m
 unfolding block_number
 block_in D T n m e =
-    let a = passed (outside D 1 most_factor) 4 (cond (outside T 1 most_block) 6 (samples_number n m)) e in
-    let b = passed (outside T 1 most_block) 5 (samples_number n m) a.1 in
-    record { factor = within D 1 most_factor a.0; taps = within T 1 most_block b.0; rest = samples_in n m b.1 }
+    let a = first_none (fir_number most_block D T) (samples_number n m) e in
+    let b = fir_in most_block D T a.0 in
+    record { factor = b.0; taps = b.1; rest = samples_in n m a.1 }
 
 pub factor_some : (D T n m : ℕ) → block_number D T n m ≡ 0 → 0 < D
 factor_some D T n m e = let b = block_in D T n m e in b.factor.least

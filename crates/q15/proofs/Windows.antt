@@ -3,14 +3,15 @@
 use mathlib.Core.Path.{◌≡◌, refl, sym, ap, ◌∙◌}
 use mathlib.Core.Bool.{Bool, true, false, cond}
 use mathlib.Core.List.{List, ◌++◌}
-use Prim.Native.Nat.{ℕ, suc, ◌+◌, ◌*◌, ◌/◌, ◌%◌, ◌-◌, ◌≤◌, ◌<◌}
-use native.Mathlib.Nat.{zero-mul, suc-mul, div-add-mod'}
-use native.Mathlib.Numerals.{add-one}
+use Prim.Native.Nat.{ℕ, ◌+◌, ◌*◌, ◌/◌, ◌%◌, ◌-◌, ◌≤◌, ◌<◌, min}
+use native.Mathlib.Decide.{dec_le}
+use native.Mathlib.Nat.{zero-mul, zero-add, suc-mul, div-add-mod'}
 use native.Mathlib.Omega.{arith}
 use lib.Dec.{leb}
 use lib.IntN.{ℤ, pos, ◌*ℤ◌, +ℤ_idl}
-use lib.ListN.{length, get_or, set, take, drop, length-append, length-drop, length-set, get_or-append}
-use lib.Seq.{take-suc, drop-cons, set_at, append_snoc, get_or-append-add, get_or-drop, get_or-take, length-take-le}
+use lib.ListN.{length, set, take, drop, length-append, length-drop, length-set, get_or-append}
+use lib.Seq.{get_or-drop, get_or-take, length-take-le}
+use Rattle.std.specs.List.{copy_within}
 use Rattle.theory.proofs.Decimation.{quotient}
 use Rattle.q15.specs.Fixed.{floored_product, at}
 use Rattle.q15.specs.FirSum.{fir_sum}
@@ -56,30 +57,18 @@ placed j i p l e h =
     let m : j / l * l ≡ i * l = ap (λ (n : ℕ). n * l) q in
     (q, omega (arith, m, div-add-mod' j l))
 
-module _ {A : Type 0} (z : A) (d : List A) (D : ℕ) where
-  -- k places have moved
-  abbrev pub moved_by : ℕ → List A
-  moved_by k = take k (drop D d) ++ drop k d
-
-  from_behind : (k : ℕ) → k + D < length d → get_or (moved_by k) (k + D) z ≡ get_or (drop D d) k z
-  from_behind k l =
-      let n : length (take k (drop D d)) ≡ k = length-take-le k (drop D d) (omega (arith, length-drop D d)) in
-      let c : D + k ≡ k + D = omega arith in
-      ap (λ (m : ℕ). get_or (moved_by k) (m + D) z) (sym n)
-      ∙ get_or-append-add (take k (drop D d)) (drop k d) D z
-      ∙ get_or-drop k d D z
-      ∙ sym (ap (λ (m : ℕ). get_or d m z) c)
-      ∙ sym (get_or-drop D d k z)
-
-  pub one_moved : (k : ℕ) → k + D < length d → set (moved_by k) k (get_or (moved_by k) (k + D) z) ≡ moved_by (k + 1)
-  one_moved k l =
-      let n : k < length (drop D d) = omega (arith, length-drop D d) in
-      ap (λ (a : A). set (moved_by k) k a) (from_behind k l)
-      ∙ ap (λ (r : List A). set (take k (drop D d) ++ r) k (get_or (drop D d) k z)) (drop-cons d k z (omega arith))
-      ∙ set_at (take k (drop D d)) (get_or d k z) (drop (suc k) d) (get_or (drop D d) k z) k (length-take-le k (drop D d) (omega arith))
-      ∙ sym (append_snoc (take k (drop D d)) (get_or (drop D d) k z) (drop (suc k) d))
-      ∙ ap (λ (r : List A). r ++ drop (suc k) d) (sym (take-suc (drop D d) k z n))
-      ∙ ap moved_by (sym (add-one k))
+-- places that were copied down to the front are a window moved down
+pub moved_down : (T D m : ℕ) (d : List ℤ) → m ≡ min D T → (e : List ℤ) → e ≡ copy_within d m T 0 → e ≡ moved T D d
+unfolding moved
+moved_down T D m d h e q = elim (dec_le D T) [
+  | yes l ↦
+      (let k : m ≡ D = omega (arith, h) in
+      q ∙ ap (λ (i : ℕ). take (T - i) (drop i d) ++ drop (0 + (T - i)) d) k ∙ ap (λ (i : ℕ). take (T - D) (drop D d) ++ drop i d) (zero-add (T - D)))
+  | no l ↦
+      (let k : T - m ≡ 0 = omega (arith, h) in
+      let n : T - D ≡ 0 = omega arith in
+      q ∙ ap (λ (i : ℕ). take i (drop m d) ++ drop (0 + i) d) k ∙ ap (λ (i : ℕ). take i (drop D d) ++ drop i d) (sym n))
+]
 
 module _ (T D : ℕ) (d : List ℤ) (l : T ≤ length d) where
   front : length (take (T - D) (drop D d)) ≡ T - D

@@ -3,7 +3,7 @@ use Rattle.std.specs.Prelude.{cond, List, ◌++◌, ℕ, zero, suc, ℤ, Result,
 use Rattle.std.specs.Int.{w16}
 use Rattle.refusal.specs.declared.Refusal.{Refusal}
 use Rattle.refusal.specs.Outcome.{Answer, number_in, value_in}
-use Rattle.refusal.specs.Rows.{outside, most_block, samples_refused}
+use Rattle.refusal.specs.Rows.{outside, most_block, samples_refused, first_of}
 use Rattle.q15.specs.Fixed.{cut_count}
 use Rattle.q15.specs.declared.block.FirBlock.{FirBlock}
 
@@ -15,9 +15,13 @@ most_factor = 4096
 unfoldable pub samples_number : ℕ → ℕ → ℕ
 samples_number n m = cond (samples_refused n m) 7 0
 
--- rows 5 to 7 for a factor, T taps, n samples and m places: "factor not 1..4,096", "taps empty or over 65,536"
+-- rows 5 and 6 for a factor and T taps: "factor not 1..4,096", "taps empty or over" the most that there may be
+unfoldable pub fir_number : ℕ → ℕ → ℕ → ℕ
+fir_number most factor T = cond (outside factor 1 most_factor) 5 (cond (outside T 1 most) 6 0)
+
+-- rows 5 to 7 for a factor, T taps, n samples and m places: "taps empty or over 65,536"
 unfoldable pub block_number : ℕ → ℕ → ℕ → ℕ → ℕ
-block_number factor T n m = cond (outside factor 1 most_factor) 5 (cond (outside T 1 most_block) 6 (samples_number n m))
+block_number factor T n m = first_of (fir_number most_block factor T) (samples_number n m)
 
 -- the outputs from the front of the span, as many as it has places for, and the unwritten places as lent
 unfoldable pub written : List ℤ → List ℤ → List ℤ

@@ -5,7 +5,7 @@ use Rattle.theory.specs.Sections.{state, outs}
 use Rattle.q15.specs.Fixed.{cut_count}
 use Rattle.q15.specs.FirDecimator.{most_taps, stored, summing, fir}
 use Rattle.q15.specs.declared.fir_decimator.FirDecimator.{FirDecimator}
-use Rattle.q15.specs.declared.fir_block.FirBlockAt.{FirBlockAt}
+use Rattle.q15.specs.declared.block.FirBlock.{FirBlock}
 
 -- the most samples of a block
 abbrev pub most_fir_block : ℕ
@@ -29,9 +29,9 @@ module _ (s : FirDecimator) (xs : List ℤ) (places : ℕ) where
   fir_block_cuts = cond (block_fits (length xs) places) (cut_count w16 (outs summing s xs)) 0
 
 -- For the contracts of private functions: a block that is taken, from the state s and the span dst to the state after and the span at exit
-abbrev pub Ran : FirDecimator → List ℤ → List ℤ → FirBlockAt → FirDecimator → List ℤ → Type 0
+abbrev pub Ran : FirDecimator → List ℤ → List ℤ → FirBlock → FirDecimator → List ℤ → Type 0
 Ran s xs dst r after span =
-    (after ≡ state fir s xs) × (r.made ≡ length (outs fir s xs)) × (span ≡ outs fir s xs ++ drop r.made dst) × (r.cuts ≡ cut_count w16 (outs summing s xs))
+    (after ≡ state fir s xs) × (r.written ≡ length (outs fir s xs)) × (span ≡ outs fir s xs ++ drop r.written dst) × (r.cuts ≡ cut_count w16 (outs summing s xs))
 
 -- windows that stand on a tape without gaps: D is not above T, and the wait is for the window in the delay
 abbrev pub OnTape : ℕ → ℕ → ℕ → Type 0

@@ -6,11 +6,11 @@ use Rattle.std.specs.Int.{w16}
 use Rattle.refusal.specs.declared.Refusal.{Refusal}
 use Rattle.refusal.specs.Outcome.{Outcome, Opened, number_in, value_in}
 use Rattle.theory.specs.Sections.{Section, outs, state}
-use Rattle.refusal.specs.Rows.{outside}
 use Rattle.q15.specs.Fixed.{is_cut}
-use Rattle.q15.specs.Block.{most_factor}
+use Rattle.q15.specs.Block.{fir_number}
 use Rattle.q15.specs.PolyphaseDecimate.{window_sum, fir_sums, filtered, decimated}
 use Rattle.q15.specs.Rounding.{Rounded}
+use Rattle.q15.specs.declared.fir_settings.FirSettings.{FirSettings}
 use Rattle.q15.specs.declared.fir_decimator.FirDecimator.{FirDecimator}
 use Rattle.q15.specs.declared.fixed.Cut.{Cut}
 
@@ -69,9 +69,9 @@ cut_in (Some z) = is_cut w16 z
 abbrev pub fir : Section FirDecimator ℤ ℤ
 fir = record { next = fir_next; out = fir_out }
 
--- rows 5 and 6 beside the line: "factor not 1..4,096", "taps empty, or over" the most that the state holds
+-- rows 5 and 6 beside the line: taps "over" the most that the state holds
 unfoldable pub settings_number : ℕ → ℕ → ℕ
-settings_number T D = cond (outside D 1 most_factor) 5 (cond (outside T 1 most_taps) 6 0)
+settings_number T D = fir_number most_taps D T
 
 -- in the line "no taps means off, and D is not looked at", so that of row 6 "only over" the limit is left
 unfoldable pub settings_number_in_line : ℕ → ℕ → ℕ
@@ -88,6 +88,10 @@ fir_valid T D w = cond (eqb (settings_number T D) 0) (not (bad_wait T D w)) fals
 -- row 15 in the line, where no taps means off and "a part that is off is not checked"
 unfoldable pub fir_valid_in_line : ℕ → ℕ → ℕ → Bool
 fir_valid_in_line T D w = cond (eqb T 0) true (fir_valid T D w)
+
+-- what a state was opened with
+abbrev pub settings_of : FirDecimator → FirSettings
+settings_of s = record { tap_count = s.tap_count; factor = s.factor }
 
 abbrev pub valid : FirDecimator → Bool
 valid s = fir_valid s.tap_count s.factor s.wait

@@ -1,20 +1,16 @@
 // 01, section 3: FIR decimation of a stream, the line's part.
-ghost use Rattle.std.specs.Prelude.{◌≡◌, cond, ◌≤◌, length, IfOk};
+ghost use Rattle.std.specs.Prelude.{◌≡◌, ◌≤◌, length, IfOk};
 ghost use Rattle.std.specs.Int.{w16};
-ghost use Rattle.refusal.specs.Outcome.{number_in, told_opened, told_reset};
+ghost use Rattle.refusal.specs.Outcome.{told_opened, told_reset};
 ghost use Rattle.q15.specs.Fixed.{is_cut};
 ghost use Rattle.q15.specs.PolyphaseDecimate.{window_sum, filtered};
 ghost use Rattle.q15.specs.FirDecimator.{most_taps, fir_state, fir_zeros, stored, moved, fir_next, fir_out, fir_sum_out, cut_in, made_value, made_cut};
-ghost use Rattle.q15.specs.FirDecimator.{settings_number, settings_number_in_line, bad_wait, fir_valid, fir_valid_in_line, padded, fresh, fir_opened, fir_reset, fir_step, told_step, Streams};
+ghost use Rattle.q15.specs.FirDecimator.{settings_of, padded, fresh, fir_opened, fir_reset, fir_step, told_step, Streams};
 
-use crate::block::MOST_FACTOR;
+use crate::fir_settings::{FirSettings, MOST_TAPS};
 use crate::fir_sum::fir_sum;
 use crate::fixed::{Cut, Q15, cut_q15};
 use refusal::Refusal;
-use refusal::rows::outside;
-
-// The most taps of the line's FIR. 02, request 7: "goes from 64 to 128, so refusal 6 moves there".
-pub const MOST_TAPS: usize = 128;
 
 // A FIR decimator between two samples. The window of the next output stands at the front of the delay; wait counts the samples up to and with the one
 // that makes it. No taps: in the line off, beside it a state that no opening gives.
@@ -29,7 +25,7 @@ pub struct FirDecimator {
 
 // Puts a sample of the next output's window at its place.
 #[tactic(auto, unfolding(crate::specs::FirDecimator::stored))]
-pub(crate) fn store(delay: &mut [i16; MOST_TAPS], t: usize, wait: usize, x: i16)
+fn store(delay: &mut [i16; MOST_TAPS], t: usize, wait: usize, x: i16)
     ensures { delay.new ≡ stored t wait x delay.old }
 {
     if wait <= t && t - wait < MOST_TAPS {
@@ -42,9 +38,7 @@ pub(crate) fn move_down(delay: &mut [i16; MOST_TAPS], t: usize, factor: usize)
     requires { t ≤ most_taps }
     ensures { delay.new ≡ moved t factor delay.old }
 {
-    for k in 0..t.saturating_sub(factor) {
-        delay[k] = delay[k + factor];
-    }
+    delay.copy_within(factor.min(t)..t, 0);
 }
 
 // The output of a whole window.
@@ -61,15 +55,16 @@ fn fir_output(delay: &[i16; MOST_TAPS], taps: &[i16; MOST_TAPS], t: usize) -> Cu
 pub fn fir_at(
     delay: &mut [i16; MOST_TAPS],
     taps: &[i16; MOST_TAPS],
-    t: usize,
-    factor: usize,
+    settings: FirSettings,
     wait: &mut usize,
     sample: Q15,
 ) -> Option<Cut>
-    ensures answer { made_value result ≡ fir_out (fir_state taps.now t factor delay.old wait.old) sample.0 }
-    ensures state { fir_state taps.now t factor delay.new wait.new ≡ fir_next (fir_state taps.now t factor delay.old wait.old) sample.0 }
-    ensures cut { made_cut result ≡ cut_in (fir_sum_out (fir_state taps.now t factor delay.old wait.old) sample.0) }
+    ensures answer { made_value result ≡ fir_out (fir_state taps.now settings.tap_count settings.factor delay.old wait.old) sample.0 }
+    ensures state { fir_state taps.now settings.tap_count settings.factor delay.new wait.new
+        ≡ fir_next (fir_state taps.now settings.tap_count settings.factor delay.old wait.old) sample.0 }
+    ensures cut { made_cut result ≡ cut_in (fir_sum_out (fir_state taps.now settings.tap_count settings.factor delay.old wait.old) sample.0) }
 {
+    let t = settings.tap_count;
     if t == 0 {
         let handed_on = Cut {
             value: sample,
@@ -87,74 +82,9 @@ pub fn fir_at(
         return None;
     }
     let y = fir_output(delay, taps, t);
-    move_down(delay, t, factor);
-    *wait = factor;
+    move_down(delay, t, settings.factor);
+    *wait = settings.factor;
     Some(y)
-}
-
-// Rows 5 and 6.
-#[tactic(auto, unfolding(crate::specs::FirDecimator::settings_number))]
-fn settings_answer(t: usize, factor: usize) -> Result<(), Refusal>
-    ensures { number_in result ≡ settings_number t factor }
-{
-    if outside(factor, 1, MOST_FACTOR) {
-        return Err(Refusal::FirFactor);
-    }
-    if outside(t, 1, MOST_TAPS) {
-        return Err(Refusal::Taps);
-    }
-    Ok(())
-}
-
-// Rows 5 and 6, as the line has them: no taps means off, and the factor is not looked at.
-#[tactic(auto, unfolding(crate::specs::FirDecimator::settings_number_in_line))]
-pub fn settings_answer_in_line(t: usize, factor: usize) -> Result<(), Refusal>
-    ensures { number_in result ≡ settings_number_in_line t factor }
-{
-    if t == 0 {
-        return Ok(());
-    }
-    settings_answer(t, factor)
-}
-
-// Row 15: a wait of 0, or above both the taps and the factor.
-#[tactic(auto, unfolding(crate::specs::FirDecimator::bad_wait))]
-fn wait_is_bad(t: usize, factor: usize, wait: usize) -> bool
-    ensures { result ≡ bad_wait t factor wait }
-{
-    if wait == 0 {
-        return true;
-    }
-    if wait <= t {
-        return false;
-    }
-    factor < wait
-}
-
-// Whether a call on a state with these numbers is not refused by 15.
-#[tactic(auto, unfolding(crate::specs::FirDecimator::fir_valid))]
-fn fir_valid(t: usize, factor: usize, wait: usize) -> bool
-    ensures { result ≡ fir_valid t factor wait }
-{
-    settings_answer(t, factor).is_ok() && !wait_is_bad(t, factor, wait)
-}
-
-// Whether a call on a line with these numbers is not refused by 15: no taps means off.
-#[tactic(auto, unfolding(crate::specs::FirDecimator::fir_valid_in_line))]
-pub fn fir_valid_in_line(t: usize, factor: usize, wait: usize) -> bool
-    ensures { result ≡ fir_valid_in_line t factor wait }
-{
-    t == 0 || fir_valid(t, factor, wait)
-}
-
-// Row 15, beside the line.
-fn state_row(t: usize, factor: usize, wait: usize) -> Result<(), Refusal>
-    ensures { number_in result ≡ cond (fir_valid t factor wait) 0 15 }
-{
-    if fir_valid(t, factor, wait) {
-        return Ok(());
-    }
-    Err(Refusal::State)
 }
 
 // The taps, and zeros behind them.
@@ -202,8 +132,22 @@ impl FirDecimator {
         ensures answer { told_opened fir_zeros result ≡ fir_opened taps.now factor }
         ensures stream { IfOk result (Streams taps.now factor) }
     {
-        settings_answer(taps.len(), factor)?;
+        let settings = FirSettings {
+            tap_count: taps.len(),
+            factor,
+        };
+        settings.answer()?;
         Ok(fresh_state(taps, factor))
+    }
+
+    // What it was opened with.
+    fn settings(&self) -> FirSettings
+        ensures { result ≡ settings_of self.now }
+    {
+        FirSettings {
+            tap_count: self.tap_count,
+            factor: self.factor,
+        }
     }
 
     // A fresh opening of the state's own taps and factor. Refusal 15, and the state stays.
@@ -211,10 +155,9 @@ impl FirDecimator {
     pub fn reset(&mut self) -> Result<(), Refusal>
         ensures answer { told_reset result self.new ≡ fir_reset self.old }
     {
-        let t = self.tap_count;
-        let factor = self.factor;
-        state_row(t, factor, self.wait)?;
-        *self = fresh_state(&self.taps[..t], factor);
+        let own = self.settings();
+        own.state_row(self.wait)?;
+        *self = fresh_state(&self.taps[..own.tap_count], own.factor);
         Ok(())
     }
 
@@ -222,13 +165,12 @@ impl FirDecimator {
     pub fn process_sample(&mut self, sample: Q15) -> Result<Option<Cut>, Refusal>
         ensures answer { told_step result self.new ≡ fir_step self.old sample.0 }
     {
-        let t = self.tap_count;
-        state_row(t, self.factor, self.wait)?;
+        let settings = self.settings();
+        settings.state_row(self.wait)?;
         let made = fir_at(
             &mut self.delay,
             &self.taps,
-            t,
-            self.factor,
+            settings,
             &mut self.wait,
             sample,
         );

@@ -4,6 +4,7 @@
 pub mod block;
 pub mod fir_block;
 pub mod fir_decimator;
+pub mod fir_settings;
 pub mod fir_sum;
 pub mod fixed;
 pub mod polyphase_decimate;
@@ -11,8 +12,9 @@ pub mod polyphase_interpolate;
 pub mod resample_linear;
 
 pub use crate::block::{FirBlock, MOST_FACTOR};
-pub use crate::fir_block::{FirBlockAt, MOST_FIR_BLOCK, fir_block_at};
-pub use crate::fir_decimator::{FirDecimator, MOST_TAPS, fir_at, fir_valid_in_line};
+pub use crate::fir_block::{MOST_FIR_BLOCK, fir_block_at};
+pub use crate::fir_decimator::{FirDecimator, fir_at};
+pub use crate::fir_settings::{FirSettings, MOST_TAPS};
 pub use crate::fixed::{Cut, Q15, cut_q15};
 pub use crate::polyphase_decimate::polyphase_decimate_q15;
 pub use crate::polyphase_interpolate::polyphase_interpolate_q15;

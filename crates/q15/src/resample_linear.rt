@@ -50,7 +50,7 @@ fn next_index(n: usize, i: usize) -> usize
     requires { (i < n) × (n ≤ most_block) }
     ensures { (result ≡ next_index n i) × (result < n) }
 {
-    if i + 1 < n { i + 1 } else { i }
+    (i + 1).min(n - 1)
 }
 
 // The value at a position in 65536ths of a sample.

@@ -92,7 +92,7 @@ fn a_missing_row_is_found() {
     let page = page();
     for name in [
         "`theory/Wrap`",
-        "`line/src/settings.rt`",
+        "`chain/src/settings.rt`",
         "`Rattle.std.specs.Float`",
         "`theory/Kept`",
     ] {

@@ -6,4 +6,4 @@ use Rattle.chain.proofs.levels.levels_in.Goals as goal
 pub returns-clause-batched : goal.returns-clause-batched
 returns-clause-batched c =
     let told = c.hbf_stream_block_at-made.ensures in
-    levels_batched _ _ _ _ _ _ _ _ _ _ _ _ _ c.requires.1 (search rules) c.put_levels.ensures told.next told.front c.resample.ensures.batched
+    levels_batched _ _ _ _ _ _ _ _ _ _ _ _ c.requires (search rules) c.put_levels.ensures told.next told.front c.resample.ensures.batched

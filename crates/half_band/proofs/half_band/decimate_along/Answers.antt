@@ -1,11 +1,8 @@
 -- A turn's window lies two places further on the line: it is the one before with pair i in it (`moved_on`).
-use Rattle.std.proofs.Common.{◌≡◌, ℕ, ◌+◌, ◌-◌, ◌*◌, ◌≤◌, List, ◌++◌, Option, Some, length, get_or, take, drop, sym, ap, subst, ◌∙◌, arith, Float, length-drop}
+use Rattle.std.proofs.Common.{◌≡◌, ℕ, ◌+◌, ◌-◌, ◌*◌, ◌≤◌, List, Option, Some, length, get_or, take, drop, sym, ap, ◌∙◌, arith, Float, length-drop}
 use lib.Ieee.{nan}
-use lib.Seq.{take_all}
-use native.Mathlib.Nat.{le_of_eq}
-use Rattle.theory.specs.Sections.{outs}
 use Rattle.half_band.specs.Windows.{dec_value, pairs, decimator}
-use Rattle.half_band.proofs.Blocks.{Emitted, emitted_one}
+use Rattle.half_band.proofs.Blocks.{emitted_one, emitted_all}
 use Rattle.half_band.proofs.PairsAlong.{moved_on}
 use Rattle.half_band.proofs.WholeLists.{length_pairs}
 use Rattle.half_band.proofs.half_band.decimate_along.Goals as goal
@@ -21,14 +18,14 @@ loop-i-preserved c =
     let a = c.args in
     let t = a.taps.now in
     let v = a.line.now in
-    let few : l.i + 1 ≤ a.n = omega arith in
+    let few : l.i + 1 ≤ length a.span.now = omega arith in
     let one : 2 * (l.i + 1) ≡ 2 * l.i + 2 = omega arith in
     let back : 2 * l.i + 2 + 4 * length t - (2 * l.i + 2) ≡ 4 * length t = omega arith in
     let next : take (4 * length t) (drop (2 * l.i + 2) v) ≡ (decimator t).next (take (4 * length t) (drop (2 * l.i) v)) (get_or (pairs (drop (4 * length t) v)) l.i (nan, nan)) =
     moved_on v (4 * length t) l.i (omega arith) (omega arith) in
     let y : c.dec_at.result ≡ dec_value t (take (4 * length t) (drop (2 * l.i + 2) v)) = c.dec_at.ensures ∙ ap (λ (k : ℕ). dec_value t (take k (drop (2 * l.i + 2) v))) back in
     emitted_one (decimator t) (take (4 * length t) v) (pairs (drop (4 * length t) v)) a.span.now (take (4 * length t) (drop (2 * l.i) v)) l.span l.i l.i (nan, nan) l.invariant
-    (omega (arith, pairs_long t v a.n c.requires.2))
+    (omega (arith, pairs_long t v (length a.span.now) c.requires.2))
     (take (4 * length t) (drop (2 * (l.i + 1)) v))
     (ap (λ (k : ℕ). take (4 * length t) (drop k v)) one ∙ next)
     c.dec_at.result
@@ -41,8 +38,5 @@ returns c =
     let a = c.args in
     let t = a.taps.now in
     let v = a.line.now in
-    let f = decimator t in
-    let e = take_all a.n (pairs (drop (4 * length t) v)) (le_of_eq (pairs_long t v a.n c.requires.2)) in
-    let ended : l.i ≡ a.n = omega arith in
-    let all = subst (λ (k : ℕ). Emitted f (take (4 * length t) v) (pairs (drop (4 * length t) v)) a.span.now (take (4 * length t) (drop (2 * k) v)) l.span k k) ended l.invariant in
-    all.span_is ∙ ap (λ (r : List (Float × Float)). outs f (take (4 * length t) v) r ++ drop a.n a.span.now) e
+    (emitted_all (decimator t) (take (4 * length t) v) (pairs (drop (4 * length t) v)) a.span.now (take (4 * length t) (drop (2 * l.i) v)) l.span l.i l.i l.invariant
+    (omega (arith, pairs_long t v (length a.span.now) c.requires.2)) (omega arith)).1

@@ -1,10 +1,11 @@
 -- Window and values stand in a row on the line, whose last places are the window left and whose windows give the outputs.
-use Rattle.std.proofs.Common.{◌≡◌, ℕ, ◌+◌, ◌-◌, ◌*◌, ◌≤◌, List, ◌++◌, length, take, drop, sym, ap, ap₂, ◌∙◌, arith, length-append, length-take-le, take_at, drop_at, Float}
-use lib.Seq.{take-append-add}
+use Rattle.std.proofs.Common.{◌≡◌, ℕ, ◌+◌, ◌-◌, ◌*◌, ◌/◌, ◌≤◌, List, ◌++◌, length, take, drop, sym, ap, ap₂, ◌∙◌, arith, length-append, length-take-le, take_at, drop_at, Float}
+use lib.Seq.{take-append-add, take_all}
 use Rattle.theory.specs.Sections.{state, outs}
 use Rattle.half_band.specs.Windows.{pairs, decimator}
 use Rattle.float.proofs.Laid.{tape_last}
 use Rattle.half_band.proofs.PairsAlong.{state_along}
+use Rattle.half_band.proofs.StageRuns.{front_pairs}
 use Rattle.half_band.proofs.half_band.decimate_in_place.Goals as goal
 
 -- the line has the window w in front, then the lead l, and then what is taken of the span s
@@ -51,12 +52,25 @@ module _ (c line w l s : List Float) (n : ℕ) (some : 1 ≤ length c) (window_l
       ∙ ap₂ {C = List Float} (λ (x y : List Float). outs (decimator c) x (pairs y)) (take_at w v (4 * length c) window_long) (drop_at w v (4 * length c) window_long)
       ∙ ap (λ (t : List Float). outs (decimator c) w (pairs t)) values_are
 
+-- an odd last value is in no pair
+taken_is : (l s : List Float) → pairs (take (2 * ((length l + length s) / 2)) (l ++ s)) ≡ pairs (l ++ s)
+taken_is l s =
+    let long : length (l ++ s) ≡ length l + length s = length-append l s in
+    front_pairs (length l + length s) (l ++ s) (omega arith) ∙ ap pairs (take_all (length l + length s) (l ++ s) (omega arith))
+
 pub returns : goal.returns
 returns c =
     let a = c.args in
     let r = c.requires in
     let line = c.lay_led.new.line in
-    let fits : length a.window.now + 2 * a.n ≤ length c.lay_led.new.line = omega arith in (
-      c.copy_from_slice.ensures.after ∙ window_left a.taps.now line a.window.now a.lead.now a.span.now a.n r.0 r.2 r.3 r.4 fits c.lay_led.ensures,
-      c.decimate_along.ensures ∙ ap (λ (t : List Float). t ++ drop a.n a.span.now) (made a.taps.now line a.window.now a.lead.now a.span.now a.n r.0 r.2 r.3 r.4 fits c.lay_led.ensures),
+    let w = a.window.now in
+    let l = a.lead.now in
+    let s = a.span.now in
+    let n = (length l + length s) / 2 in
+    let led : length l ≤ 2 * n = omega arith in
+    let room : 2 * n ≤ length l + length s = omega arith in
+    let fits : length w + 2 * n ≤ length line = omega arith in
+    let taken = taken_is l s in (
+      c.copy_from_slice.ensures.after ∙ window_left a.taps.now line w l s n r.0 r.2 led room fits c.lay_led.ensures ∙ ap (state (decimator a.taps.now) w) taken,
+      ap (λ (t : List Float). t ++ drop n s) (c.decimate_along.ensures ∙ made a.taps.now line w l s n r.0 r.2 led room fits c.lay_led.ensures ∙ ap (outs (decimator a.taps.now) w) taken),
     )

@@ -4,7 +4,7 @@ use native.Mathlib.Nat.{le_of_lt, add-sub_of_le}
 use Rattle.half_band.specs.HbfTaps.{stage_taps}
 use Rattle.half_band.specs.Windows.{spliced}
 use Rattle.half_band.specs.HbfStream.{stream}
-use Rattle.half_band.proofs.Blocks.{Emitted, emitted_many}
+use Rattle.half_band.proofs.Blocks.{Emitted, emitted_all, emitted_many}
 use Rattle.half_band.proofs.Splicing.{length_splice}
 use Rattle.half_band.proofs.DecCascades.{bare, turn}
 use Rattle.half_band.proofs.hbf_dec_cascade.decimate_frames.Goals as goal
@@ -16,10 +16,11 @@ pub decimate_on_tape-requires : goal.decimate_on_tape-requires
 decimate_on_tape-requires g c =
     let a = c.args in
     let f = c.rate_change-factor.result in
+    let frames = length a.dst.now in
     let d = c.loop-done.done in
     let e = c.min-end.result in
-    let t = turn f a.depth a.frames d e c.rate_change-factor.ensures c.requires.0 c.loop-done-test.true c.min-end.ensures in
-    let reach = subst (λ (n : ℕ). a.frames * n ≤ length a.src.now) (sym c.rate_change-factor.ensures) c.requires.2 in
+    let t = turn f a.depth frames d e c.rate_change-factor.ensures c.requires.0 c.loop-done-test.true c.min-end.ensures in
+    let reach : frames * f ≡ length a.src.now = ap (λ (n : ℕ). frames * n) c.rate_change-factor.ensures ∙ sym c.requires.2 in
     let src = inside (e * f - d * f) (d * f) a.src.now (omega (arith, t.before, t.behind, reach)) in
     let dst = inside (e - d) d c.loop-done.dst (omega (arith, t.more, t.most)) in (
       c.requires.0,
@@ -33,9 +34,10 @@ loop-done-preserved g c =
     let a = c.args in
     let l = c.loop-done in
     let f = c.rate_change-factor.result in
+    let frames = length a.dst.now in
     let d = l.done in
     let e = c.min-end.result in
-    let t = turn f a.depth a.frames d e c.rate_change-factor.ensures c.requires.0 c.loop-done-test.true c.min-end.ensures in
+    let t = turn f a.depth frames d e c.rate_change-factor.ensures c.requires.0 c.loop-done-test.true c.min-end.ensures in
     let o = c.decimate_on_tape in
     let y = o.new.dst in
     let section = stream (stage_taps g.T.StageTable.table) in
@@ -50,3 +52,12 @@ loop-done-preserved g c =
       so_far = subst (λ (k : ℕ). Emitted section s a.src.now a.dst.now u span (e * f) k) (add-sub_of_le (le_of_lt t.more))
           (subst (λ (i : ℕ). Emitted section s a.src.now a.dst.now u span i (d + (e - d))) (add-sub_of_le t.before) all);
     }
+
+pub returns : goal.returns
+returns g c =
+    let a = c.args in
+    let l = c.loop-done in
+    let f = c.rate_change-factor.result in
+    let ended : l.done ≡ length a.dst.now = omega (arith, l.invariant.few) in
+    let taken : length a.src.now ≡ l.done * f = c.requires.2 ∙ ap (λ (n : ℕ). length a.dst.now * n) (sym c.rate_change-factor.ensures) ∙ ap (λ (n : ℕ). n * f) (sym ended) in
+    emitted_all (stream (stage_taps g.T.StageTable.table)) (bare a.depth a.delays.now) a.src.now a.dst.now (bare a.depth l.delays) l.dst (l.done * f) l.done l.invariant.so_far (omega arith) (omega arith)

@@ -3,7 +3,7 @@ use Rattle.std.proofs.Common.{◌-◌, length}
 use Rattle.theory.proofs.FeedLoop.{Midway}
 use Rattle.chain.specs.Lending.{Same}
 use Rattle.line.specs.Line.{line}
-use Rattle.line.specs.Together.{line_in}
+use Rattle.line.specs.Together.{line_held}
 use Rattle.line.proofs.Lawful.{Good, line_lawful}
 use Rattle.line.proofs.batches.feed_batches.Given as goal
 
@@ -11,7 +11,7 @@ abbrev pub invariant-loop-taken : goal.invariant-loop-taken
 invariant-loop-taken l =
     record {
       same : Same l.fn.lent l.lent;
-      midway : Midway line 64 Good line_lawful (line_in l.thinning l.f l.fn.s l.fn.lent) l.samples l.fn.out l.out (line_in l.thinning l.f l.s l.lent) l.taken l.written;
+      midway : Midway line 64 Good line_lawful (line_held l.f l.fn.clock l.fn.lent) l.samples l.fn.out l.out (line_held l.f l.clock l.lent) l.taken l.written;
     }
 
 abbrev pub decreases-loop-taken : goal.decreases-loop-taken

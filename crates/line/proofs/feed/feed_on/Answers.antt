@@ -1,35 +1,28 @@
 -- `feed_on` meets its contract: a turn of its loop is what `Turning` says of one.
-use Rattle.std.proofs.Common.{ap, refl, rules}
-use Rattle.float.specs.PolyphaseResamp.{in_line, is_on}
-use Rattle.line.specs.Together.{due_at, at_once, taken_of}
+use Rattle.std.proofs.Common.{◌≡◌, rules, pos, get_or, w32, to_z, of_z, ◌+◌}
 use Rattle.line.proofs.Numbers.{counter_below}
-use Rattle.line.proofs.Emitting.{emptied}
-use Rattle.line.proofs.Turning.{took, both, stopped}
+use Rattle.line.proofs.Turning.{full, ended, took, both}
 use Rattle.line.proofs.feed.feed_on.Goals as goal
 
-pub at_once-m-requires : goal.at_once-m-requires
-unfolding in_line is_on due_at
-at_once-m-requires g c =
-    let i = c.loop-taken.invariant.midway in
-    (counter_below _ i.good, i.some_taken, (emptied i c.setting.ensures c.write_due-due.ensures).quiet)
+pub at_once-count-requires : goal.at_once-count-requires
+at_once-count-requires g c = counter_below _ c.loop-out.invariant.midway.good
 
-pub take_on-step-requires : goal.take_on-step-requires
-unfolding in_line is_on due_at
-take_on-step-requires g c = (c.requires.0, (emptied c.loop-taken.invariant.midway c.setting.ensures c.write_due-due.ensures).quiet)
-
-pub loop-taken-preserved-in-Took : goal.loop-taken-preserved-in-Took
-unfolding in_line is_on due_at at_once
-loop-taken-preserved-in-Took g c =
-    let midway = took c.loop-taken.invariant.midway c.setting.ensures c.write_due-due.ensures _ refl c.at_once-m.ensures.made c.take_on-step.ensures.steps (ap taken_of c.in-Took.is) in
+pub loop-out-preserved-in-None : goal.loop-out-preserved-in-None
+loop-out-preserved-in-None g c =
+    let x = get_or c.args.samples.now (c.loop-out.taken + c.at_once-count.result) (pos 0) in
+    let read : to_z w32 (of_z w32 x) ≡ x = search rules in
+    let midway = took c.loop-out.invariant.midway c.resampler-setting.ensures c.write_due-due.ensures c.if-out-written.false c.requires.kind c.at_once-count.ensures.kind c.at_once-count.ensures.fits c.at_once-count.ensures.counter c.at_once-count.ensures.made c.if-samples-taken.false (rw read at c.sample_in-made.ensures.takes) c.in-None.is in
     record { same = search rules; midway = midway }
 
-pub loop-taken-preserved : goal.loop-taken-preserved
-unfolding in_line is_on due_at at_once
-loop-taken-preserved g c =
-    let midway = both c.loop-taken.invariant.midway c.setting.ensures c.write_due-due.ensures _ refl c.at_once-m.ensures.made c.take_on-step.ensures.steps (ap taken_of c.in-TookAndWrote.is) in
+pub loop-out-preserved : goal.loop-out-preserved
+loop-out-preserved g c =
+    let x = get_or c.args.samples.now (c.loop-out.taken + c.at_once-count.result) (pos 0) in
+    let read : to_z w32 (of_z w32 x) ≡ x = search rules in
+    let midway = both c.loop-out.invariant.midway c.resampler-setting.ensures c.write_due-due.ensures c.if-out-written.false c.requires.kind c.at_once-count.ensures.kind c.at_once-count.ensures.fits c.at_once-count.ensures.counter c.at_once-count.ensures.made c.if-samples-taken.false (rw read at c.sample_in-made.ensures.takes) c.in-Some.is in
     record { same = search rules; midway = midway }
 
-pub returns-in-Stopped-clause-ran : goal.returns-in-Stopped-clause-ran
-unfolding in_line is_on due_at at_once
-returns-in-Stopped-clause-ran g c =
-    stopped c.loop-taken.invariant.midway c.setting.ensures c.write_due-due.ensures _ refl c.at_once-m.ensures.made c.take_on-step.ensures.steps (ap taken_of c.in-Stopped.is)
+pub returns-then-out-written-clause-ran : goal.returns-then-out-written-clause-ran
+returns-then-out-written-clause-ran g c = full c.loop-out.invariant.midway c.resampler-setting.ensures c.write_due-due.ensures c.if-out-written.true
+
+pub returns-then-samples-taken-clause-ran : goal.returns-then-samples-taken-clause-ran
+returns-then-samples-taken-clause-ran g c = ended c.loop-out.invariant.midway c.resampler-setting.ensures c.write_due-due.ensures c.if-out-written.false c.requires.kind c.at_once-count.ensures.kind c.at_once-count.ensures.fits c.at_once-count.ensures.counter c.at_once-count.ensures.made c.if-samples-taken.true

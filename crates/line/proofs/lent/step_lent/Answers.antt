@@ -23,17 +23,17 @@ unfolding step_outcome
 stepped l place x e v is = rw v (ap told is)
 
 pub returns-then-not-valid_at-clause-answer : goal.returns-then-not-valid_at-clause-answer
-returns-then-not-valid_at-clause-answer c = refused _ _ _ (tested _ c.fixed-f.ensures c.changing-s.ensures c.valid_at.ensures c.if-not-valid_at.true)
+returns-then-not-valid_at-clause-answer c = refused _ _ _ (tested _ c.fixed-f.ensures c.valid_at.ensures c.if-not-valid_at.true)
 
 pub step_on-step-requires : goal.step_on-step-requires
 unfolding in_line is_on due_at
 step_on-step-requires c =
     let a = c.args in
     let l : Line = line_in a.n.now a.lent.now in
-    let v = tested l c.fixed-f.ensures c.changing-s.ensures c.valid_at.ensures c.if-not-valid_at.false in
-    rw (c.fixed-f.ensures, c.changing-s.ensures) (bits_apart l v, due_limits l v)
+    let v = tested l c.fixed-f.ensures c.valid_at.ensures c.if-not-valid_at.false in
+    rw c.fixed-f.ensures (bits_apart l v, due_limits l v)
 
 pub returns-clause-answer : goal.returns-clause-answer
 returns-clause-answer c =
-    let v = tested _ c.fixed-f.ensures c.changing-s.ensures c.valid_at.ensures c.if-not-valid_at.false in
-    rw c.go_on.ensures (stepped _ _ _ _ v (rw (c.fixed-f.ensures, c.changing-s.ensures) at c.step_on-step.ensures.steps))
+    let v = tested _ c.fixed-f.ensures c.valid_at.ensures c.if-not-valid_at.false in
+    stepped _ _ _ _ v (rw c.fixed-f.ensures at c.step_on-step.ensures.steps)

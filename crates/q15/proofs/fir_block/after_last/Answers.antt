@@ -9,13 +9,14 @@ use Rattle.q15.proofs.fir_block.after_last.Goals as goal
 pub returns : goal.returns
 returns c =
     let a = c.args in
+    let t = a.settings.tap_count in
     let Z : List ℤ = a.tape.now in
-    let end = a.last + a.t in
+    let end = a.last + t in
     let rest : take (length Z - end) (drop end Z) ≡ drop end Z = take_all (length Z - end) (drop end Z) (omega (arith, length-drop end Z)) in
-    let count : end - a.last ≡ a.t = omega arith in
-    let window : c.copy_from_slice.new.self ≡ take a.t (drop a.last Z) = c.copy_from_slice.ensures.after ∙ ap (λ (n : ℕ). take n (drop a.last Z)) count in (
+    let count : end - a.last ≡ t = omega arith in
+    let window : c.copy_from_slice.new.self ≡ take t (drop a.last Z) = c.copy_from_slice.ensures.after ∙ ap (λ (n : ℕ). take n (drop a.last Z)) count in (
       c.store_run.ensures
-          ∙ ap₂ {C = List ℤ} (stored_run a.t a.factor) rest
-          (c.move_down.ensures ∙ ap (λ (x : List ℤ). moved a.t a.factor (x ++ drop a.t a.delay.now)) window),
+          ∙ ap₂ {C = List ℤ} (stored_run t a.settings.factor) rest
+          (c.move_down.ensures ∙ ap (λ (x : List ℤ). moved t a.settings.factor (x ++ drop t a.delay.now)) window),
       omega (arith, c.requires),
     )

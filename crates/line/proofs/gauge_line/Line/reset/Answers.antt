@@ -42,16 +42,16 @@ pub returns-in_err-self-clause-answer : goal.returns-in_err-self-clause-answer
 unfolding opening_of
 returns-in_err-self-clause-answer c =
     let l = c.args.self.now in
-    absurd (no_error l c.in_err-self.field-0.0 (sym c.line_valid.ensures ∙ c.if-not-line_valid.false) c.lengths.ensures.taps c.lengths.ensures.prototype c.in_err-self.ensures.answer)
+    absurd (no_error l c.in_err-self.field-0.0 (sym c.line_valid.ensures ∙ c.if-not-line_valid.false) c.lengths.ensures.taps c.lengths.ensures.prototype (rw c.numbers_in.ensures at c.in_err-self.ensures.answer))
 
 pub returns-in_err-self-clause-accepted : goal.returns-in_err-self-clause-accepted
 unfolding opening_of
 returns-in_err-self-clause-accepted c =
     let l = c.args.self.now in
-    λ v. absurd (no_error l c.in_err-self.field-0.0 v c.lengths.ensures.taps c.lengths.ensures.prototype c.in_err-self.ensures.answer)
+    λ v. absurd (no_error l c.in_err-self.field-0.0 v c.lengths.ensures.taps c.lengths.ensures.prototype (rw c.numbers_in.ensures at c.in_err-self.ensures.answer))
 
 pub returns-clause-answer : goal.returns-clause-answer
 unfolding reset opening_of
 returns-clause-answer c =
     let v : valid c.args.self.now ≡ true = sym c.line_valid.ensures ∙ c.if-not-line_valid.false in
-    rw v c.in_ok-self.ensures.answer
+    rw v (rw c.numbers_in.ensures at c.in_ok-self.ensures.answer)

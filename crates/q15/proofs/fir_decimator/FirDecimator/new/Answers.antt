@@ -4,7 +4,7 @@ use Rattle.q15.proofs.FirOpenings.{few_taps, fresh_streams}
 use Rattle.q15.proofs.fir_decimator.FirDecimator.new.Goals as goal
 
 pub fresh_state-requires : goal.fresh_state-requires
-fresh_state-requires c = few_taps c.args.taps.now c.args.factor (sym c.in_ok-settings_answer.ensures)
+fresh_state-requires c = few_taps c.args.taps.now c.args.factor (sym c.in_ok-answer.ensures)
 
 pub returns-clause-stream : goal.returns-clause-stream
-returns-clause-stream c = rw c.fresh_state.ensures (fresh_streams c.args.taps.now c.args.factor (sym c.in_ok-settings_answer.ensures))
+returns-clause-stream c = rw c.fresh_state.ensures (fresh_streams c.args.taps.now c.args.factor (sym c.in_ok-answer.ensures))
