@@ -1,56 +1,25 @@
--- A turn of the block's loop is many steps of a feed: the samples that complete no sum are taken at once, and the one that completes it writes a sum.
-use Rattle.std.proofs.Common.{◌≡◌, ℕ, suc, ◌+◌, ◌-◌, ◌<◌, ◌≤◌, Bool, true, false, ltb, List, [], ◌∷◌, length, get_or, take, drop, set, ℤ, pos, sym, refl, ap, ◌∙◌, subst, add-zero, arith, length-drop, drop_of_length-le, length-take-le, drop-cons, le-ltb, lt-ltb}
-use mathlib.Core.Path.{subst⁻¹}
+-- A block: samples that complete a sum, or none, are seen as a list of the section; of the whole block the sums are made first, and what is left completes none.
+use Rattle.std.proofs.Common.{◌≡◌, ℕ, suc, ◌+◌, ◌-◌, ◌*◌, ◌<◌, ◌≤◌, true, List, [], ◌∷◌, ◌++◌, length, take, drop, set, ℤ, pos, sym, refl, ap, ◌∙◌, add-zero, arith, le-ltb, lt-ltb, zero-mul, suc-mul, append-nil, length-drop, length-take-le, take-append-drop}
+use Rattle.std.proofs.lemmas.List.{take_more_set}
+use Rattle.std.proofs.Math.Seq.{take-add}
+use native.Mathlib.Decide.{dec_lt}
 use Rattle.std.specs.Prelude.{None, Some}
-use Rattle.theory.specs.Feeds.{both, stopped, head_of, step}
-use Rattle.theory.proofs.Machines.{Lawful, lawful_alone}
-use Rattle.theory.proofs.FeedLoop.{Midway, Quiet, after_quiet, after_both, after_stopped}
+use Rattle.theory.specs.Sections.{state, outs}
+use Rattle.theory.specs.Feeds.{Fed, feed}
+use Rattle.theory.proofs.Sections.{state_append, outs_append}
+use Rattle.theory.proofs.FeedLoop.{join}
+use Rattle.theory.proofs.FeedRules.{feed_full}
 use Rattle.integer.specs.Stages.{integrated, combed, ran}
-use Rattle.refusal.specs.Outcome.{Outcome}
-use Rattle.refusal.specs.declared.Moved.{Moved}
-use Rattle.integer.specs.CicDecimator.{decimator_of, valid, decimator, machine, fed_block, block, block_span, Underway}
+use Rattle.integer.specs.CicDecimator.{decimator_of, valid_at, decimator, machine, fed_block, block, block_span}
 use Rattle.integer.specs.declared.cic_decimator.CicDecimator.{CicDecimator}
-use Rattle.integer.proofs.Streaming.{valid_kept}
-
-abbrev pub Good : CicDecimator → Type 0
-Good d = valid d ≡ true
-
-pub law : Lawful machine 0 Good
-law = lawful_alone (pos 0) decimator 0 Good valid_kept
-
--- what holds between two steps goes by no proof of the law
-pub whichever : {d₀ : CicDecimator} {xs out₀ out : List ℤ} {d : CicDecimator} {t w : ℕ} (other : Lawful machine 0 Good)
-    → Midway machine 0 Good law d₀ xs out₀ out d t w → Midway machine 0 Good other d₀ xs out₀ out d t w
-whichever other m =
-    record { some_taken = m.some_taken; some_written = m.some_written; same = m.same; good = m.good; rest = m.rest; ahead = m.ahead }
-
-pub underway : {d₀ : CicDecimator} {xs out₀ out : List ℤ} {d : CicDecimator} {t w : ℕ} → Underway d₀ xs out₀ out d t w → Midway machine 0 Good law d₀ xs out₀ out d t w
-unfolding Underway
-underway made = made law
+use Rattle.integer.proofs.Within.{sound}
+use Rattle.integer.proofs.TakenWhole.{fed_whole, goes_on}
 
 module _ (N r : ℕ) (combs : List ℤ) where
-  -- the decimator after the samples w, which complete no sum
-  abbrev counted : List ℤ → ℤ → ℕ → List ℤ → CicDecimator
-  counted s v j w = decimator_of N r (ran N s v w).state combs (j + length w)
-
   pub waiting : (s : List ℤ) (j : ℕ) (x : ℤ) → j + 1 < r
       → (decimator.out (decimator_of N r s combs j) x ≡ None) × (decimator.next (decimator_of N r s combs j) x ≡ decimator_of N r (integrated N s x).state combs (j + 1))
   unfolding decimator
   waiting s j x h = rw (lt-ltb (j + 1) r h) (refl, refl)
-
-  quiet : (w s : List ℤ) (v : ℤ) (j : ℕ) → j + length w < r → Quiet machine w (decimator_of N r s combs j) (counted s v j w)
-  unfolding ran
-  quiet [] s v j h = ap (decimator_of N r s combs) (add-zero j)
-  quiet (x ∷ w) s v j h =
-      let p = integrated N s x in
-      let o = waiting s j x (omega arith) in
-      let e : j + 1 + length w ≡ j + suc (length w) = omega arith in (
-        refl,
-        o.0,
-        subst⁻¹ (λ (d : CicDecimator). Quiet machine w d (counted s v j (x ∷ w))) o.1
-            (subst (λ (k : ℕ). Quiet machine w (decimator_of N r p.state combs (j + 1)) (decimator_of N r (ran N p.state p.val w).state combs k)) e
-            (quiet w p.state p.val (j + 1) (omega arith))),
-      )
 
   completing : (s : List ℤ) (j : ℕ) (x : ℤ) → j + 1 ≡ r →
       let p = integrated N s x in
@@ -59,72 +28,131 @@ module _ (N r : ℕ) (combs : List ℤ) where
   unfolding decimator
   completing s j x h = rw (le-ltb (j + 1) r (omega arith)) (refl, refl)
 
-  module _ (d₀ : CicDecimator) (xs out₀ out : List ℤ) (s : List ℤ) (j t w : ℕ)
-      (mid : Midway machine 0 Good law d₀ xs out₀ out (decimator_of N r s combs j) t w) (room : w < length out₀) where
-    -- m samples that complete no sum
-    pub after_counting : (m : ℕ) → j + m < r → t + m ≤ length xs →
-        Midway machine 0 Good law d₀ xs out₀ out (decimator_of N r (ran N s (pos 0) (take m (drop t xs))).state combs (j + m)) (t + m) w
-    after_counting m h l =
-        let n : length (take m (drop t xs)) ≡ m = length-take-le m (drop t xs) (omega (arith, length-drop t xs)) in
-        let q : j + length (take m (drop t xs)) < r = omega arith in
-        after_quiet machine 0 Good law m d₀ xs out₀ out (decimator_of N r s combs j) _ t w mid room l
-        (subst (λ (k : ℕ). Quiet machine (take m (drop t xs)) (decimator_of N r s combs j) (decimator_of N r (ran N s (pos 0) (take m (drop t xs))).state combs (j + k))) n
-        (quiet (take m (drop t xs)) s (pos 0) j q))
+  -- samples that complete no sum
+  none_made : (w s : List ℤ) (v : ℤ) (j : ℕ) → j + length w < r →
+      (outs decimator (decimator_of N r s combs j) w ≡ [])
+      × (state decimator (decimator_of N r s combs j) w ≡ decimator_of N r (ran N s v w).state combs (j + length w))
+  unfolding ran
+  none_made [] s v j h = (refl, ap (decimator_of N r s combs) (sym (add-zero j)))
+  none_made (x ∷ w) s v j h =
+      let p = integrated N s x in
+      let o = waiting s j x (omega arith) in
+      let rest = none_made w p.state p.val (j + 1) (omega arith) in
+      let e : j + 1 + length w ≡ j + suc (length w) = omega arith in
+      rw (o.0, o.1) (rest.0, rest.1 ∙ ap (decimator_of N r (ran N p.state p.val w).state combs) e)
 
-    -- a sample that completes a sum
-    pub after_summing : j + 1 ≡ r → t < length xs →
-        let p = integrated N s (get_or xs t (pos 0)) in
-        let q = combed N combs p.val in
-        Midway machine 0 Good law d₀ xs out₀ (set out w q.val) (decimator_of N r p.state q.state 0) (t + 1) (w + 1)
-    after_summing h l =
-        let p = integrated N s (get_or xs t (pos 0)) in
-        let q = combed N combs p.val in
-        let c = completing s j (get_or xs t (pos 0)) h in
-        let there : ltb w (length out) ≡ true = lt-ltb w (length out) (let g = mid.same in omega arith) in
-        (after_both machine 0 Good law d₀ xs out₀ out (decimator_of N r s combs j) t w mid
-        (record { event = both q.val; line = decimator_of N r p.state q.state 0 })
-        (rw (there, drop-cons xs t (pos 0) l, c.0, c.1)) q.val refl).2
+  -- samples of which the last completes one
+  pub one_made : (w s : List ℤ) (v : ℤ) (j : ℕ) → 0 < length w → j + length w ≡ r →
+      let q = combed N combs (ran N s v w).val in
+      (outs decimator (decimator_of N r s combs j) w ≡ q.val ∷ [])
+      × (state decimator (decimator_of N r s combs j) w ≡ decimator_of N r (ran N s v w).state q.state 0)
+  unfolding ran
+  one_made [] s v j some h = absurd (omega arith)
+  one_made (x ∷ []) s v j some h = let c = completing s j x (omega arith) in rw (c.0, c.1) (refl, refl)
+  one_made (x ∷ y ∷ w) s v j some h =
+      let p = integrated N s x in
+      let o = waiting s j x (omega arith) in
+      rw (o.0, o.1) (one_made (y ∷ w) p.state p.val (j + 1) (omega arith) (omega arith))
 
--- where the loop stops, its locals are the block's answer and span
-module _ (d₀ : CicDecimator) (valid₀ : valid d₀ ≡ true) (xs out₀ out : List ℤ) (d : CicDecimator) (t w : ℕ) (mid : Midway machine 0 Good law d₀ xs out₀ out d t w) where
-  abbrev Finished : Type 0
-  Finished = (record { number = 0; value = record { taken = t; written = w }; state = d } ≡ block d₀ xs (length out₀)) × (out ≡ block_span d₀ xs out₀)
+-- the first sum has the samples that are missing to r
+pub first_made : (N r j : ℕ) (s c xs : List ℤ) → j < r → r - j ≤ length xs →
+    let p = ran N s (pos 0) (take (r - j) xs) in
+    let q = combed N c p.val in
+    let d = decimator_of N r p.state q.state 0 in
+    (q.val ∷ outs decimator d (drop (r - j) xs) ≡ outs decimator (decimator_of N r s c j) xs)
+    × (state decimator d (drop (r - j) xs) ≡ state decimator (decimator_of N r s c j) xs)
+first_made N r j s c xs h l =
+    let v = take (r - j) xs in
+    let rest = drop (r - j) xs in
+    let long : length v ≡ r - j = length-take-le (r - j) xs l in
+    let o = one_made N r c v s (pos 0) j (omega arith) (omega arith) in
+    let d = decimator_of N r s c j in (
+      sym (ap (outs decimator d) (sym (take-append-drop (r - j) xs)) ∙ outs_append decimator d v rest ∙ (rw (o.0, o.1) refl)),
+      sym (ap (state decimator d) (sym (take-append-drop (r - j) xs)) ∙ state_append decimator d v rest ∙ (rw o.1 refl)),
+    )
 
-  stop : record { event = stopped; line = d } ≡ step machine (ltb w (length out)) d (head_of (drop t xs)) → Finished
-  unfolding block block_span fed_block
-  stop by =
-      let e = after_stopped machine 0 Good law d₀ xs out₀ out d t w mid (record { event = stopped; line = d }) by refl in (
-        simp (valid₀, e.is_fed) (ap {B = Outcome Moved CicDecimator} (λ (k : ℕ). record { number = 0; value = record { taken = t; written = k }; state = d }) (sym e.count)),
-        simp (valid₀, e.is_fed) e.span,
-      )
+-- a sum more, of r samples, goes behind those that were made
+pub one_more : (N r : ℕ) (d₀ : CicDecimator) (xs out s c : List ℤ) (t w : ℕ) → 0 < r → t + r ≤ length xs → w < length out
+    → take w out ≡ outs decimator d₀ (take t xs) → decimator_of N r s c 0 ≡ state decimator d₀ (take t xs) →
+    let p = ran N s (pos 0) (take r (drop t xs)) in
+    let q = combed N c p.val in
+    (take (w + 1) (set out w q.val) ≡ outs decimator d₀ (take (t + r) xs)) × (decimator_of N r p.state q.state 0 ≡ state decimator d₀ (take (t + r) xs))
+one_more N r d₀ xs out s c t w some there place sums left =
+    let v = take r (drop t xs) in
+    let long : length v ≡ r = length-take-le r (drop t xs) (omega (arith, length-drop t xs)) in
+    let o = one_made N r c v s (pos 0) 0 (omega arith) (omega arith) in
+    let d = state decimator d₀ (take t xs) in (
+      take_more_set out w _ place ∙ (rw (take-add t r xs, outs_append decimator d₀ (take t xs) v, ← left, o.0, sums) refl),
+      rw (take-add t r xs, state_append decimator d₀ (take t xs) v, ← left) (sym o.1),
+    )
 
-  no_sample : (place : Bool) → record { event = stopped; line = d } ≡ step machine place d None
-  no_sample true = refl
-  no_sample false = refl
+-- a sum is made of every r samples at most
+few : (N r : ℕ) (w s c : List ℤ) (j : ℕ) → j < r → length (outs decimator (decimator_of N r s c j) w) * r ≤ j + length w
+few N r [] s c j h = omega (arith, zero-mul r)
+few N r (x ∷ w) s c j h = go (dec_lt (j + 1) r) (λ s' c' j' h'. few N r w s' c' j' h')
+  where
+    go :
+        Dec (j + 1 < r) → ((s' c' : List ℤ) (j' : ℕ) → j' < r → length (outs decimator (decimator_of N r s' c' j') w) * r ≤ j' + length w)
+        → length (outs decimator (decimator_of N r s c j) (x ∷ w)) * r ≤ j + length (x ∷ w)
+    go (yes l) ih =
+        let o = waiting N r c s j x l in
+        let more = ih (integrated N s x).state c (j + 1) l in
+        rw (o.0, o.1) (omega (arith, more))
+    go (no l) ih =
+        let p = integrated N s x in
+        let q = combed N c p.val in
+        let o = completing N r c s j x (omega arith) in
+        let more = ih p.state q.state 0 (omega arith) in
+        rw (o.0, o.1) (omega (arith, more, suc-mul (length (outs decimator (decimator_of N r p.state q.state 0) w)) r))
 
-  -- no sample is left
-  pub finished_samples : length xs ≤ t → Finished
-  finished_samples h = stop (no_sample (ltb w (length out)) ∙ ap (λ (l : List ℤ). step machine (ltb w (length out)) d (head_of l)) (sym (drop_of_length-le xs h)))
+-- a block by its feed
+by_fed : (d : CicDecimator) (xs : List ℤ) (span : List ℤ) (f : Fed CicDecimator ℤ) → valid_at d.stages d.r d.sample_counter ≡ true → feed machine d xs (length span) ≡ f →
+    (record { number = 0; value = record { taken = f.taken; written = length f.written }; state = f.line } ≡ block d xs (length span))
+    × (f.written ++ drop (length f.written) span ≡ block_span d xs span)
+unfolding block block_span fed_block
+by_fed d xs span f ok e = simp (ok, e) (refl, refl)
 
-  -- no place is left
-  pub finished_places : length out ≤ w → Finished
-  finished_places h = stop (ap (λ (b : Bool). step machine b d (head_of (drop t xs))) (sym (le-ltb w (length out) h)))
+module _ (N r j : ℕ) (s c : List ℤ) (ok : valid_at N r j ≡ true) (xs span made : List ℤ) (t w : ℕ) (d : CicDecimator) where
+  abbrev d₀ : CicDecimator
+  d₀ = decimator_of N r s c j
 
--- and so they are where the sums are made of a block
-module _
-    (N r : ℕ) (d₀ : CicDecimator) (valid₀ : valid d₀ ≡ true) (xs out₀ out s combs : List ℤ) (j t w : ℕ)
-    (made : Underway d₀ xs out₀ out (decimator_of N r s combs j) t w) where
-  -- the span is full
-  pub full : w ≡ length out → Finished d₀ valid₀ xs out₀ out (decimator_of N r s combs j) t w (underway made)
-  full h = let mid = underway made in finished_places d₀ valid₀ xs out₀ out _ t w mid (omega arith)
+  abbrev below : j < r
+  below = (sound N r j ok).below
 
-  -- the samples that are left complete no sum
-  pub all_taken : (after : List ℤ) → w < length out → t ≤ length xs → j + (length xs - t) < r → after ≡ (ran N s (pos 0) (take (length xs - t) (drop t xs))).state →
-      let d = decimator_of N r after combs (j + (length xs - t)) in
-      (record { number = 0; value = record { taken = length xs; written = w }; state = d } ≡ block d₀ xs (length out₀)) × (out ≡ block_span d₀ xs out₀)
-  all_taken after h some few e =
-      let mid = underway made in
-      let room : w < length out₀ = (let same = mid.same in omega arith) in
-      let all : t + (length xs - t) ≡ length xs = omega arith in
-      let later = after_counting N r combs d₀ xs out₀ out s j t w mid room (length xs - t) few (omega arith) in
-      rw e (finished_samples d₀ valid₀ xs out₀ out _ _ w (rw all at later) (omega arith))
+  abbrev fewer : (v : List ℤ) → length (outs decimator d₀ v) * r ≤ j + length v
+  fewer v = few N r v s c j below
+
+  module _ (sums : made ≡ outs decimator d₀ (take t xs)) (left : d ≡ state decimator d₀ (take t xs)) (many : length made ≡ w) (some : t ≤ length xs) where
+    -- they fill the span
+    pub full : w ≡ length span → t ≡ w * r - j →
+        (record { number = 0; value = record { taken = t; written = w }; state = d } ≡ block d₀ xs (length span)) × (made ++ drop w span ≡ block_span d₀ xs span)
+    full n e =
+        let v : List ℤ = take t xs in
+        let long : length v ≡ t = length-take-le t xs some in
+        let none : length span - length (outs decimator d₀ v) ≡ 0 = omega (arith, ap length sums) in
+        let fed : feed machine d₀ xs (length span) ≡ record { taken = t; written = made; line = d } =
+        ap (λ (l : List ℤ). feed machine d₀ l (length span)) (sym (take-append-drop t xs))
+        ∙ goes_on decimator r j d₀ fewer v (drop t xs) (length span) (rw (long, ← n, e) (omega arith))
+        ∙ ap (λ (k : ℕ). join (length v) (outs decimator d₀ v) (feed machine (state decimator d₀ v) (drop t xs) k)) none
+        ∙ ap (join (length v) (outs decimator d₀ v)) (feed_full machine (state decimator d₀ v) (drop t xs))
+        ∙ (rw (long, append-nil, add-zero, ← sums, ← left) refl)
+        in
+        rw many at (by_fed d₀ xs span (record { taken = t; written = made; line = d }) ok fed)
+
+    -- the samples behind them complete none
+    pub all_taken : (integrators combs last : List ℤ) (k : ℕ) → d ≡ decimator_of N r integrators combs k → length xs ≤ length span * r - j → k + (length xs - t) < r
+        → last ≡ (ran N integrators (pos 0) (drop t xs)).state →
+        let e : CicDecimator = decimator_of N r last combs (k + (length xs - t)) in
+        (record { number = 0; value = record { taken = length xs; written = w }; state = e } ≡ block d₀ xs (length span)) × (made ++ drop w span ≡ block_span d₀ xs span)
+    all_taken integrators combs last k is room few_left by =
+        let v : List ℤ = drop t xs in
+        let long : length v ≡ length xs - t = length-drop t xs in
+        let none = none_made N r combs v integrators (pos 0) k (omega arith) in
+        let whole : take t xs ++ v ≡ xs = take-append-drop t xs in
+        let e : CicDecimator = decimator_of N r last combs (k + (length xs - t)) in
+        let o : outs decimator d₀ xs ≡ made = ap (outs decimator d₀) (sym whole) ∙ outs_append decimator d₀ (take t xs) v ∙ (rw (← left, is, none.0, append-nil, ← sums) refl) in
+        let l : state decimator d₀ xs ≡ e = ap (state decimator d₀) (sym whole) ∙ state_append decimator d₀ (take t xs) v ∙ (rw (← left, is, none.1, long, ← by) refl) in
+        let fed : feed machine d₀ xs (length span) ≡ record { taken = length xs; written = made; line = e } =
+        fed_whole decimator r j d₀ fewer xs (length span) room ∙ (rw (o, l) refl)
+        in
+        rw many at (by_fed d₀ xs span (record { taken = length xs; written = made; line = e }) ok fed)

@@ -11,6 +11,7 @@ pub mod Towers
 pub mod Decimating
 pub mod Streaming
 pub mod ExactSums
+pub mod TakenWhole
 pub mod Blocking
 pub mod Stuffing
 pub mod Filling

@@ -18,7 +18,7 @@ use Rattle.integer.proofs.Within.{stages_within, factor_within, sound}
 use Rattle.integer.proofs.Decimating.{decimates}
 
 -- settings that are in their limits, and a counter below r
-valid_from : (N r counter : ℕ) → stages_ok N ≡ true → factor_ok r ≡ true → ltb counter r ≡ true → valid_at N r counter ≡ true
+pub valid_from : (N r counter : ℕ) → stages_ok N ≡ true → factor_ok r ≡ true → ltb counter r ≡ true → valid_at N r counter ≡ true
 unfolding valid_at
 valid_from N r counter s f c = rw (s, f, c)
 

@@ -4,8 +4,6 @@ use Rattle.theory.specs.Floor.{floor_div}
 use Rattle.theory.specs.Sections.{Section, state, outs}
 use Rattle.theory.specs.Machines.{Machine, alone}
 use Rattle.theory.specs.Feeds.{Fed, feed, History, Promised}
-use Rattle.theory.proofs.Machines.{Lawful}
-use Rattle.theory.proofs.FeedLoop.{Midway}
 use Rattle.refusal.specs.Outcome.{Outcome}
 use Rattle.refusal.specs.declared.Moved.{Moved}
 use Rattle.integer.specs.Limits.{most_stages, stages_ok, factor_ok}
@@ -100,11 +98,6 @@ block_span d w span =
     cond (valid d)
     ((fed_block d w (length span)).written ++ drop (length (fed_block d w (length span)).written) span)
     span
-
--- in a block: d is what `taken` samples of xs, which wrote `written` sums over the front of `before`, leave of d₀. For the contracts of private functions
-unfoldable pub Underway : CicDecimator → List ℤ → List ℤ → List ℤ → CicDecimator → ℕ → ℕ → Type 0
-Underway d₀ xs before after d taken written =
-    (law : Lawful machine 0 (λ s. valid s ≡ true)) → Midway machine 0 (λ s. valid s ≡ true) law d₀ xs before after d taken written
 
 -- What a decimator d of N stages and factor r keeps over every list of samples. Since each clause speaks of every list, output k is made at sample
 -- (k+1)r−1: a list one shorter has one output fewer

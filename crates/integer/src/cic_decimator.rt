@@ -1,9 +1,10 @@
 // 01, section 1: the cascaded integrator-comb decimator.
-ghost use Rattle.std.specs.Prelude.{◌≡◌, ◌+◌, ◌-◌, ◌*◌, ◌^◌, ◌<◌, ◌≤◌, true, cond, IfOk, None, length, nat_lt};
-ghost use Rattle.theory.specs.Sections.{outs};
+ghost use Rattle.std.specs.Prelude.{◌≡◌, ◌+◌, ◌-◌, ◌*◌, ◌^◌, ◌<◌, true, cond, IfOk, None, length, pos, nat_lt};
+ghost use Rattle.theory.specs.Sections.{state, outs};
 ghost use Rattle.refusal.specs.Outcome.{number_in, none_moved, told, told_on, told_opened};
 ghost use Rattle.integer.specs.Opening.{opening, on_state};
 ghost use Rattle.integer.specs.Gain.{gain_of, gain_bits, Least};
+ghost use Rattle.integer.specs.Stages.{combed, ran};
 ghost use Rattle.integer.specs.ExactSums.{ExactSums, ExactWithin, exact_range, no_ends};
 ghost use Rattle.integer.specs.CicDecimator as D;
 
@@ -69,35 +70,111 @@ pub fn sample_at(
     Some(comb(stages, combs, val))
 }
 
-// So many sums into the front of dst, from the samples that they take. The stages are held in locals, and the sample that completes a sum stands apart: where r
-// is 1 there is no other. The compiler knows the number of stages: it unrolls them, and holds them in registers.
-fn sums_of<const N: usize>(
+// The samples of a sum go through the integrators, and the value of the last one through the combs. The last stands apart: where r is 1 there is no other.
+fn sum_of(
+    stages: usize,
+    integrators: &mut [i32; MAX_STAGES],
+    combs: &mut [i32; MAX_STAGES],
+    samples: &[i32],
+) -> i32
+    requires { 0 < length samples.now }
+    ensures { let passed = ran stages integrators.old (pos 0) samples.now in
+        let handed_on = combed stages combs.old passed.val in
+        (integrators.new ≡ passed.state) × (combs.new ≡ handed_on.state) × (result ≡ handed_on.val) }
+{
+    let last = samples.len() - 1;
+    run_on(stages, integrators, &samples[..last]);
+    let val = integrate(stages, integrators, samples[last]);
+    comb(stages, combs, val)
+}
+
+// A sum of r samples for each place of dst. The stages are held in locals. The compiler knows the number of stages: it unrolls them, and holds them in registers.
+fn whole_sums_of<const N: usize>(
     r: usize,
-    sample_counter: usize,
     integrators: &mut [i32; MAX_STAGES],
     combs: &mut [i32; MAX_STAGES],
     src: &[i32],
     dst: &mut [i32],
-    count: usize,
 )
-    requires { (D.valid_at N r sample_counter ≡ true) × (count ≤ length dst.old) × (count * r ≤ length src.now + sample_counter) }
-    ensures { D.Underway (D.decimator_of N r integrators.old combs.old sample_counter) src.now dst.old dst.new (D.decimator_of N r integrators.new combs.new (sample_counter + (count * r - sample_counter) - count * r)) (count * r - sample_counter) count }
+    requires { (D.valid_at N r 0 ≡ true) × (length src.now ≡ length dst.old * r) }
+    ensures sums { dst.new ≡ outs D.decimator (D.decimator_of N r integrators.old combs.old 0) src.now }
+    ensures state { D.decimator_of N r integrators.new combs.new 0 ≡ state D.decimator (D.decimator_of N r integrators.old combs.old 0) src.now }
 {
     let mut held = *integrators;
     let mut kept = *combs;
     let mut taken = 0;
-    let mut last = r - sample_counter - 1;
-    for written in 0..count {
-        run_on(N, &mut held, &src[taken..last]);
-        let val = integrate(N, &mut held, src[last]);
-        dst[written] = comb(N, &mut kept, val);
-        taken = last + 1;
-        last += r;
+    for place in dst.iter_mut() {
+        *place = sum_of(N, &mut held, &mut kept, &src[taken..taken + r]);
+        taken += r;
     }
     *integrators = held;
     *combs = kept;
 }
 
+// The same of one stage. Where a sum has few samples, a loop over them costs more than they do, so r is a constant in the first arms.
+fn whole_sums_of_one(
+    r: usize,
+    integrators: &mut [i32; MAX_STAGES],
+    combs: &mut [i32; MAX_STAGES],
+    src: &[i32],
+    dst: &mut [i32],
+)
+    requires { (D.valid_at 1 r 0 ≡ true) × (length src.now ≡ length dst.old * r) }
+    ensures sums { dst.new ≡ outs D.decimator (D.decimator_of 1 r integrators.old combs.old 0) src.now }
+    ensures state { D.decimator_of 1 r integrators.new combs.new 0 ≡ state D.decimator (D.decimator_of 1 r integrators.old combs.old 0) src.now }
+{
+    match r {
+        2 => whole_sums_of::<1>(2, integrators, combs, src, dst),
+        3 => whole_sums_of::<1>(3, integrators, combs, src, dst),
+        4 => whole_sums_of::<1>(4, integrators, combs, src, dst),
+        5 => whole_sums_of::<1>(5, integrators, combs, src, dst),
+        6 => whole_sums_of::<1>(6, integrators, combs, src, dst),
+        7 => whole_sums_of::<1>(7, integrators, combs, src, dst),
+        8 => whole_sums_of::<1>(8, integrators, combs, src, dst),
+        _ => whole_sums_of::<1>(r, integrators, combs, src, dst),
+    }
+}
+
+fn whole_sums(
+    stages: usize,
+    r: usize,
+    integrators: &mut [i32; MAX_STAGES],
+    combs: &mut [i32; MAX_STAGES],
+    src: &[i32],
+    dst: &mut [i32],
+)
+    requires { (D.valid_at stages r 0 ≡ true) × (length src.now ≡ length dst.old * r) }
+    ensures sums { dst.new ≡ outs D.decimator (D.decimator_of stages r integrators.old combs.old 0) src.now }
+    ensures state { D.decimator_of stages r integrators.new combs.new 0 ≡ state D.decimator (D.decimator_of stages r integrators.old combs.old 0) src.now }
+{
+    match stages {
+        1 => whole_sums_of_one(r, integrators, combs, src, dst),
+        2 => whole_sums_of::<2>(r, integrators, combs, src, dst),
+        3 => whole_sums_of::<3>(r, integrators, combs, src, dst),
+        4 => whole_sums_of::<4>(r, integrators, combs, src, dst),
+        5 => whole_sums_of::<5>(r, integrators, combs, src, dst),
+        6 => whole_sums_of::<6>(r, integrators, combs, src, dst),
+        7 => whole_sums_of::<7>(r, integrators, combs, src, dst),
+        _ => whole_sums_of::<8>(r, integrators, combs, src, dst),
+    }
+}
+
+// A sum of which samples were taken before.
+fn begun_sum(
+    stages: usize,
+    integrators: &mut [i32; MAX_STAGES],
+    combs: &mut [i32; MAX_STAGES],
+    samples: &[i32],
+) -> i32
+    ensures { let passed = ran stages integrators.old (pos 0) samples.now in
+        let handed_on = combed stages combs.old passed.val in
+        (integrators.new ≡ passed.state) × (combs.new ≡ handed_on.state) × (result ≡ handed_on.val) }
+{
+    let val = run(stages, integrators, samples);
+    comb(stages, combs, val)
+}
+
+// A sum for each place of dst. One that has begun stands apart: all others have r samples, so that the loop over them looks at that number once.
 fn sums(
     stages: usize,
     r: usize,
@@ -106,21 +183,21 @@ fn sums(
     combs: &mut [i32; MAX_STAGES],
     src: &[i32],
     dst: &mut [i32],
-    count: usize,
 )
-    requires { (D.valid_at stages r sample_counter ≡ true) × (count ≤ length dst.old) × (count * r ≤ length src.now + sample_counter) }
-    ensures { D.Underway (D.decimator_of stages r integrators.old combs.old sample_counter) src.now dst.old dst.new (D.decimator_of stages r integrators.new combs.new (sample_counter + (count * r - sample_counter) - count * r)) (count * r - sample_counter) count }
+    requires { (D.valid_at stages r sample_counter ≡ true) × (length src.now ≡ length dst.old * r - sample_counter) }
+    ensures sums { dst.new ≡ outs D.decimator (D.decimator_of stages r integrators.old combs.old sample_counter) src.now }
+    ensures state { D.decimator_of stages r integrators.new combs.new (sample_counter + length src.now - length dst.old * r) ≡ state D.decimator (D.decimator_of stages r integrators.old combs.old sample_counter) src.now }
 {
-    match stages {
-        1 => sums_of::<1>(r, sample_counter, integrators, combs, src, dst, count),
-        2 => sums_of::<2>(r, sample_counter, integrators, combs, src, dst, count),
-        3 => sums_of::<3>(r, sample_counter, integrators, combs, src, dst, count),
-        4 => sums_of::<4>(r, sample_counter, integrators, combs, src, dst, count),
-        5 => sums_of::<5>(r, sample_counter, integrators, combs, src, dst, count),
-        6 => sums_of::<6>(r, sample_counter, integrators, combs, src, dst, count),
-        7 => sums_of::<7>(r, sample_counter, integrators, combs, src, dst, count),
-        _ => sums_of::<8>(r, sample_counter, integrators, combs, src, dst, count),
+    if sample_counter == 0 {
+        whole_sums(stages, r, integrators, combs, src, dst);
+        return;
     }
+    if dst.is_empty() {
+        return;
+    }
+    let first = r - sample_counter;
+    dst[0] = begun_sum(stages, integrators, combs, &src[..first]);
+    whole_sums(stages, r, integrators, combs, &src[first..], &mut dst[1..]);
 }
 
 // A block, the fields lent.
@@ -140,8 +217,16 @@ pub fn block_at(
     let counted = *sample_counter;
     state_answer(stages, r, counted)?;
     let written = dst.len().min((src.len() + counted) / r);
-    sums(stages, r, counted, integrators, combs, src, dst, written);
     let taken = (written * r).saturating_sub(counted);
+    sums(
+        stages,
+        r,
+        counted,
+        integrators,
+        combs,
+        &src[..taken],
+        &mut dst[..written],
+    );
     *sample_counter = counted + taken - written * r;
     if written == dst.len() {
         return Ok(Moved { taken, written });

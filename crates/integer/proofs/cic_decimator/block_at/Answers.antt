@@ -1,6 +1,6 @@
 -- It refuses where the state is not valid. Else it makes the sums that the samples complete and the span has places for; where a place is left, the samples after
 -- them complete no sum.
-use Rattle.std.proofs.Common.{◌≡◌, ◌+◌, ◌-◌, ◌*◌, ◌/◌, ◌<◌, ◌≤◌, min, ℕ, length, ap, le_trans, mul-le-mul_right, mod-lt, div-add-mod', div-mul-le_self, arith}
+use Rattle.std.proofs.Common.{◌≡◌, List, ℤ, ◌++◌, take, drop, refl, ◌∙◌, take_all, length-append, length-drop, length-take-le, ◌+◌, ◌-◌, ◌*◌, ◌/◌, ◌<◌, ◌≤◌, min, ℕ, length, ap, le_trans, mul-le-mul_right, mod-lt, div-add-mod', div-mul-le_self, add-mul, one-mul, arith}
 use Rattle.integer.proofs.Within.{accepted, sound}
 use Rattle.integer.proofs.Blocking.{full, all_taken}
 use Rattle.integer.proofs.cic_decimator.block_at.Goals as goal
@@ -11,12 +11,14 @@ enough count places r total e =
     let l : count ≤ total / r = omega (arith, e) in
     le_trans (mul-le-mul_right r l) (div-mul-le_self total r)
 
--- where a place is left, the samples have no sum more
-no_more : (count places r total : ℕ) → count ≡ min places (total / r) → 1 ≤ r → count < places → total < count * r + r
+-- where a place is left, the samples have no sum more, and all have a place
+no_more : (count places r total : ℕ) → count ≡ min places (total / r) → 1 ≤ r → count < places → (total < count * r + r) × (total ≤ places * r)
 no_more count places r total e some h =
     let q : count ≡ total / r = omega (arith, e) in
     let p : 0 < r = omega arith in
-    omega (arith, ap (λ n. n * r) q, div-add-mod' total r, mod-lt total p)
+    let next : count + 1 ≤ places = omega arith in
+    let less : total < count * r + r = omega (arith, ap (λ n. n * r) q, div-add-mod' total r, mod-lt total p) in
+    (less, omega (arith, less, mul-le-mul_right r next, add-mul count 1 r, one-mul r))
 
 pub overflow_add-src : goal.overflow_add-src
 overflow_add-src c = let n = sound _ _ _ (accepted _ c.in_ok-state_answer.ensures) in omega (arith, n.most, n.below, c.well_formed)
@@ -44,21 +46,48 @@ overflow_add-sample_counter-2 c =
     let n = sound _ _ _ (accepted _ c.in_ok-state_answer.ensures) in
     omega (arith, enough _ _ _ _ c.min-written.ensures, c.saturating_sub-taken.ensures, n.most, n.below, c.well_formed)
 
+-- the span's length after a call on its front
+span_long : (w : ℕ) (made dst : List ℤ) → length made ≡ w → w ≤ length dst → length (made ++ drop w dst) ≡ length dst
+span_long w made dst e h = omega (arith, e, length-append made (drop w dst), length-drop w dst)
+
 pub returns-then-written-dst : goal.returns-then-written-dst
 returns-then-written-dst c =
-    let made = rw (← c.saturating_sub-taken.ensures) at c.sums.ensures in
-    let done = full _ _ _ (accepted _ c.in_ok-state_answer.ensures) _ _ _ _ _ _ _ _ made c.if-written-dst.true in
+    let a = c.args in
+    let w = c.min-written.result in
+    let t = c.saturating_sub-taken.result in
+    let some : t ≤ length a.src.now = omega (arith, enough _ _ _ _ c.min-written.ensures, c.saturating_sub-taken.ensures) in
+    let room : w ≤ length a.dst.now = omega (arith, c.min-written.ensures) in
+    let lent : length (take t a.src.now) ≡ t = length-take-le t a.src.now some in
+    let places : length (take w a.dst.now) ≡ w = length-take-le w a.dst.now room in
+    let many : length c.sums.new.dst ≡ w = c.sums.auto.dst ∙ places in
+    let all : w ≡ length a.dst.now = c.if-written-dst.true ∙ span_long w c.sums.new.dst a.dst.now many room in
+    let left = rw (lent, places) at c.sums.ensures.state in
+    let done =
+    full _ _ _ _ _ (accepted _ c.in_ok-state_answer.ensures) a.src.now a.dst.now c.sums.new.dst t w _ c.sums.ensures.sums left many some all c.saturating_sub-taken.ensures
+    in
     record { answer = done.0; span = done.1 }
 
 pub returns : goal.returns
 returns c =
+    let a = c.args in
     let n = sound _ _ _ (accepted _ c.in_ok-state_answer.ensures) in
-    let made = rw (← c.saturating_sub-taken.ensures) at c.sums.ensures in
-    let room : c.min-written.result < length c.sums.new.dst = omega (arith, c.min-written.ensures, c.if-written-dst.false, c.sums.auto.dst) in
-    let none = no_more _ _ _ _ c.min-written.ensures n.least (omega (arith, c.sums.auto.dst)) in
-    let all = enough _ _ _ _ c.min-written.ensures in
-    let few : c.args.sample_counter.now + c.saturating_sub-taken.result - c.min-written.result * c.args.r + (length c.args.src.now - c.saturating_sub-taken.result) < c.args.r = omega (arith, all, none, n.below, c.saturating_sub-taken.ensures) in
+    let w = c.min-written.result in
+    let t = c.saturating_sub-taken.result in
+    let enough_samples = enough _ _ _ _ c.min-written.ensures in
+    let some : t ≤ length a.src.now = omega (arith, enough_samples, c.saturating_sub-taken.ensures) in
+    let room : w ≤ length a.dst.now = omega (arith, c.min-written.ensures) in
+    let lent : length (take t a.src.now) ≡ t = length-take-le t a.src.now some in
+    let places : length (take w a.dst.now) ≡ w = length-take-le w a.dst.now room in
+    let many : length c.sums.new.dst ≡ w = c.sums.auto.dst ∙ places in
+    let long = span_long w c.sums.new.dst a.dst.now many room in
+    let free : w < length a.dst.now = omega (arith, c.if-written-dst.false, long, room) in
+    let none = no_more _ _ _ _ c.min-written.ensures n.least free in
+    let left = rw (lent, places) at c.sums.ensures.state in
+    let rest : take (length a.src.now - t) (drop t a.src.now) ≡ drop t a.src.now = take_all _ _ (omega (arith, length-drop t a.src.now)) in
+    let last = rw rest at c.run.ensures.0 in
+    let few : a.sample_counter.now + t - w * a.r + (length a.src.now - t) < a.r = omega (arith, enough_samples, none.0, n.below, c.saturating_sub-taken.ensures) in
     let done =
-    all_taken _ _ _ (accepted _ c.in_ok-state_answer.ensures) _ _ _ _ _ _ _ _ made _ room (omega (arith, all, c.saturating_sub-taken.ensures)) few c.run.ensures.0
+    all_taken _ _ _ _ _ (accepted _ c.in_ok-state_answer.ensures) a.src.now a.dst.now c.sums.new.dst t w _ c.sums.ensures.sums left many some _ _ _ _ refl
+    (omega (arith, none.1)) few last
     in
     record { answer = done.0; span = done.1 }
