@@ -1,19 +1,15 @@
 -- A lent list copied to the front of an array of zeros, as many places as both have.
 use Rattle.std.proofs.Common.{◌≡◌, ℕ, zero, suc, ◌-◌, min, Bool, true, false, ltb, List, ◌++◌, length, take, drop, replicate, sym, refl, ap, ◌∙◌, ap₂, arith, take_all, ltb-true, ltb-false}
+use Rattle.std.proofs.lemmas.List.{drop-replicate}
 use lib.Ieee.{Float}
 use Rattle.float.specs.F32.{zero32}
 use Rattle.float.specs.PolyphaseResamp.{packed}
-
-drop_replicate : (n i : ℕ) → drop i (replicate n zero32) ≡ replicate (n - i) zero32
-drop_replicate n zero = ap (λ (k : ℕ). replicate k zero32) (let q : n ≡ n - 0 = omega arith in q)
-drop_replicate zero (suc i) = ap (λ (k : ℕ). replicate k zero32) (let q : 0 ≡ 0 - suc i = omega arith in q)
-drop_replicate (suc n) (suc i) = drop_replicate n i ∙ ap (λ (k : ℕ). replicate k zero32) (let q : n - i ≡ suc n - suc i = omega arith in q)
 
 pub packed_front : (h front : List Float) (n : ℕ) → n ≡ min (length h) 1024 → front ≡ take n h → front ++ drop n (replicate 1024 zero32) ≡ packed h
 unfolding packed
 packed_front h front n e f =
     let left : 1024 - n ≡ 1024 - length h = omega (arith, e) in
-    ap₂ {C = List Float} (λ a b. a ++ b) (f ∙ same (ltb 1024 (length h)) refl) (drop_replicate 1024 n ∙ ap (λ (k : ℕ). replicate k zero32) left)
+    ap₂ {C = List Float} (λ a b. a ++ b) (f ∙ same (ltb 1024 (length h)) refl) (drop-replicate n 1024 zero32 ∙ ap (λ (k : ℕ). replicate k zero32) left)
   where
     same : (b : Bool) → ltb 1024 (length h) ≡ b → take n h ≡ take 1024 h
     same true g = let all : n ≡ 1024 = omega (arith, e, ltb-true _ _ g) in ap (λ (k : ℕ). take k h) all
