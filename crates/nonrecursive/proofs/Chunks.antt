@@ -1,32 +1,24 @@
 -- A chunk of whole frames from the place 0: what the halvings make of it one after the other is what the samples make one by one.
-use mathlib.Core.Path.{◌≡◌, refl, sym, ap, ◌∙◌, subst}
+use mathlib.Core.Path.{◌≡◌, sym, ap, ◌∙◌, subst}
 use mathlib.Core.Bool.{true}
-use mathlib.Core.List.{List, [], ◌∷◌, map}
-use Prim.Native.Nat.{ℕ, suc, ◌+◌, ◌*◌, ◌%◌, ◌^◌, ◌≤◌, ◌<◌}
+use mathlib.Core.List.{List, map}
+use Prim.Native.Nat.{ℕ, ◌+◌, ◌*◌, ◌%◌, ◌^◌, ◌≤◌, ◌<◌}
 use native.Mathlib.Nat.{mod-eq_of_lt, mul-le-mul}
 use native.Mathlib.Omega.{arith}
 use lib.Arith.{digits_mod}
 use lib.IntN.{ℤ}
-use lib.ListN.{length}
+use lib.ListN.{length, length-map}
 use lib.Pow.{pow_pos}
 use mir.Syntax.{w32}
 use Rattle.theory.specs.Wrap.{wrap}
 use Rattle.theory.specs.Sections.{state, outs}
 use Rattle.integer.proofs.Within.{stages_within, factor_within}
-use Rattle.nonrecursive.specs.NonrecursiveDecimator.{halvings, nonrecursive_of, valid_at, valid, nonrecursive}
+use Rattle.nonrecursive.specs.NonrecursiveDecimator.{halvings, nonrecursive_of, valid_at, nonrecursive}
 use Rattle.nonrecursive.specs.Tape.{lined}
-use Rattle.nonrecursive.specs.declared.nonrecursive_decimator.NonrecursiveDecimator.{NonrecursiveDecimator}
 use Rattle.nonrecursive.proofs.Halvings.{power_is, few_halvings}
 use Rattle.nonrecursive.proofs.NonrecursiveStreaming.{Sound, sound, valid_parts}
-use Rattle.nonrecursive.proofs.StageByStage.{thinner, frames, frames_count, place_after}
+use Rattle.nonrecursive.proofs.StageByStage.{thinner, frames, place_after}
 use Rattle.nonrecursive.proofs.Framing.{as_thinner, state_thinner}
-
-length-map : (g : ℤ → ℤ) (l : List ℤ) → length (map g l) ≡ length l
-length-map g [] = refl
-length-map g (x ∷ l) = ap suc (length-map g l)
-
-abbrev Good : NonrecursiveDecimator → Type 0
-Good d = valid d ≡ true
 
 module _ (N r : ℕ) (ok : valid_at N r 0 ≡ true) where
   pub numbers : Sound N r
@@ -53,16 +45,13 @@ module _ (N r : ℕ) (ok : valid_at N r 0 ≡ true) where
     w = map (wrap w32) v
 
     size : length w ≡ count * 2 ^ m
-    size = length-map (wrap w32) v ∙ whole ∙ ap (λ (n : ℕ). count * n) power
+    size = length-map v (wrap w32) ∙ whole ∙ ap (λ (n : ℕ). count * n) power
 
     fits : m * N ≤ length s
     fits = omega (arith, enough, long)
 
     pub chunk_outs : outs nonrecursive (nonrecursive_of N r s 0) v ≡ (lined N m s w).vals
     chunk_outs = as_thinner N r power v s 0 ∙ (frames N m count w s size fits).0
-
-    pub chunk_count : length (outs nonrecursive (nonrecursive_of N r s 0) v) ≡ count
-    chunk_count = ap length chunk_outs ∙ frames_count N m count w s size
 
     place : (state (thinner N m) (s, 0) w).1 ≡ 0
     place =

@@ -42,9 +42,6 @@ module _ {S : Type 0} (f : Section S ℤ ℤ) where
     pub many : length (outs f s₀ (take t xs)) ≡ w
     pub span : after ≡ outs f s₀ (take t xs) ++ drop w before
 
-  pub none_made : (s₀ : S) (xs span₀ : List ℤ) → Made s₀ xs span₀ span₀ s₀ 0 0
-  none_made s₀ xs span₀ = record { left = refl; many = refl; span = refl }
-
   pub more_made : (s₀ s s' : S) (xs span₀ span new : List ℤ) (t w k n : ℕ) → Made s₀ xs span₀ span s t w
       → new ≡ outs f s (take k (drop t xs)) → s' ≡ state f s (take k (drop t xs)) → length new ≡ n
       → Made s₀ xs span₀ (take w span ++ (new ++ drop n (drop w span))) s' (t + k) (w + n)

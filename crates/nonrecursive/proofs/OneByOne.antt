@@ -16,7 +16,7 @@ use Rattle.theory.specs.Machines.{Machine, alone}
 use Rattle.theory.specs.Feeds.{Fed, took, both, stopped, Stepped, head_of, taking, step, feed}
 use Rattle.theory.proofs.Machines.{Lawful, lawful_alone}
 use Rattle.theory.proofs.Feeds.{step_not}
-use Rattle.theory.proofs.FeedLoop.{Midway, start, after_took, after_both, after_stopped}
+use Rattle.theory.proofs.FeedLoop.{Midway, after_took, after_both, after_stopped}
 use Rattle.nonrecursive.specs.Tape.{put}
 
 module _ {S : Type 0} (f : Section S ℤ ℤ) where
@@ -32,9 +32,6 @@ module _ {S : Type 0} (f : Section S ℤ ℤ) where
   -- t values of xs are taken and w places written
   abbrev pub Done : S → List ℤ → List ℤ → List ℤ → S → ℕ → ℕ → Type 0
   Done s₀ xs out₀ out s t w = Midway m 0 Any law s₀ xs out₀ out s t w
-
-  pub begun : (s₀ : S) (xs out₀ : List ℤ) → Done s₀ xs out₀ out₀ s₀ 0 0
-  begun s₀ xs out₀ = start m 0 Any law s₀ xs out₀ tt
 
   module _ (s₀ : S) (xs out₀ out : List ℤ) (s : S) (t w : ℕ) (mid : Done s₀ xs out₀ out s t w) where
     pub one : w < length out → t < length xs → (x : ℤ) → x ≡ get_or xs t (pos 0) → (o : Option ℤ) → o ≡ f.out s x → Done s₀ xs out₀ (put out w o) (f.next s x) (t + 1) (w + length (onto o []))
