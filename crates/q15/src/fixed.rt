@@ -31,7 +31,8 @@ fn nearest_end(x: i64) -> i16
     if x < 0 { -32768 } else { 32767 }
 }
 
-// Section 2, and the end of every FIR sum: held at the ends of the 16-bit range. One test for both ends, so that the compiler makes several of a block at once.
+// Section 2, and the end of every FIR sum: held at the ends of the 16-bit range. One test for both ends, so that the compiler makes several of a block at once: a `clamp`
+// and a comparison take twice as long where taps are few.
 #[tactic(auto, unfolding(crate::specs::Fixed::is_cut, crate::specs::Fixed::cut))]
 pub fn cut_q15(x: i64) -> Cut
     ensures { (result.value.0 ≡ cut w16 x) × (result.cut ≡ is_cut w16 x) }
