@@ -147,6 +147,9 @@ fn whole_sums(
     ensures sums { dst.new ≡ outs D.decimator (D.decimator_of stages r integrators.old combs.old 0) src.now }
     ensures state { D.decimator_of stages r integrators.new combs.new 0 ≡ state D.decimator (D.decimator_of stages r integrators.old combs.old 0) src.now }
 {
+    if dst.is_empty() {
+        return;
+    }
     match stages {
         1 => whole_sums_of_one(r, integrators, combs, src, dst),
         2 => whole_sums_of::<2>(r, integrators, combs, src, dst),
