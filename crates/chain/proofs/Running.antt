@@ -10,7 +10,7 @@ use native.Mathlib.Omega.{arith}
 use borrow.Author.Tests.{le-leb}
 use lib.IntN.{ℤ, pos}
 use lib.Ieee.{Float}
-use lib.ListN.{length, get_or, take, drop, length-append, length-drop, length-map}
+use lib.ListN.{length, get_or, take, drop, length-append, length-map}
 use lib.Seq.{length-take-le, take_at, take_all}
 use mir.Syntax.{w16}
 use Rattle.refusal.specs.Outcome.{Outcome, told_on, value_in, none_moved}

@@ -27,7 +27,7 @@ use Rattle.half_band.specs.Limits.{most_stages}
 use Rattle.half_band.specs.declared.hbf_stream.HbfStream.{HbfStream}
 use Rattle.half_band.specs.HbfTaps.{decimation_five}
 use Rattle.half_band.proofs.Streaming.{depth_next}
-use Rattle.float.proofs.Flags.{both_true}
+use Rattle.std.proofs.lemmas.Bool.{and_parts}
 use Rattle.chain.specs.Counting.{or_one, stages_left}
 use Rattle.theory.proofs.Counting.{came, CountsDown}
 
@@ -57,7 +57,7 @@ thin_period t = t.cic.r
 thin_below : (t : Thinner) → ThinGood t → t.cic.sample_counter < t.cic.r
 unfolding fine
 thin_below t g =
-    either_below t.kind t.cic.stages t.cic.r t.cic.sample_counter (both_true (valid_at t.kind t.cic.stages t.cic.r t.cic.sample_counter) _ g).0
+    either_below t.kind t.cic.stages t.cic.r t.cic.sample_counter (and_parts (valid_at t.kind t.cic.stages t.cic.r t.cic.sample_counter) _ g).0
 
 thin_left_lem : (r k : ℕ) → k < r → cond (ltb (k + 1) r) (r - (k + 1)) (r - 0) ≡ cond (leb (r - k) 1) r (r - k - 1)
 thin_left_lem r k g = go (ltb (k + 1) r) refl

@@ -47,11 +47,5 @@ pub(crate) fn filter(
         &mut filtered,
     );
     clock.cuts = held_sum(clock.cuts, at.cuts as u32);
-    levels_in(
-        f,
-        &mut clock.mu,
-        lent,
-        &filtered[..at.written],
-        out,
-    )
+    levels_in(f, &mut clock.mu, lent, &filtered[..at.written], out)
 }

@@ -43,12 +43,6 @@ pub(crate) fn levels_in(
     let mut tape = [0.0f32; MOST_SUMS];
     put_levels(&mut tape, values);
     let front = &mut tape[..values.len()];
-    let made = hbf_stream_block_at(
-        f.settings.depth,
-        lent.delays,
-        lent.held,
-        lent.counts,
-        front,
-    );
+    let made = hbf_stream_block_at(f.settings.depth, lent.delays, lent.held, lent.counts, front);
     resample(f, mu, lent.delay, lent.prototype, &front[..made], out)
 }

@@ -2,15 +2,16 @@
 use Rattle.std.proofs.Common.{◌≡◌, ℕ, zero, suc, ◌+◌, ◌*◌, ◌%◌, ◌<◌, ◌≤◌, Bool, true, false, cond, T, ltb, leb, List, get_or, pos, sym, refl, ap, ◌∙◌, ap₂, le_trans, le_of_lt, mul-le-mul_right, mod-lt, mod-eq_of_lt, suc-mul, mul_comm, mul-le-mul, add-one, arith, lit≤, le→leb, leb→le, ltb-true, lt-ltb, leb-true}
 use native.Mathlib.Nat.{mod_self}
 use lib.Ieee.{Float, nan, binary32, of_int, in_float, to_unsigned, add, sub, mul}
+use Rattle.std.proofs.lemmas.Nat.{mul-add-lt}
 use Rattle.float.specs.F32.{one32, zero32, blend}
 use Rattle.float.specs.PolyphaseOutput.{tap, straight_tap, reading, cut_unit, place, phase0, phase1, first_place, second_place, fraction, phase_sum, output}
 use Rattle.float.specs.PolyphaseResamp.{within, in_limits, Inside}
-use Rattle.float.proofs.Flags.{both_true}
+use Rattle.std.proofs.lemmas.Bool.{and_parts}
 use Rattle.float.proofs.Place.{cut_cut}
 
 within_says : (least most n : ℕ) → within least most n ≡ true → (least ≤ n) × (n ≤ most)
 unfolding within
-within_says least most n h = let b = both_true (leb least n) (leb n most) h in (leb-true _ _ b.0, leb-true _ _ b.1)
+within_says least most n h = let b = and_parts (leb least n) (leb n most) h in (leb-true _ _ b.0, leb-true _ _ b.1)
 
 -- what 12 leaves
 pub record Limits (P T : ℕ) : Type 0 where
@@ -22,7 +23,7 @@ pub record Limits (P T : ℕ) : Type 0 where
 pub limits_say : (P T : ℕ) → in_limits P T ≡ true → Limits P T
 unfolding in_limits
 limits_say P T h =
-    let b = both_true (within 2 64 P) (within 1 16 T) h in
+    let b = and_parts (within 2 64 P) (within 1 16 T) h in
     let p = within_says 2 64 P b.0 in
     let t = within_says 1 16 T b.1 in
     record { some_phases = p.0; few_phases = p.1; some_taps = t.0; few_taps = t.1 }
@@ -43,13 +44,9 @@ few_cells P T l = mul-le-mul l.few_phases l.few_taps
 before : (t n P : ℕ) → t < n → t * P + P ≤ n * P
 before t n P h = let q : suc t * P ≤ n * P = mul-le-mul_right P h in omega (arith, suc-mul t P)
 
--- tap t of phase p lies in the prototype, and in its array
-pub cell : (t P p T : ℕ) → t < T → p < P → t * P + p < P * T
-cell t P p T h m = omega (arith, before t T P h, mul_comm P T)
-
 pub phase_inside : (P T p : ℕ) → Limits P T → p < P → Inside P T p
 unfolding Inside
-phase_inside P T p l m t h = omega (arith, cell t P p T h m, few_cells P T l)
+phase_inside P T p l m t h = omega (arith, mul-add-lt t P p T h m, few_cells P T l)
 
 -- so do the places up to P + 1 of all taps but the last
 pub near : (t P p T : ℕ) → 2 ≤ P → t + 1 < T → p ≤ P + 1 → t * P + p < P * T
@@ -88,7 +85,7 @@ unfolding tap straight_tap
 read_before h P T p t l = rw (lt-ltb (t * P + p) (P * T) l)
 
 pub sums_before : (h d : List Float) (P T p : ℕ) → p < P → phase_sum (tap h P p) d T ≡ phase_sum (straight_tap h P T p) d T
-sums_before h d P T p m = sums_alike (tap h P p) (straight_tap h P T p) d d T (λ t a. read_before h P T p t (cell t P p T a m)) (λ t a. refl) T (omega arith)
+sums_before h d P T p m = sums_alike (tap h P p) (straight_tap h P T p) d d T (λ t a. read_before h P T p t (mul-add-lt t P p T a m)) (λ t a. refl) T (omega arith)
 
 -- in straight phase, the last tap's cell i added to the sum of all others
 pub last_straight :
@@ -188,7 +185,7 @@ module _
 
     tap_alike : (p : ℕ) → p < P → (t : ℕ) → t < T → tap h P p t ≡ tap k P p t
     unfolding tap
-    tap_alike p m t a = cells (t * P + p) (cell t P p T a m)
+    tap_alike p m t a = cells (t * P + p) (mul-add-lt t P p T a m)
 
     pub outputs_alike : (straight : Bool) (mu : Float) → output straight P T mu d h ≡ output straight P T mu e k
     unfolding output reading first_place second_place phase0 phase1

@@ -16,7 +16,8 @@ use Rattle.float.specs.F32.{zero32, one32, largest32, above_zero}
 use Rattle.float.specs.PolyphaseResamp.{in_limits, mu_from, lowest_mu, valid_at, least_line_step, most_line_step, step_in_line, valid_in_line_at, valid, valid_in_line, consumed, passed, is_on, in_line, fresh}
 use Rattle.float.specs.declared.polyphase_resamp.PolyphaseResampF32.{PolyphaseResampF32}
 use Rattle.float.proofs.PolyphaseOutput.{Limits, limits_say}
-use Rattle.float.proofs.Flags.{both_true, both_so, or_right, is, is_not, so, not_so}
+use Rattle.std.proofs.lemmas.Bool.{and_parts, and_from, or_right}
+use Rattle.float.proofs.Flags.{is, is_not, so, not_so}
 
 -- ---- what the tests say
 -- finite and above zero
@@ -31,7 +32,7 @@ above_zero_lem (fin false m e) t u = lt→ltb 0 m (first_pos m (up e) (let h = l
 above_says : (step : Float) → above_zero step ≡ true → StepPos step
 unfolding above_zero of_bits
 above_says step h =
-    let b = both_true (lt zero32 step) (le step largest32) h in
+    let b = and_parts (lt zero32 step) (le step largest32) h in
     (above_zero_lem step (is (lt zero32 step) b.0) (is (le step largest32) b.1), is (le step largest32) b.1)
 
 zero_below : (x : Float) → T (positive x) → T (lt zero_f x)
@@ -43,7 +44,7 @@ zero_below (fin false m e) p = lt→ltb (0 * down e) (m * up e * 1) (let h : 0 <
 
 above_so : (step : Float) → StepPos step → above_zero step ≡ true
 unfolding above_zero of_bits
-above_so step p = both_so (lt zero32 step) (le step largest32) (so (lt zero32 step) (zero_below step p.0)) (so (le step largest32) p.1)
+above_so step p = and_from (lt zero32 step) (le step largest32) (so (lt zero32 step) (zero_below step p.0)) (so (le step largest32) p.1)
 
 -- of an f32 the test says what 01 does: above zero and finite
 pub above_zero_is : (x : Float) → fits binary32 x ≡ true → above_zero x ≡ (lt zero32 x && finite x)
@@ -69,12 +70,12 @@ at_most_largest x f h = same x ∙ sym (ap (λ (b : Bool). b && finite x) h) ∙
 wide_says : (step mu : Float) → mu_from lowest_mu step mu ≡ true → InWide step mu
 unfolding mu_from of_bits
 wide_says step mu h =
-    let b = both_true (le lowest_mu mu) (le mu (add binary32 one32 step)) h in
+    let b = and_parts (le lowest_mu mu) (le mu (add binary32 one32 step)) h in
     (is (le lowest_mu mu) b.0, is (le mu (add binary32 one32 step)) b.1)
 
 wide_so : (step mu : Float) → InWide step mu → mu_from lowest_mu step mu ≡ true
 unfolding mu_from of_bits
-wide_so step mu w = both_so (le lowest_mu mu) (le mu (add binary32 one32 step)) (so (le lowest_mu mu) w.0) (so (le mu (add binary32 one32 step)) w.1)
+wide_so step mu w = and_from (le lowest_mu mu) (le mu (add binary32 one32 step)) (so (le lowest_mu mu) w.0) (so (le mu (add binary32 one32 step)) w.1)
 
 -- ---- beside the line
 record Valid (s : PolyphaseResampF32) : Type 0 where
@@ -85,15 +86,15 @@ record Valid (s : PolyphaseResampF32) : Type 0 where
 valid_says : (s : PolyphaseResampF32) → valid s ≡ true → Valid s
 unfolding valid valid_at
 valid_says s h =
-    let a = both_true (in_limits s.phases s.taps) (above_zero s.step && mu_from lowest_mu s.step s.mu) h in
-    let b = both_true (above_zero s.step) (mu_from lowest_mu s.step s.mu) a.1 in
+    let a = and_parts (in_limits s.phases s.taps) (above_zero s.step && mu_from lowest_mu s.step s.mu) h in
+    let b = and_parts (above_zero s.step) (mu_from lowest_mu s.step s.mu) a.1 in
     record { limits = a.0; above = b.0; range = wide_says s.step s.mu b.1 }
 
 valid_so : (s : PolyphaseResampF32) → Valid s → valid s ≡ true
 unfolding valid valid_at
 valid_so s v =
-    both_so (in_limits s.phases s.taps) (above_zero s.step && mu_from lowest_mu s.step s.mu) v.limits
-    (both_so (above_zero s.step) (mu_from lowest_mu s.step s.mu) v.above (wide_so s.step s.mu v.range))
+    and_from (in_limits s.phases s.taps) (above_zero s.step && mu_from lowest_mu s.step s.mu) v.limits
+    (and_from (above_zero s.step) (mu_from lowest_mu s.step s.mu) v.above (wide_so s.step s.mu v.range))
 
 pub valid_in_limits : (s : PolyphaseResampF32) → valid s ≡ true → in_limits s.phases s.taps ≡ true
 valid_in_limits s h = (valid_says s h).limits
@@ -129,7 +130,7 @@ valid_fresh straight P T h step l a =
 pub step_says : (step : Float) → step_in_line step ≡ true → StepOk step
 unfolding step_in_line of_bits
 step_says step h =
-    let b = both_true (le least_line_step step) (le step most_line_step) h in
+    let b = and_parts (le least_line_step step) (le step most_line_step) h in
     (is (le least_line_step step) b.0, is (le step most_line_step) b.1)
 
 step_pos : (step : Float) → StepOk step → StepPos step
@@ -139,12 +140,12 @@ step_pos step s = let p : T (positive step) = step_positive step s in (p, le_tra
 range_says : (step mu : Float) → mu_from zero32 step mu ≡ true → InRange step mu
 unfolding mu_from of_bits
 range_says step mu h =
-    let b = both_true (le zero32 mu) (le mu (add binary32 one32 step)) h in
+    let b = and_parts (le zero32 mu) (le mu (add binary32 one32 step)) h in
     (is (le zero32 mu) b.0, is (le mu (add binary32 one32 step)) b.1)
 
 range_so : (step mu : Float) → InRange step mu → mu_from zero32 step mu ≡ true
 unfolding mu_from of_bits
-range_so step mu w = both_so (le zero32 mu) (le mu (add binary32 one32 step)) (so (le zero32 mu) w.0) (so (le mu (add binary32 one32 step)) w.1)
+range_so step mu w = and_from (le zero32 mu) (le mu (add binary32 one32 step)) (so (le zero32 mu) w.0) (so (le mu (add binary32 one32 step)) w.1)
 
 pub record ValidOn (s : PolyphaseResampF32) : Type 0 where
   pub limits : in_limits s.phases s.taps ≡ true
@@ -158,16 +159,16 @@ on_says s o h = go (eqb s.phases 0) o h
     go : (b : Bool) → not b ≡ true → (b || (in_limits s.phases s.taps && (step_in_line s.step && mu_from zero32 s.step s.mu))) ≡ true → ValidOn s
     go true o h = absurd (false≢true o)
     go false o h =
-        let a = both_true (in_limits s.phases s.taps) (step_in_line s.step && mu_from zero32 s.step s.mu) h in
-        let b = both_true (step_in_line s.step) (mu_from zero32 s.step s.mu) a.1 in
+        let a = and_parts (in_limits s.phases s.taps) (step_in_line s.step && mu_from zero32 s.step s.mu) h in
+        let b = and_parts (step_in_line s.step) (mu_from zero32 s.step s.mu) a.1 in
         record { limits = a.0; steps = b.0; range = range_says s.step s.mu b.1 }
 
 on_so : (s : PolyphaseResampF32) → ValidOn s → valid_in_line s ≡ true
 unfolding valid_in_line valid_in_line_at
 on_so s v =
     or_right (eqb s.phases 0) (in_limits s.phases s.taps && (step_in_line s.step && mu_from zero32 s.step s.mu))
-    (both_so (in_limits s.phases s.taps) (step_in_line s.step && mu_from zero32 s.step s.mu) v.limits
-    (both_so (step_in_line s.step) (mu_from zero32 s.step s.mu) v.steps (range_so s.step s.mu v.range)))
+    (and_from (in_limits s.phases s.taps) (step_in_line s.step && mu_from zero32 s.step s.mu) v.limits
+    (and_from (step_in_line s.step) (mu_from zero32 s.step s.mu) v.steps (range_so s.step s.mu v.range)))
 
 -- a state that is on and accepted is inside 12's limits
 pub on_in_limits : (s : PolyphaseResampF32) → is_on s ≡ true → valid_in_line s ≡ true → in_limits s.phases s.taps ≡ true
@@ -205,7 +206,7 @@ Rank k s = is_on s ≡ true → AtLeast k s.mu
 -- of a due output
 due_says : (s : PolyphaseResampF32) → in_line.due s ≡ true → (is_on s ≡ true) × (lt s.mu one32 ≡ true)
 unfolding in_line
-due_says s d = both_true (is_on s) (lt s.mu one32) d
+due_says s d = and_parts (is_on s) (lt s.mu one32) d
 
 line_after : (s : PolyphaseResampF32) → valid_in_line s ≡ true → in_line.due s ≡ true → valid_in_line (in_line.after s) ≡ true
 unfolding in_line

@@ -8,7 +8,8 @@ use lib.Ieee.Digits.{size-lt, size_reaches, size-le}
 use lib.Ieee.Fits.{down_pos, kept-lt}
 use lib.Ieee.Positive.{num, den}
 use Rattle.theory.proofs.FloatOrder.{nonneg, le→cross, cross→le}
-use Rattle.float.proofs.Flags.{both_true, is, is_not, so}
+use Rattle.std.proofs.lemmas.Bool.{and_parts}
+use Rattle.float.proofs.Flags.{is, is_not, so}
 
 -- ---- a count n of the smallest f32: the digits that its pattern drops, those that it keeps, and the pattern
 abbrev dropped : ℕ → ℕ
@@ -81,7 +82,7 @@ all_whole = fin false 1 (pos 24)
 over_negative : (w m : ℕ) (e : ℤ) → le (fin false 1 (pos w)) (fin true m e) ≡ true → ⊥
 unfolding le lt eq
 over_negative w m e h =
-    let b = both_true (eqb (1 * 2 ^ w * down e) (m * up e * 1)) (eqb (1 * 2 ^ w * down e) 0) h in
+    let b = and_parts (eqb (1 * 2 ^ w * down e) (m * up e * 1)) (eqb (1 * 2 ^ w * down e) 0) h in
     let z : 1 * 2 ^ w * down e ≡ 0 = eqb-true _ _ b.1 in
     let p : 0 < 1 * 2 ^ w * down e = mul-pos (mul-pos (omega arith) (pow_pos w)) (down_pos e) in
     omega arith

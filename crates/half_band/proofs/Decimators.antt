@@ -18,7 +18,7 @@ use Rattle.half_band.specs.declared.hbf_dec.HbfDec.{HbfDec}
 use Rattle.refusal.proofs.Limits.{Between, not_outside}
 use Rattle.half_band.proofs.Choices.{third}
 use Rattle.half_band.proofs.Moving.{length_slid}
-use Rattle.half_band.proofs.Filling.{take_replicate}
+use Rattle.std.proofs.lemmas.List.{take-replicate}
 use Rattle.half_band.proofs.Stored as stored
 use Rattle.half_band.proofs.WholeLists.{pairs_taken, decimator_whole}
 
@@ -77,7 +77,7 @@ fresh_meets c b =
       whole = λ v.
           outs_window d u (pairs v)
           ∙ ap (λ (t : List Float). outs (decimator t) (dec_window d) (pairs v)) (take_at c (replicate (23 - length c) zero32) (length c) refl)
-          ∙ ap (λ (w : List Float). outs (decimator c) w (pairs v)) (take_replicate (4 * length c) 96 zero32 (omega (arith, b.most)))
+          ∙ ap (λ (w : List Float). outs (decimator c) w (pairs v)) (take-replicate (4 * length c) 96 zero32 (omega (arith, b.most)))
           ∙ decimator_whole c b.least v;
     }
   where

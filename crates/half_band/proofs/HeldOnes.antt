@@ -8,6 +8,7 @@ use native.Mathlib.Omega.{arith}
 use native.Mathlib.Decide.{dec_le, dec_lt}
 use borrow.Author.Tests.{leb-true, le-leb}
 use lib.Dec.{eqb, leb, eqb-suc-zero}
+use Rattle.std.proofs.lemmas.Bool.{and_parts}
 use lib.ListN.{length, get_or, set, take, replicate, get_or-replicate}
 use lib.Seq.{length-take-le, get_or-take}
 use lib.Ieee.{Float}
@@ -28,15 +29,11 @@ use Rattle.half_band.proofs.Reaching.{stream_reaches}
 abbrev pub AtMostOne : ℕ → List ℕ → Type 0
 AtMostOne n counts = (j : ℕ) → j < n → get_or counts j 0 ≤ 1
 
-and_both : (a b : Bool) → a && b ≡ true → (a ≡ true) × (b ≡ true)
-and_both true b e = (refl, e)
-and_both false b e = absurd (false≢true e)
-
 pub held_says : (n : ℕ) (counts : List ℕ) → held_fine n counts ≡ true → AtMostOne n counts
 unfolding held_fine
 held_says zero counts e j h = absurd (omega arith)
 held_says (suc n) counts e j h =
-    let p = and_both (held_fine n counts) (leb (get_or counts n 0) 1) e in
+    let p = and_parts (held_fine n counts) (leb (get_or counts n 0) 1) e in
     elim (dec_lt j n) [
       | yes l ↦ held_says n counts p.0 j l
       | no l ↦ (let q : n ≡ j = omega arith in subst (λ (i : ℕ). get_or counts i 0 ≤ 1) q (leb-true (get_or counts n 0) 1 p.1))

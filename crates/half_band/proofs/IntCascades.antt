@@ -25,7 +25,7 @@ use Rattle.half_band.specs.declared.hbf_int_cascade.HbfIntCascade.{HbfIntCascade
 use Rattle.refusal.proofs.Limits.{Between, not_outside}
 use Rattle.half_band.proofs.Choices.{third}
 use Rattle.half_band.proofs.Blocks.{outs_length}
-use Rattle.half_band.proofs.Filling.{drop_replicate, take_replicate}
+use Rattle.std.proofs.lemmas.List.{drop-replicate, take-replicate}
 use Rattle.half_band.proofs.Moving.{length_slid}
 use Rattle.half_band.proofs.Parts.{part_long, part_found, part_elsewhere, length_with}
 use Rattle.half_band.proofs.WholeLists.{interpolator_whole}
@@ -220,7 +220,7 @@ module _ (taps : ℕ → List Float) (five : FiveStages taps) where
   -- from zeros
   fresh_window : (k : ℕ) → k < 5 → int_stage taps k (replicate 240 zero32) ≡ replicate (2 * length (taps k)) zero32
   fresh_window k h =
-      ap (take (2 * length (taps k))) (drop_replicate (48 * k) 240 zero32) ∙ take_replicate (2 * length (taps k)) (240 - 48 * k) zero32 (let m = five.most k h in omega arith)
+      ap (take (2 * length (taps k))) (drop-replicate (48 * k) 240 zero32) ∙ take-replicate (2 * length (taps k)) (240 - 48 * k) zero32 (let m = five.most k h in omega arith)
 
   fresh_up : (n k : ℕ) (v : List Float) → k + n ≤ 5 → (up k (windows_from n k (replicate 240 zero32)) v).outs ≡ interpolated_by taps k n v
   unfolding interpolated_by

@@ -19,7 +19,7 @@ use Rattle.half_band.specs.declared.hbf_int.HbfInt.{HbfInt}
 use Rattle.refusal.proofs.Limits.{Between, not_outside}
 use Rattle.half_band.proofs.Choices.{third}
 use Rattle.half_band.proofs.Moving.{length_slid}
-use Rattle.half_band.proofs.Filling.{take_replicate}
+use Rattle.std.proofs.lemmas.List.{take-replicate}
 use Rattle.half_band.proofs.Stored as stored
 use Rattle.half_band.proofs.WholeLists.{interpolator_whole}
 
@@ -77,7 +77,7 @@ fresh_meets c b =
           ap flat
           (outs_window d u v
           ∙ ap (λ (t : List Float). outs (interpolator t) (int_window d) v) (take_at c (replicate (23 - length c) zero32) (length c) refl)
-          ∙ ap (λ (w : List Float). outs (interpolator c) w v) (take_replicate (2 * length c) 48 zero32 (omega (arith, b.most))))
+          ∙ ap (λ (w : List Float). outs (interpolator c) w v) (take-replicate (2 * length c) 48 zero32 (omega (arith, b.most))))
           ∙ interpolator_whole c b.least v;
     }
   where

@@ -16,7 +16,7 @@ use Rattle.float.specs.F32.{zero32}
 use Rattle.half_band.specs.Windows.{slid, dec_value, pairs, decimator}
 use Rattle.half_band.specs.HbfStream.{Half, half, stage_in, stream, stream_fresh}
 use Rattle.half_band.specs.declared.hbf_stream.HbfStream.{HbfStream}
-use Rattle.half_band.proofs.Filling.{drop_replicate, take_replicate}
+use Rattle.std.proofs.lemmas.List.{drop-replicate, take-replicate}
 use Rattle.half_band.proofs.WholeLists.{decimator_whole}
 use Rattle.half_band.proofs.Along.{outs_along, state_along}
 use Rattle.half_band.specs.HbfTaps.{FiveStages}
@@ -83,9 +83,9 @@ module _ (taps : ℕ → List Float) (five : FiveStages taps) where
   unfolding stage_in
   fresh_stage d k h =
       let m = five.most k h in
-      ap {B = Half} (λ (w : List Float). record { window = take (4 * length (taps k)) w; held = get_or (replicate 5 zero32) k nan; count = get_or (replicate {A = ℕ} 5 0) k 0 }) (drop_replicate (96 * k) 480 zero32)
+      ap {B = Half} (λ (w : List Float). record { window = take (4 * length (taps k)) w; held = get_or (replicate 5 zero32) k nan; count = get_or (replicate {A = ℕ} 5 0) k 0 }) (drop-replicate (96 * k) 480 zero32)
       ∙ ap {B = Half} (λ (w : List Float). record { window = w; held = get_or (replicate 5 zero32) k nan; count = get_or (replicate {A = ℕ} 5 0) k 0 })
-      (take_replicate (4 * length (taps k)) (480 - 96 * k) zero32 (omega arith))
+      (take-replicate (4 * length (taps k)) (480 - 96 * k) zero32 (omega arith))
       ∙ ap {B = Half} (λ (y : Float). record { window = replicate (4 * length (taps k)) zero32; held = y; count = get_or (replicate {A = ℕ} 5 0) k 0 }) (get_or-replicate 5 k zero32 nan h)
       ∙ ap {B = Half} (λ (n : ℕ). record { window = replicate (4 * length (taps k)) zero32; held = zero32; count = n }) (get_or-replicate {A = ℕ} 5 k 0 0 h)
 

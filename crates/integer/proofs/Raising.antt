@@ -133,10 +133,6 @@ module _ (N r : ℕ) (combs₀ integrators : List ℤ) (w span : List ℤ) where
     pub kept : combs ≡ cond (ltb i (length w)) (combed N combs₁ (get_or w i (pos 0))).state combs₁
     pub summed : held ≡ cond (ltb i (length w)) (integrated 1 held₁ (combed N combs₁ (get_or w i (pos 0))).val).state held₁
 
-  pub entered_first : (combs held : List ℤ) → combs ≡ cond (ltb 0 (length w)) (combed N combs₀ (get_or w 0 (pos 0))).state combs₀
-      → held ≡ cond (ltb 0 (length w)) (integrated 1 integrators (combed N combs₀ (get_or w 0 (pos 0))).val).state integrators → Entered combs held span 0 0
-  entered_first combs held k s = record { combs₁ = combs₀; held₁ = integrators; before = starts; kept = k; summed = s }
-
   pub span_kept : {combs held out : List ℤ} {taken written : ℕ} → Entered combs held out taken written → length w * r ≤ length span → length out ≡ length span
   span_kept l fits = same_span _ _ _ _ _ l.before fits
 

@@ -24,7 +24,7 @@ use Rattle.chain.specs.Batched.{Whole, Batched, Leaves, most_sums}
 use Rattle.line.specs.Outputs.{most_cuts}
 use Rattle.line.specs.Line.{line, thinner_of, parts_of}
 use Rattle.line.specs.declared.gauge_line.Line.{Line}
-use Rattle.line.proofs.Flags.{and_left}
+use Rattle.std.proofs.lemmas.Bool.{and_parts}
 use Rattle.line.proofs.Lawful.{Good, line_lawful, to_parts}
 use Rattle.line.proofs.Left.{left, left_are, left_long, none_behind}
 use Rattle.line.proofs.Numbers.{counter_below}
@@ -33,7 +33,7 @@ use Rattle.line.proofs.Batching.{after_line_batch}
 
 valid_of : (l : Line) → fine (thinner_of l) ≡ true → valid_at l.thinning l.cic.stages l.cic.r l.cic.sample_counter ≡ true
 unfolding fine
-valid_of l h = and_left (valid_at l.thinning l.cic.stages l.cic.r l.cic.sample_counter) _ h
+valid_of l h = (and_parts (valid_at l.thinning l.cic.stages l.cic.r l.cic.sample_counter) _ h).0
 
 module _ {l₀ : Line} {xs : List ℤ} {out₀ out : List Float} {l : Line} {t w : ℕ} (mid : Midway line 64 Good line_lawful l₀ xs out₀ out l t w)
     {q : Setting} (setting : q ≡ setting_of l.resampler) {e : Emitted} (due : e ≡ emitted_from q.straight q.phases q.taps q.step l.resampler.delay l.resampler.prototype l.resampler.mu w out) where

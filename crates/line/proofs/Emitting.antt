@@ -1,6 +1,6 @@
 -- The outputs that are due, all at once: the line writes them one after the other, and then its span is full or nothing is due.
 use mathlib.Core.Path.{◌≡◌, refl, sym, ◌∙◌}
-use mathlib.Core.Bool.{Bool, true, false, not, true≢false}
+use mathlib.Core.Bool.{Bool, true, false, not, true≢false, and-false}
 use mathlib.Core.List.{List}
 use Prim.Native.Nat.{ℕ, ◌+◌, ◌-◌, ◌<◌}
 use native.Mathlib.Omega.{arith}
@@ -23,7 +23,6 @@ use Rattle.float.specs.declared.polyphase_resamp.PolyphaseResampF32.{PolyphaseRe
 use Rattle.line.specs.Line.{line}
 use Rattle.line.specs.declared.gauge_line.Line.{Line}
 use Rattle.line.proofs.Lawful.{Good, line_lawful}
-use Rattle.line.proofs.Flags.{and-false}
 use Rattle.line.proofs.Numbers.{due_limits}
 
 -- the line with another mu

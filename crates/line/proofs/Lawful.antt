@@ -29,11 +29,11 @@ use Rattle.float.specs.Level.{level}
 use Rattle.chain.specs.Chain.{Parts, from3, from4, from5, chain}
 use Rattle.line.specs.Line.{thinner_of, parts_of, counted_of, of_counted, cuts_at, line, half_band_fine, valid}
 use Rattle.line.specs.declared.gauge_line.Line.{Line}
-use Rattle.line.proofs.Flags.{and_left, and_right, and_both, not_says, not_is}
+use Rattle.std.proofs.lemmas.Bool.{and_parts, and_from, not-true, not_from_false}
 
 half_band_kept : (s : HbfStream) (x : Float) → half_band_fine s ≡ true → half_band_fine (hbf_stream.next s x) ≡ true
 unfolding half_band_fine
-half_band_kept s x h = not_is _ (line_next_not_refused s x (not_says _ h))
+half_band_kept s x h = not_from_false _ (line_next_not_refused s x (not-true _ h))
 
 -- the machine from each section on, with what is asked of its states
 abbrev Good5 : PolyphaseResampF32 → Type 0
@@ -76,13 +76,13 @@ to_parts l h =
     let b : Bool = Q.valid_in_line l.fir in
     let d : Bool = half_band_fine l.half_band in
     let e : Bool = valid_in_line l.resampler in
-    let r : b && (d && e) ≡ true = and_right a (b && (d && e)) h in
-    let s : d && e ≡ true = and_right b (d && e) r in
-    (and_left a (b && (d && e)) h, (tt, (and_left b (d && e) r, (tt, (and_left d e s, and_right d e s)))))
+    let r : b && (d && e) ≡ true = (and_parts a (b && (d && e)) h).1 in
+    let s : d && e ≡ true = (and_parts b (d && e) r).1 in
+    ((and_parts a (b && (d && e)) h).0, (tt, ((and_parts b (d && e) r).0, (tt, ((and_parts d e s).0, (and_parts d e s).1)))))
 
 pub of_parts : (l : Line) → Good1 (parts_of l) → valid l ≡ true
 unfolding valid
-of_parts l g = and_both _ _ g.0 (and_both _ _ g.1.1.0 (and_both _ _ g.1.1.1.1.0 g.1.1.1.1.1))
+of_parts l g = and_from _ _ g.0 (and_from _ _ g.1.1.0 (and_from _ _ g.1.1.1.1.0 g.1.1.1.1.1))
 
 -- the count changes nothing of it
 law0 : Lawful (tallied most_cuts cuts_at chain) 64 (λ p. Good1 p.0)

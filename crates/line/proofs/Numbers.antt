@@ -23,7 +23,7 @@ use Rattle.line.specs.Together.{bits_at, valid_at}
 use Rattle.line.specs.Lent.{numbers_in, fixed_in}
 use Rattle.line.specs.declared.gauge_line.Line.{Line}
 use Rattle.chain.specs.declared.fixed.Fixed.{Fixed}
-use Rattle.line.proofs.Flags.{and_left, not_says}
+use Rattle.std.proofs.lemmas.Bool.{and_parts, not-true}
 use Rattle.line.proofs.Lawful.{to_parts}
 
 -- row 15 of section 1, but for its gain bits
@@ -32,11 +32,11 @@ valid_of l = E.valid_at l.thinning l.cic.stages l.cic.r l.cic.sample_counter
 
 pub counter_below : (l : Line) → valid l ≡ true → l.cic.sample_counter < l.cic.r
 unfolding E.fine
-counter_below l v = either_below l.thinning l.cic.stages l.cic.r l.cic.sample_counter (and_left (valid_of l) _ (to_parts l v).0)
+counter_below l v = either_below l.thinning l.cic.stages l.cic.r l.cic.sample_counter (and_parts (valid_of l) _ (to_parts l v).0).0
 
 pub due_limits : (l : Line) → valid l ≡ true → line.due l ≡ true → in_limits l.resampler.phases l.resampler.taps ≡ true
 unfolding in_line is_on
-due_limits l v d = on_in_limits l.resampler (and_left (not (eqb l.resampler.phases 0)) _ d) (to_parts l v).1.1.1.1.1
+due_limits l v d = on_in_limits l.resampler (and_parts (not (eqb l.resampler.phases 0)) _ d).0 (to_parts l v).1.1.1.1.1
 
 -- the tests of a line held apart are those of the line
 pub valid_apart : (l : Line) → valid_at (fixed_in (numbers_in l)) (numbers_in l).clock l.half_band.counts ≡ valid l
@@ -53,7 +53,7 @@ tested l ef eb ev = sym (valid_apart l) ∙ sym (rw ef at eb) ∙ ev
 
 pub bits_apart : (l : Line) → valid l ≡ true → (fixed_in (numbers_in l)).bits ≡ gain_bits l.cic.stages l.cic.r
 unfolding E.fine bits_at
-bits_apart l v = ap (λ (b : Bool). cond b (gain_bits l.cic.stages l.cic.r) 64) (and_left (valid_of l) _ (to_parts l v).0)
+bits_apart l v = ap (λ (b : Bool). cond b (gain_bits l.cic.stages l.cic.r) 64) (and_parts (valid_of l) _ (to_parts l v).0).0
 
 -- the taps and the prototype of a valid line lie in its arrays
 pub few_taps : (l : Line) → valid l ≡ true → l.fir.tap_count ≤ most_taps
@@ -78,7 +78,7 @@ fir_fine l v = settings_valid l.fir.tap_count l.fir.factor l.fir.wait (to_parts 
 
 half_band_fine_lem : (l : Line) → valid l ≡ true → depth_number l.half_band.depth ≡ 0
 unfolding depth_number half_band_fine
-half_band_fine_lem l v = rw (le-ltb 5 l.half_band.depth (line_few _ _ (not_says _ (to_parts l v).1.1.1.1.0)))
+half_band_fine_lem l v = rw (le-ltb 5 l.half_band.depth (line_few _ _ (not-true _ (to_parts l v).1.1.1.1.0)))
 
 resampler_fine : (l : Line) → valid l ≡ true → (n : ℕ) → l.resampler.phases ≡ n → resampler_number l.resampler.phases l.resampler.taps (l.resampler.phases * l.resampler.taps) l.resampler.step ≡ 0
 unfolding resampler_number is_on

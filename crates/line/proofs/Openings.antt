@@ -36,7 +36,7 @@ use Rattle.float.specs.Level.{level}
 use Rattle.refusal.proofs.Limits.{first_none}
 use Rattle.line.specs.Outputs.{Opening, levels, Resampled, Outputs}
 use Rattle.line.specs.Line.{line, half_band_fine, valid, depth_number, resampler_number, number_at, opening_number_of, resampler_fresh, fresh}
-use Rattle.line.proofs.Flags.{and_both, not_is}
+use Rattle.std.proofs.lemmas.Bool.{and_from, not_from_false}
 use Rattle.line.proofs.Lawful.{line_all}
 
 -- where no refusal applies, a test that would refuse holds
@@ -105,9 +105,9 @@ module _ (o : Opening) (ok : Accepted o) where
   pub fresh_valid : valid (fresh o) ≡ true
   unfolding valid fresh resampler_fresh half_band_fine
   fresh_valid =
-      and_both _ _ (either_opens o.settings.thinning o.settings.stages o.settings.r ok.thinned)
-      (and_both _ _ (FirOpening.line_fresh_valid o.taps o.settings.factor ok.filter)
-      (and_both _ _ (not_is _ (line_fresh_not_refused o.settings.depth ok.depth)) (resampler_valid o.settings.phases refl)))
+      and_from _ _ (either_opens o.settings.thinning o.settings.stages o.settings.r ok.thinned)
+      (and_from _ _ (FirOpening.line_fresh_valid o.taps o.settings.factor ok.filter)
+      (and_from _ _ (not_from_false _ (line_fresh_not_refused o.settings.depth ok.depth)) (resampler_valid o.settings.phases refl)))
 
   resampled : (v : List Float) (n : ℕ) → o.settings.phases ≡ n → Resampled n o v (all in_line 64 resampler v)
   resampled v zero e = rw e (off_hands_on R.zeros v (unfold R.zeros in refl))

@@ -87,13 +87,7 @@ fn fir_in(f: Fixed, clock: &mut Clock, lent: &mut Arrays<'_>, value: Q15) -> Opt
     ensures counter { clock.new.sample_counter ≡ clock.old.sample_counter }
 {
     let settings = f.settings.fir(f.tap_count);
-    let made = fir_at(
-        lent.fir_delay,
-        lent.taps,
-        settings,
-        &mut clock.wait,
-        value,
-    );
+    let made = fir_at(lent.fir_delay, lent.taps, settings, &mut clock.wait, value);
     match made {
         None => None,
         Some(y) => {

@@ -12,7 +12,7 @@ use Rattle.refusal.proofs.Limits.{Between, not_outside}
 use Rattle.float.specs.F32.{zero32}
 use Rattle.half_band.specs.Windows.{slid}
 use Rattle.half_band.specs.HbfIntCascade.{joined}
-use Rattle.half_band.proofs.Filling.{take_replicate}
+use Rattle.std.proofs.lemmas.List.{take-replicate}
 use Rattle.half_band.proofs.Moving.{length_slid}
 use Rattle.half_band.proofs.Stored as stored
 use Rattle.linear_phase.specs.LinearPhase.{reach, phase_filtered}
@@ -127,5 +127,5 @@ fresh_streams odd antisymmetric c b =
     whole v =
         outs_delay (phase_fresh odd antisymmetric c) (stored.fresh_usable 46 c b) v
         ∙ ap (λ (t : List Float). outs (linear_phase odd antisymmetric t) (take (reach odd (length c)) (replicate 46 zero32)) v) (take_at c (replicate (23 - length c) zero32) (length c) refl)
-        ∙ ap (λ (w : List Float). outs (linear_phase odd antisymmetric c) w v) (take_replicate (reach odd (length c)) 46 zero32 (omega (arith, (reaches odd (length c) b.least).most, b.most)))
+        ∙ ap (λ (w : List Float). outs (linear_phase odd antisymmetric c) w v) (take-replicate (reach odd (length c)) 46 zero32 (omega (arith, (reaches odd (length c) b.least).most, b.most)))
         ∙ from_zeros odd antisymmetric c b.least v

@@ -1,35 +1,24 @@
--- A chunk of whole frames from the place 0: what the halvings make of it one after the other is what the samples make one by one, and the feed goes on behind it.
-use mathlib.Core.Path.{◌≡◌, refl, sym, ap, ◌∙◌, subst}
+-- A chunk of whole frames from the place 0: what the halvings make of it one after the other is what the samples make one by one.
+use mathlib.Core.Path.{◌≡◌, sym, ap, ◌∙◌, subst}
 use mathlib.Core.Bool.{true}
-use mathlib.Core.List.{List, [], ◌∷◌, map}
-use Prim.Native.Nat.{ℕ, suc, ◌+◌, ◌-◌, ◌*◌, ◌%◌, ◌^◌, ◌≤◌, ◌<◌}
-use native.Mathlib.Nat.{mod-eq_of_lt, mul-le-mul, mul-le-mul_right}
+use mathlib.Core.List.{List, map}
+use Prim.Native.Nat.{ℕ, ◌+◌, ◌*◌, ◌%◌, ◌^◌, ◌≤◌, ◌<◌}
+use native.Mathlib.Nat.{mod-eq_of_lt, mul-le-mul}
 use native.Mathlib.Omega.{arith}
 use lib.Arith.{digits_mod}
 use lib.IntN.{ℤ}
-use lib.ListN.{length, take, drop, length-drop}
+use lib.ListN.{length, length-map}
 use lib.Pow.{pow_pos}
-use lib.Seq.{length-take-le}
 use mir.Syntax.{w32}
 use Rattle.theory.specs.Wrap.{wrap}
 use Rattle.theory.specs.Sections.{state, outs}
-use Rattle.theory.proofs.Machines.{Lawful}
-use Rattle.theory.proofs.FeedLoop.{Midway}
 use Rattle.integer.proofs.Within.{stages_within, factor_within}
-use Rattle.nonrecursive.specs.NonrecursiveDecimator.{halvings, nonrecursive_of, valid_at, valid, nonrecursive, machine}
-use Rattle.nonrecursive.specs.Tape.{lined, put_all}
-use Rattle.nonrecursive.specs.declared.nonrecursive_decimator.NonrecursiveDecimator.{NonrecursiveDecimator}
+use Rattle.nonrecursive.specs.NonrecursiveDecimator.{halvings, nonrecursive_of, valid_at, nonrecursive}
+use Rattle.nonrecursive.specs.Tape.{lined}
 use Rattle.nonrecursive.proofs.Halvings.{power_is, few_halvings}
 use Rattle.nonrecursive.proofs.NonrecursiveStreaming.{Sound, sound, valid_parts}
-use Rattle.nonrecursive.proofs.StageByStage.{thinner, frames, frames_count, place_after}
-use Rattle.nonrecursive.proofs.Framing.{after_list, as_thinner, state_thinner, room_for}
-
-length-map : (g : ℤ → ℤ) (l : List ℤ) → length (map g l) ≡ length l
-length-map g [] = refl
-length-map g (x ∷ l) = ap suc (length-map g l)
-
-abbrev Good : NonrecursiveDecimator → Type 0
-Good d = valid d ≡ true
+use Rattle.nonrecursive.proofs.StageByStage.{thinner, frames, place_after}
+use Rattle.nonrecursive.proofs.Framing.{as_thinner, state_thinner}
 
 module _ (N r : ℕ) (ok : valid_at N r 0 ≡ true) where
   pub numbers : Sound N r
@@ -56,16 +45,13 @@ module _ (N r : ℕ) (ok : valid_at N r 0 ≡ true) where
     w = map (wrap w32) v
 
     size : length w ≡ count * 2 ^ m
-    size = length-map (wrap w32) v ∙ whole ∙ ap (λ (n : ℕ). count * n) power
+    size = length-map v (wrap w32) ∙ whole ∙ ap (λ (n : ℕ). count * n) power
 
     fits : m * N ≤ length s
     fits = omega (arith, enough, long)
 
     pub chunk_outs : outs nonrecursive (nonrecursive_of N r s 0) v ≡ (lined N m s w).vals
     chunk_outs = as_thinner N r power v s 0 ∙ (frames N m count w s size fits).0
-
-    pub chunk_count : length (outs nonrecursive (nonrecursive_of N r s 0) v) ≡ count
-    chunk_count = ap length chunk_outs ∙ frames_count N m count w s size
 
     place : (state (thinner N m) (s, 0) w).1 ≡ 0
     place =
@@ -78,20 +64,3 @@ module _ (N r : ℕ) (ok : valid_at N r 0 ≡ true) where
         sym (state_thinner N r power v s 0
         ∙ ap (λ (l : List ℤ). nonrecursive_of N r l (state (thinner N m) (s, 0) w).1) (frames N m count w s size fits).1
         ∙ ap (nonrecursive_of N r (lined N m s w).state) place)
-
-  -- the feed behind a chunk
-  pub after_chunk :
-      (law : Lawful machine 0 Good) (d₀ : NonrecursiveDecimator) (xs out₀ out s s' : List ℤ) (t k count : ℕ) → t + count * r ≤ length xs → k + count ≤ length out
-      → nonrecursive_of N r s' 0 ≡ state nonrecursive (nonrecursive_of N r s 0) (take (count * r) (drop t xs))
-      → length (outs nonrecursive (nonrecursive_of N r s 0) (take (count * r) (drop t xs))) ≡ count
-      → Midway machine 0 Good law d₀ xs out₀ out (nonrecursive_of N r s 0) t k
-      → Midway machine 0 Good law d₀ xs out₀ (put_all out k (outs nonrecursive (nonrecursive_of N r s 0) (take (count * r) (drop t xs)))) (nonrecursive_of N r s' 0) (t + count * r) (k + count)
-  after_chunk law d₀ xs out₀ out s s' t k count h g es ec mid =
-      let v = take (count * r) (drop t xs) in
-      let long : length v ≡ count * r = length-take-le (count * r) (drop t xs) (omega (arith, length-drop t xs)) in
-      let places : count ≤ length out₀ - k = (let e = mid.same in omega arith) in
-      let much : count * r ≤ (length out₀ - k) * r = mul-le-mul_right r places in
-      let n = after_list nonrecursive Good law d₀ xs out₀ v out (nonrecursive_of N r s 0) t k mid (ap (λ (q : ℕ). take q (drop t xs)) long) (room_for N r power v s 0 (length out₀ - k) positive (omega (arith, long, much))) in
-      subst (λ (q : ℕ). Midway machine 0 Good law d₀ xs out₀ (put_all out k (outs nonrecursive (nonrecursive_of N r s 0) v)) (nonrecursive_of N r s' 0) (t + count * r) (k + q)) ec
-      (subst (λ (q : ℕ). Midway machine 0 Good law d₀ xs out₀ (put_all out k (outs nonrecursive (nonrecursive_of N r s 0) v)) (nonrecursive_of N r s' 0) (t + q) (k + length (outs nonrecursive (nonrecursive_of N r s 0) v))) long
-      (subst (λ (d : NonrecursiveDecimator). Midway machine 0 Good law d₀ xs out₀ (put_all out k (outs nonrecursive (nonrecursive_of N r s 0) v)) d (t + length v) (k + length (outs nonrecursive (nonrecursive_of N r s 0) v))) (sym es) n))

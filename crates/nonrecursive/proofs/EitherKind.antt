@@ -7,6 +7,7 @@ use Rattle.std.specs.Prelude.{Option, None, Some}
 use Prim.Native.Nat.{ℕ, ◌+◌, ◌^◌, ◌≤◌, ◌<◌}
 use native.Mathlib.Decide.{dec_lt}
 use native.Mathlib.Omega.{arith}
+use Rattle.std.proofs.lemmas.Bool.{and_from}
 use borrow.Author.Tests.{lt-ltb, le-ltb}
 use lib.Dec.{eqb, ltb, leb}
 use lib.IntN.{ℤ}
@@ -60,9 +61,6 @@ power_settings : (N r : ℕ) → Accepted thinning.Neighbours N r → D.settings
 unfolding D.settings_number factor_for
 power_settings N r ok = rw (ok.stages, ok.factor, ok.power)
 
-both_true : (a b : Bool) → a ≡ true → b ≡ true → (a && b) ≡ true
-both_true a b p q = rw (p, q)
-
 -- a part beside one that is off
 outs_integrators : (c : CicDecimator) (n : List ℤ) (w : List ℤ) → outs either (with_parts thinning.Integrators c n) w ≡ outs scaled_decimator c w
 unfolding either scaled_decimator
@@ -90,10 +88,10 @@ pub either_opens : (k : Thinning) (N r : ℕ) → settings_number k N r ≡ 0 �
 unfolding fine valid_at
 either_opens thinning.Integrators N r e =
     let ok = accepted thinning.Integrators N r e in
-    both_true _ _ ((streams N r ok.stages ok.factor).unrefused []) ok.bits
+    and_from _ _ ((streams N r ok.stages ok.factor).unrefused []) ok.bits
 either_opens thinning.Neighbours N r e =
     let ok = accepted thinning.Neighbours N r e in
-    both_true _ _ ((nonrecursive_streams N r (power_settings N r ok)).unrefused []) ok.bits
+    and_from _ _ ((nonrecursive_streams N r (power_settings N r ok)).unrefused []) ok.bits
 
 -- a sample leaves the gain bits
 bits_by :
@@ -107,10 +105,10 @@ kept_by : (k : Thinning) (c : CicDecimator) (n : List ℤ) (x : ℤ) → fine (w
 unfolding fine valid_at either
 kept_by thinning.Integrators c n x e =
     let h = and-true (C.valid c) _ e in
-    both_true _ _ (valid_kept c x h.0) (ap (λ (g : ℕ). leb g most_bits) (bits_by thinning.Integrators c n x) ∙ h.1)
+    and_from _ _ (valid_kept c x h.0) (ap (λ (g : ℕ). leb g most_bits) (bits_by thinning.Integrators c n x) ∙ h.1)
 kept_by thinning.Neighbours c n x e =
     let h = and-true (D.valid (beside_of c n)) _ e in
-    both_true _ _ (K.valid_kept (beside_of c n) x h.0) (ap (λ (g : ℕ). leb g most_bits) (bits_by thinning.Neighbours c n x) ∙ h.1)
+    and_from _ _ (K.valid_kept (beside_of c n) x h.0) (ap (λ (g : ℕ). leb g most_bits) (bits_by thinning.Neighbours c n x) ∙ h.1)
 
 pub either_kept : (t : Thinner) (x : ℤ) → fine t ≡ true → fine (either.next t x) ≡ true
 either_kept t x e = kept_by t.kind t.cic t.neighbours x e

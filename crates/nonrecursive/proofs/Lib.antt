@@ -9,6 +9,7 @@ pub mod Framing
 pub mod OnTape
 pub mod TapeSteps
 pub mod Chunks
-pub mod BlockEnds
+pub mod OneByOne
+pub mod InParts
 pub mod EitherKind
 pub mod ThinBlock

@@ -1,16 +1,16 @@
--- One turn of each loop over a tape: a sample more is laid, a pair more hands its value on, a sum more is put into the span.
+-- One turn of each loop over a tape: a sample more is laid, a pair more hands its value on.
 use mathlib.Core.Path.{◌≡◌, refl, sym, ap, ap₂, ◌∙◌}
 use mathlib.Core.List.{List, [], ◌∷◌, ◌++◌, map, map-append, append_assoc, append-nil}
 use Prim.Native.Nat.{ℕ, suc, ◌+◌, ◌*◌, ◌≤◌, ◌<◌}
 use native.Mathlib.Numerals.{add-one}
 use native.Mathlib.Omega.{arith}
 use lib.IntN.{ℤ, pos}
-use lib.ListN.{length, take, drop, get_or, set, length-set, drop_of_length-le, take-append-drop}
+use lib.ListN.{length, take, drop, get_or, set, length-set, drop_of_length-le}
 use lib.Seq.{take-suc, take-suc-set, drop-cons, drop-set-lt, drop-drop, get_or-drop, get_or-take, length-take-le}
 use mir.Syntax.{w32}
 use Rattle.theory.specs.Wrap.{wrap}
 use Rattle.nonrecursive.specs.NonrecursiveDecimator.{summed}
-use Rattle.nonrecursive.specs.Tape.{pairs, put_all}
+use Rattle.nonrecursive.specs.Tape.{pairs}
 use Rattle.nonrecursive.proofs.StageByStage.{summed_long}
 
 pub laid_more :
@@ -23,25 +23,6 @@ laid_more tape w i x h g e so_far =
     ∙ ap₂ (λ (p : List ℤ) (z : ℤ). p ++ (z ∷ [])) so_far e
     ∙ sym (map-append (wrap w32) (take i w) (y ∷ []))
     ∙ ap (map (wrap w32)) (sym (ap (λ (n : ℕ). take n w) (add-one i) ∙ take-suc w i (pos 0) g))
-
--- a span keeps its length
-pub put_long : (dst : List ℤ) (w : ℕ) (l : List ℤ) → length (put_all dst w l) ≡ length dst
-unfolding put_all
-put_long dst w [] = refl
-put_long dst w (y ∷ l) = put_long (set dst w y) (w + 1) l ∙ length-set dst w y
-
--- values put into a span one after the other stand there in one piece
-pub put_whole : (dst : List ℤ) (w : ℕ) (l : List ℤ) → w + length l ≤ length dst → put_all dst w l ≡ take w dst ++ (l ++ drop (length l) (drop w dst))
-unfolding put_all
-put_whole dst w [] fits = sym (take-append-drop w dst)
-put_whole dst w (y ∷ l) fits =
-    let there : w < length dst = omega arith in
-    let rest : w + 1 + length l ≤ length (set dst w y) = omega (arith, length-set dst w y) in
-    put_whole (set dst w y) (w + 1) l rest
-    ∙ ap (λ (k : ℕ). take k (set dst w y) ++ (l ++ drop (length l) (drop k (set dst w y)))) (add-one w)
-    ∙ ap₂ (λ (a b : List ℤ). a ++ (l ++ drop (length l) b)) (take-suc-set dst w y there) (drop-set-lt (suc w) dst w y (omega arith))
-    ∙ append_assoc (take w dst) (y ∷ []) (l ++ drop (length l) (drop (suc w) dst))
-    ∙ ap (λ (b : List ℤ). take w dst ++ (y ∷ (l ++ b))) (drop-drop (length l) (suc w) dst ∙ ap (λ (k : ℕ). drop k dst) (let e : suc w + length l ≡ w + suc (length l) = omega arith in e) ∙ sym (drop-drop (suc (length l)) w dst))
 
 -- what holds after i of the pairs of `line`, the first `count` pairs of the tape: their values stand in front, and what is not read yet as it was
 pub record Halving (N count : ℕ) (s₀ tape₀ s tape : List ℤ) (at i : ℕ) : Type 0 where

@@ -265,13 +265,6 @@ module _ (N : ℕ) where
         x.left ∙ ap (λ (l : List ℤ). take N (pairs N s w).state ++ l) (rest.1 ∙ ap (λ (l : List ℤ). (lined N m l v).state) same),
       )
 
-  pub frames_count : (m c : ℕ) (w s : List ℤ) → length w ≡ c * 2 ^ m → length (lined N m s w).vals ≡ c
-  unfolding lined
-  frames_count zero c w s e = let d : c * 1 ≡ c = omega arith in e ∙ d
-  frames_count (suc m) c w s e =
-      let d : c * 2 ^ suc m ≡ 2 * (c * 2 ^ m) = ap (λ (n : ℕ). c * n) (pow-suc 2 m) ∙ sym (mul_assoc c (2 ^ m) 2) ∙ mul_comm (c * 2 ^ m) 2 in
-      frames_count m c (pairs N s w).vals (drop N (pairs N s w).state) (omega (arith, pairs_count w s, d))
-
   -- the place counts the values
   pub place_after : (m : ℕ) (w s : List ℤ) (t : ℕ) → (state (thinner m) (s, t % 2 ^ m) w).1 ≡ (t + length w) % 2 ^ m
   place_after m [] s t = ap (λ (n : ℕ). n % 2 ^ m) (sym (add-zero t))

@@ -1,11 +1,11 @@
 // Blocks of `NonrecursiveDecimator`: whole frames go through the halvings one after the other, on a tape; the samples before and behind them one by one.
-ghost use Rattle.std.specs.Prelude.{◌≡◌, true, ◌⊎◌, [], map, ◌+◌, ◌*◌, ◌≤◌, ◌<◌, length, take, drop};
+ghost use Rattle.std.specs.Prelude.{◌≡◌, true, [], map, ◌++◌, ◌+◌, ◌-◌, ◌*◌, ◌≤◌, ◌<◌, length, take, drop};
 ghost use Rattle.std.specs.Int.{w32};
 ghost use Rattle.theory.specs.Wrap.{wrap};
 ghost use Rattle.theory.specs.Sections.{onto, state, outs};
 ghost use Rattle.refusal.specs.Outcome.{none_moved, told_on};
 ghost use Rattle.nonrecursive.specs.NonrecursiveDecimator as D;
-ghost use Rattle.nonrecursive.specs.Tape.{pairs, lined, put_all, Onward};
+ghost use Rattle.nonrecursive.specs.Tape.{pairs, lined, put};
 
 use crate::nonrecursive_decimator::{
     MAX_NEIGHBOURS, nonrecursive_at, state_answer, sum_neighbours,
@@ -62,7 +62,7 @@ fn halve(stages: usize, neighbours: &mut [i32], tape: &mut [i32], count: usize)
 // A sum, where there is one, at its place of the span. Answers the next place.
 fn put_sum(dst: &mut [i32], at: usize, sum: Option<i32>) -> usize
     requires { at < length dst.old }
-    ensures { (dst.new ≡ put_all dst.old at (onto sum [])) × (result ≡ at + length (onto sum [])) }
+    ensures { (dst.new ≡ put dst.old at sum) × (result ≡ at + length (onto sum [])) }
 {
     if let Some(y) = sum {
         dst[at] = y;
@@ -86,36 +86,32 @@ fn thin_tape(stages: usize, r: usize, neighbours: &mut [i32], tape: &mut [i32], 
     }
 }
 
-// Where a block stands.
-#[derive(Clone, Copy)]
-pub(crate) struct Progress {
-    pub taken: usize,
-    pub written: usize,
-    pub place: usize,
-}
-
-// The samples up to `to`, one by one, while the span has a place. No range: how many samples a place needs is known as they come.
+// A feed of the decimator, sample by sample, while the span has a place.
 fn one_by_one(
     stages: usize,
     r: usize,
+    place: &mut usize,
     neighbours: &mut [i32; MAX_NEIGHBOURS],
     src: &[i32],
     dst: &mut [i32],
-    from: Progress,
-    to: usize,
-) -> Progress
-    requires { to ≤ length src.now }
-    ensures stopped { (to ≤ result.taken) ⊎ (length dst.old ≤ result.written) }
-    ensures feed { Onward src.now dst.old dst.new (D.nonrecursive_of stages r neighbours.old from.place) from.taken from.written
-        (D.nonrecursive_of stages r neighbours.new result.place) result.taken result.written }
+) -> Moved
+    ensures within { (result.taken ≤ length src.now) × (result.written ≤ length dst.old) }
+    ensures feed { let fed = D.fed_block (D.nonrecursive_of stages r neighbours.old place.old) src.now (length dst.old) in
+        (result.taken ≡ fed.taken) × (result.written ≡ length fed.written)
+        × (D.nonrecursive_of stages r neighbours.new place.new ≡ fed.line) × (dst.new ≡ fed.written ++ drop (length fed.written) dst.old) }
 {
-    let mut on = from;
-    while on.taken < to && on.written < dst.len() {
-        let sum = nonrecursive_at(stages, r, &mut on.place, neighbours, src[on.taken]);
-        on.written = put_sum(dst, on.written, sum);
-        on.taken += 1;
+    let mut written = 0;
+    for (taken, sample) in src.iter().enumerate() {
+        if written == dst.len() {
+            return Moved { taken, written };
+        }
+        let sum = nonrecursive_at(stages, r, place, neighbours, *sample);
+        written = put_sum(dst, written, sum);
     }
-    on
+    Moved {
+        taken: src.len(),
+        written,
+    }
 }
 
 // How many frames of r samples there are, for so many places; no more than a tape holds.
@@ -142,26 +138,23 @@ fn lay(tape: &mut [i32], samples: &[i32])
     }
 }
 
-// So many frames from `taken` on, where the place is 0, go through the halvings on a tape. Both slices are lent whole, since the clauses speak of the block's.
+// A frame of r samples for each place of dst, where the place is 0: they go through the halvings on a tape.
 fn chunk(
     stages: usize,
     r: usize,
     neighbours: &mut [i32; MAX_NEIGHBOURS],
     src: &[i32],
-    taken: usize,
     dst: &mut [i32],
-    written: usize,
-    count: usize,
 )
-    requires { (D.valid_at stages r 0 ≡ true) × (taken + count * r ≤ length src.now) × (written + count ≤ length dst.old) × (count * r ≤ 256) }
-    ensures span { dst.new ≡ put_all dst.old written (outs D.nonrecursive (D.nonrecursive_of stages r neighbours.old 0) (take (count * r) (drop taken src.now))) }
-    ensures state { D.nonrecursive_of stages r neighbours.new 0 ≡ state D.nonrecursive (D.nonrecursive_of stages r neighbours.old 0) (take (count * r) (drop taken src.now)) }
-    ensures count { length (outs D.nonrecursive (D.nonrecursive_of stages r neighbours.old 0) (take (count * r) (drop taken src.now))) ≡ count }
+    requires { (D.valid_at stages r 0 ≡ true) × (length src.now ≡ length dst.old * r) × (length src.now ≤ 256) }
+    ensures sums { dst.new ≡ outs D.nonrecursive (D.nonrecursive_of stages r neighbours.old 0) src.now }
+    ensures state { D.nonrecursive_of stages r neighbours.new 0 ≡ state D.nonrecursive (D.nonrecursive_of stages r neighbours.old 0) src.now }
 {
+    let count = dst.len();
     let mut tape = blank();
-    lay(&mut tape, &src[taken..taken + count * r]);
+    lay(&mut tape, src);
     thin_tape(stages, r, neighbours, &mut tape, count);
-    dst[written..written + count].copy_from_slice(&tape[..count]);
+    dst.copy_from_slice(&tape[..count]);
 }
 
 // Whole frames, where the place is 0: as many as the samples and the span have room for. No range: a turn has as many as the tape holds of those that are left.
@@ -171,45 +164,54 @@ fn frames(
     neighbours: &mut [i32; MAX_NEIGHBOURS],
     src: &[i32],
     dst: &mut [i32],
-    from: Progress,
-) -> Progress
-    requires { (D.valid_at stages r 0 ≡ true) × (from.taken ≤ length src.now) × (from.written ≤ length dst.old) × (from.place ≡ 0) }
-    ensures { Onward src.now dst.old dst.new (D.nonrecursive_of stages r neighbours.old from.place) from.taken from.written
-        (D.nonrecursive_of stages r neighbours.new result.place) result.taken result.written }
+) -> Moved
+    requires { D.valid_at stages r 0 ≡ true }
+    ensures counts { (result.taken ≤ length src.now) × (result.written ≤ length dst.old) × (result.taken ≡ result.written * r) }
+    ensures state { D.nonrecursive_of stages r neighbours.new 0 ≡ state D.nonrecursive (D.nonrecursive_of stages r neighbours.old 0) (take result.taken src.now) }
+    ensures span { let sums = outs D.nonrecursive (D.nonrecursive_of stages r neighbours.old 0) (take result.taken src.now) in
+        (length sums ≡ result.written) × (dst.new ≡ sums ++ drop result.written dst.old) }
 {
-    let mut taken = from.taken;
-    let mut written = from.written;
-    let mut count = frames_in(r, src.len() - taken, dst.len() - written);
+    let mut taken = 0;
+    let mut written = 0;
+    let mut count = frames_in(r, src.len(), dst.len());
     while 0 < count {
-        chunk(stages, r, neighbours, src, taken, dst, written, count);
-        taken += count * r;
+        let samples = count * r;
+        chunk(
+            stages,
+            r,
+            neighbours,
+            &src[taken..taken + samples],
+            &mut dst[written..written + count],
+        );
+        taken += samples;
         written += count;
         count = frames_in(r, src.len() - taken, dst.len() - written);
     }
-    Progress {
-        taken,
-        written,
-        place: 0,
-    }
+    Moved { taken, written }
 }
 
 // The same, where a frame may have begun: then nothing is done.
 fn whole_frames(
     stages: usize,
     r: usize,
+    place: usize,
     neighbours: &mut [i32; MAX_NEIGHBOURS],
     src: &[i32],
     dst: &mut [i32],
-    from: Progress,
-) -> Progress
-    requires { (D.valid_at stages r 0 ≡ true) × (from.taken ≤ length src.now) × (from.written ≤ length dst.old) }
-    ensures { Onward src.now dst.old dst.new (D.nonrecursive_of stages r neighbours.old from.place) from.taken from.written
-        (D.nonrecursive_of stages r neighbours.new result.place) result.taken result.written }
+) -> Moved
+    requires { D.valid_at stages r place ≡ true }
+    ensures counts { (result.taken ≤ length src.now) × (result.written ≤ length dst.old) × (result.taken ≤ result.written * r - place) }
+    ensures state { D.nonrecursive_of stages r neighbours.new place ≡ state D.nonrecursive (D.nonrecursive_of stages r neighbours.old place) (take result.taken src.now) }
+    ensures span { let sums = outs D.nonrecursive (D.nonrecursive_of stages r neighbours.old place) (take result.taken src.now) in
+        (length sums ≡ result.written) × (dst.new ≡ sums ++ drop result.written dst.old) }
 {
-    if from.place == 0 {
-        return frames(stages, r, neighbours, src, dst, from);
+    if place != 0 {
+        return Moved {
+            taken: 0,
+            written: 0,
+        };
     }
-    from
+    frames(stages, r, neighbours, src, dst)
 }
 
 // Samples up to the end of a frame that has begun.
@@ -237,18 +239,28 @@ pub fn block_at(
     ensures span { dst.new ≡ D.block_span (D.nonrecursive_of stages r neighbours.old place.old) src.now dst.old }
 {
     state_answer(stages, r, *place)?;
-    let begun = Progress {
-        taken: 0,
-        written: 0,
-        place: *place,
-    };
     let head = to_a_frame(r, *place, src.len());
-    let framed = one_by_one(stages, r, neighbours, src, dst, begun, head);
-    let rest = whole_frames(stages, r, neighbours, src, dst, framed);
-    let done = one_by_one(stages, r, neighbours, src, dst, rest, src.len());
-    *place = done.place;
+    let begun = one_by_one(stages, r, place, neighbours, &src[..head], dst);
+    let framed = whole_frames(
+        stages,
+        r,
+        *place,
+        neighbours,
+        &src[begun.taken..],
+        &mut dst[begun.written..],
+    );
+    let taken = begun.taken + framed.taken;
+    let written = begun.written + framed.written;
+    let rest = one_by_one(
+        stages,
+        r,
+        place,
+        neighbours,
+        &src[taken..],
+        &mut dst[written..],
+    );
     Ok(Moved {
-        taken: done.taken,
-        written: done.written,
+        taken: taken + rest.taken,
+        written: written + rest.written,
     })
 }

@@ -13,7 +13,7 @@ use lib.Seq.{take-suc, take_all, get_or_at}
 use lib.Ieee.{Float, nan}
 use Rattle.theory.specs.Lists.{listed}
 use Rattle.theory.proofs.Listed.{length_listed}
-use Rattle.float.proofs.Flags.{both_true}
+use Rattle.std.proofs.lemmas.Bool.{and_parts}
 use Rattle.phase_rows.specs.PhaseRows.{place, by_phase, InRows, Reordered, Rearranges, lengths_fit}
 
 -- ---- lists by index
@@ -110,6 +110,6 @@ rearranges P T h e =
 pub lengths_say : (P T n m : ℕ) → lengths_fit P T n m ≡ true → (n ≡ P * T) × (m ≡ P * T)
 unfolding lengths_fit
 lengths_say P T n m h =
-    let b = both_true (eqb n (P * T)) (eqb m n) h in
+    let b = and_parts (eqb n (P * T)) (eqb m n) h in
     let e = eqb-true n (P * T) b.0 in
     (e, eqb-true m n b.1 ∙ e)

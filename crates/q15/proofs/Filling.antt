@@ -132,10 +132,3 @@ pub listed_take : {A : Type 0} (z : A) (n : ℕ) (c : List A) → n ≤ length c
 listed_take z zero c l = refl
 listed_take {A} z (suc n) c l =
     ap (λ (r : List A). r ++ (get_or c n z ∷ [])) (listed_take z n c (omega arith)) ∙ sym (take-suc c n z l)
-
-pub drop_replicate : {A : Type 0} (a : A) (n m : ℕ) → n ≤ m → drop n (replicate m a) ≡ replicate (m - n) a
-drop_replicate {A} a n m l =
-    let e : n + (m - n) ≡ m = omega arith in
-    ap (λ (k : ℕ). drop n (replicate k a)) (sym e)
-    ∙ ap (drop n) (sym (replicate-append-replicate n (m - n) a))
-    ∙ drop_at (replicate n a) (replicate (m - n) a) n (length-replicate n a)

@@ -12,12 +12,12 @@ overflow_cast-at c = omega (arith, filtered_few _ _ _ c.requires (length-replica
 
 pub returns-clause-batched : goal.returns-clause-batched
 returns-clause-batched c =
-    let told = c.fir_block_at-at.ensures in
+    let told = rw c.fir-settings.ensures at c.fir_block_at-at.ensures in
     let on = c.levels_in.ensures in
     rw (on.same.taps, on.stays.1)
     (filter_batched _ _ _ c.requires (length-replicate 128 (pos 0)) _ _ _ _ _ _ _ _ _ _ _ told.state told.outputs on.batched)
 
 pub returns-clause-cuts : goal.returns-clause-cuts
 returns-clause-cuts c =
-    let cuts = filtered_cuts _ _ _ c.requires (length-replicate 128 (pos 0)) _ c.fir_block_at-at.ensures.cuts in
+    let cuts = filtered_cuts _ _ _ c.requires (length-replicate 128 (pos 0)) _ (rw c.fir-settings.ensures at c.fir_block_at-at.ensures.cuts) in
     c.held_sum-clock.ensures ∙ ap (held_sum most_count c.args.clock.now.cuts) cuts

@@ -1,7 +1,7 @@
--- Each turn the feed goes on behind a chunk of frames.
-use Rattle.std.proofs.Common.{◌+◌, ◌-◌, ◌*◌, ◌≤◌, length}
-use Rattle.nonrecursive.specs.NonrecursiveDecimator.{nonrecursive_of}
-use Rattle.nonrecursive.specs.Tape.{Onward}
+-- Each turn the frames of a chunk more are taken, whose sums stand behind the others.
+use Rattle.std.proofs.Common.{◌≡◌, ◌+◌, ◌-◌, ◌*◌, ◌≤◌, length}
+use Rattle.nonrecursive.specs.NonrecursiveDecimator.{nonrecursive_of, nonrecursive}
+use Rattle.nonrecursive.proofs.InParts.{Made}
 use Rattle.nonrecursive.proofs.block.frames.Given as goal
 
 abbrev pub invariant-loop-count : goal.invariant-loop-count
@@ -10,7 +10,8 @@ invariant-loop-count l =
       samples : l.taken + l.count * l.r ≤ length l.src;
       places : l.written + l.count ≤ length l.dst;
       few : l.count * l.r ≤ 256;
-      on : Onward l.src l.initial.dst l.dst (nonrecursive_of l.stages l.r l.initial.neighbours 0) l.initial.taken l.initial.written
+      paid : l.taken ≡ l.written * l.r;
+      made : Made nonrecursive (nonrecursive_of l.stages l.r l.initial.neighbours 0) l.src l.initial.dst l.dst
           (nonrecursive_of l.stages l.r l.neighbours 0) l.taken l.written;
     }
 

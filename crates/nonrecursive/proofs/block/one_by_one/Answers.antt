@@ -1,28 +1,27 @@
--- A turn is one sample of the feed.
-use Rattle.std.proofs.Common.{◌≡◌, ◌<◌, length, get_or, drop-cons, pos, sym, arith, w32, to_z, of_z, rules}
-use Rattle.nonrecursive.specs.NonrecursiveDecimator.{nonrecursive_of, nonrecursive}
-use Rattle.nonrecursive.specs.Tape.{Onward}
-use Rattle.nonrecursive.proofs.Framing.{one}
-use Rattle.nonrecursive.proofs.BlockEnds.{Good, stays}
+-- A turn is one sample of the feed, which ends where a sample or a place is missing.
+use Rattle.std.proofs.Common.{◌≡◌, ◌<◌, inl, inr, length, get_or, pos, refl, arith, w32, to_z, of_z, rules}
+use Rattle.nonrecursive.specs.NonrecursiveDecimator.{nonrecursive, fed_block}
+use Rattle.nonrecursive.proofs.OneByOne.{one, ended}
 use Rattle.nonrecursive.proofs.block.one_by_one.Goals as goal
 
-pub loop-on-init : goal.loop-on-init
-loop-on-init c = stays _ _ _ _ _
-
-pub loop-on-preserved : goal.loop-on-preserved
-unfolding Onward
-loop-on-preserved c =
+pub loop-taken-preserved : goal.loop-taken-preserved
+loop-taken-preserved c =
     let a = c.args in
-    let l = c.loop-on in
-    let x = get_or a.src.now l.on.taken (pos 0) in
+    let l = c.loop-taken in
+    let x = get_or a.src.now l.taken (pos 0) in
     let read : to_z w32 (of_z w32 x) ≡ x = search rules in
-    let there : l.on.taken < length a.src.now = omega (arith, c.requires) in
+    let room : l.written < length l.dst = (let m = l.invariant in omega (arith, m.some_written, m.same, c.if-written-dst.false)) in
     let out = rw read at c.nonrecursive_at-sum.ensures.out in
     let next = rw read at c.nonrecursive_at-sum.ensures.next in
-    λ law d₀ out₀ mid.
-    let m = l.invariant law d₀ out₀ mid in
-    let step =
-    one nonrecursive Good law d₀ a.src.now out₀ c.nonrecursive_at-sum.result l.dst (nonrecursive_of a.stages a.r l.neighbours l.on.place) l.on.taken l.on.written x _ m
-    (let e = m.same in omega arith) (drop-cons a.src.now l.on.taken (pos 0) there) (sym out)
-    in
-    rw (c.put_sum.ensures.0, c.put_sum.ensures.1, next) step
+    rw (c.put_sum-written.ensures.0, c.put_sum-written.ensures.1, next) (one nonrecursive _ _ _ _ _ _ _ l.invariant room c.loop-taken-test.true x refl _ out)
+
+pub returns-then-written-dst-clause-feed : goal.returns-then-written-dst-clause-feed
+unfolding fed_block
+returns-then-written-dst-clause-feed c = let m = c.loop-taken.invariant in ended nonrecursive _ _ _ _ _ _ _ m (inr (omega (arith, c.if-written-dst.true, m.same)))
+
+pub returns-clause-feed : goal.returns-clause-feed
+unfolding fed_block
+returns-clause-feed c =
+    let l = c.loop-taken in
+    let all : l.taken ≡ length c.args.src.now = omega (arith, c.loop-taken-test.false, l.invariant.some_taken) in
+    ended nonrecursive _ _ _ _ _ _ _ (rw all at l.invariant) (inl (omega arith))

@@ -1,14 +1,11 @@
 -- One sum or none.
 use Rattle.std.proofs.Common.{◌≡◌, refl, add-zero, w32, to_z, of_z, rules, sym}
-use Rattle.nonrecursive.specs.Tape.{put_all}
 use Rattle.nonrecursive.proofs.block.put_sum.Goals as goal
 
 pub returns-in-Some : goal.returns-in-Some
-unfolding put_all
 returns-in-Some c =
     let y : to_z w32 (of_z w32 c.in-Some.y) ≡ c.in-Some.y = search rules in
     rw (c.in-Some.is, y) (refl, refl)
 
 pub returns : goal.returns
-unfolding put_all
 returns c = rw c.in_default.is (refl, sym (add-zero c.args.at))

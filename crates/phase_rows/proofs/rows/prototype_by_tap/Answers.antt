@@ -1,14 +1,14 @@
 -- `rows::prototype_by_tap` meets its contract: the lengths that pass are those of the rows that are turned.
 use Rattle.std.proofs.Common.{mul_comm, arith}
 use Rattle.float.proofs.PolyphaseOutput.{limits_say}
-use Rattle.float.proofs.Flags.{both_true}
+use Rattle.std.proofs.lemmas.Bool.{and_parts}
 use Rattle.phase_rows.proofs.Places.{lengths_say, rearranges}
 use Rattle.phase_rows.proofs.rows.prototype_by_tap.Goals as goal
 
 pub turn_rows-requires : goal.turn_rows-requires
 turn_rows-requires c =
     let a = c.args in
-    let b = both_true _ _ c.in_ok-written.ensures.taken in
+    let b = and_parts _ _ c.in_ok-written.ensures.taken in
     let l = limits_say _ _ b.0 in
     let e = lengths_say a.phases a.taps _ _ b.1 in
     let q = mul_comm a.phases a.taps in
