@@ -1,6 +1,6 @@
 -- What the contracts of the opening, `process_block` and `push` claim follows from the equations they state: an opened state is valid and its runs are
 -- the whole list's, and a feed of the machine keeps validity and conserves its run.
-use Rattle.std.proofs.Common.{◌≡◌, ℕ, ◌-◌, ◌*◌, ◌<◌, Bool, true, false, cond, eqb, ltb, List, [], length, take, drop, sym, refl, ◌∙◌, subst, true≢false, arith, ltb-false, ltb-true, eq-eqb, eqb-true}
+use Rattle.std.proofs.Common.{◌≡◌, ℕ, ◌-◌, ◌*◌, ◌<◌, ◌≤◌, Bool, true, false, cond, ap, eqb, ltb, List, [], length, take, drop, sym, refl, ◌∙◌, subst, true≢false, arith, ltb-false, ltb-true, eq-eqb, eqb-true}
 use mathlib.Core.Path.{subst⁻¹}
 use lib.Seq.{take-append_seam, drop-nil}
 use lib.Ieee.{Float, binary32, sub, lt}
@@ -15,6 +15,7 @@ use Rattle.float.specs.PolyphaseResamp.{in_limits, valid, consumed, output_of, p
 use Rattle.float.specs.PolyphaseWhole.{Opens, Resets, Conserves, BlockKept, PushKept}
 use Rattle.float.specs.declared.polyphase_resamp.PolyphaseResampF32.{PolyphaseResampF32}
 use Rattle.float.specs.declared.settings.Setting.{Setting}
+use Rattle.float.proofs.PolyphaseOutput.{limits_say, few_cells}
 use Rattle.float.proofs.PolyphaseRange.{valid_in_limits, valid_above, valid_consumed, valid_passed, valid_fresh}
 use Rattle.float.proofs.DueOutputs.{emitted_keeps, emitted_all}
 use Rattle.float.proofs.PolyphaseWhole.{fresh_becomes, becomes_fresh, becomes_all}
@@ -54,6 +55,44 @@ pub opens_fresh :
     → opening straight P T h step ≡ record { number = 0; state = fresh straight P T h step }
 unfolding opening
 opens_fresh straight P T h step l n a = rw (l, eq-eqb (length h) (P * T) n, a)
+
+-- the opening by its number
+pub refused_by :
+    (straight : Bool) (P T : ℕ) (h : List Float) (step : Float) (n : ℕ) → 0 < n → n ≡ (opening straight P T h step).number
+    → refused_opening n ≡ opening straight P T h step
+unfolding opening
+refused_by straight P T h step n some e = go (in_limits P T) (eqb (length h) (P * T)) (above_zero step) e
+  where
+    go :
+        (a b c : Bool)
+        → n ≡ (cond a (cond b (cond c (record { number = 0; state = fresh straight P T h step }) (refused_opening 14)) (refused_opening 13)) (refused_opening 12)).number
+        → refused_opening n ≡ cond a (cond b (cond c (record { number = 0; state = fresh straight P T h step }) (refused_opening 14)) (refused_opening 13)) (refused_opening 12)
+    go false b c k = ap refused_opening k
+    go true false c k = ap refused_opening k
+    go true true false k = ap refused_opening k
+    go true true true k = absurd (omega arith)
+
+pub record Taken (straight : Bool) (P T : ℕ) (h : List Float) (step : Float) : Type 0 where
+  pub limits : in_limits P T ≡ true
+  pub long : length h ≡ P * T
+  pub above : above_zero step ≡ true
+  pub fits : length h ≤ 1024
+  pub whole : opening straight P T h step ≡ record { number = 0; state = fresh straight P T h step }
+
+pub taken_by : (straight : Bool) (P T : ℕ) (h : List Float) (step : Float) → 0 ≡ (opening straight P T h step).number → Taken straight P T h step
+unfolding opening
+taken_by straight P T h step e = go (in_limits P T) refl (eqb (length h) (P * T)) refl (above_zero step) refl e
+  where
+    go :
+        (a : Bool) → in_limits P T ≡ a → (b : Bool) → eqb (length h) (P * T) ≡ b → (c : Bool) → above_zero step ≡ c
+        → 0 ≡ (cond a (cond b (cond c (record { number = 0; state = fresh straight P T h step }) (refused_opening 14)) (refused_opening 13)) (refused_opening 12)).number
+        → Taken straight P T h step
+    go false l b m c s k = absurd (omega arith)
+    go true l false m c s k = absurd (omega arith)
+    go true l true m false s k = absurd (omega arith)
+    go true l true m true s k =
+        let n : length h ≡ P * T = eqb-true (length h) (P * T) m in
+        record { limits = l; long = n; above = s; fits = omega (arith, n, few_cells P T (limits_say P T l)); whole = opens_fresh straight P T h step l n s }
 
 -- both clauses of the opening's contract
 pub opening_answer :

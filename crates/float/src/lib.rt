@@ -5,6 +5,7 @@ pub mod cast;
 pub mod due;
 mod interpolation;
 pub mod level;
+pub mod opening;
 pub mod polyphase_resamp;
 pub mod resample_linear;
 mod running;

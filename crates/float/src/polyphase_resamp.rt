@@ -4,7 +4,7 @@ ghost use Rattle.refusal.specs.Outcome.{told_opened, told_on, told_reset, none_m
 ghost use Rattle.float.specs.PolyphaseResamp as R;
 ghost use Rattle.float.specs.PolyphaseWhole as W;
 
-use crate::settings::{MOST_CELLS, MOST_TAPS, Setting, above_zero, in_limits};
+use crate::settings::{MOST_CELLS, MOST_TAPS, Setting};
 use refusal::{Moved, Refusal};
 
 // P and T, how the prototype is read, where the next output lies between two samples, how far it goes on with each output, the last T samples with the
@@ -42,21 +42,13 @@ fn opened(
     ensures answer { told_opened R.zeros result ≡ R.opening straight phases taps prototype.now step }
     ensures whole { W.Opens straight phases taps prototype.now step (told_opened R.zeros result) }
 {
-    if !in_limits(phases, taps) {
-        return Err(Refusal::Phases);
-    }
-    if prototype.len() != phases * taps {
-        return Err(Refusal::Prototype);
-    }
-    if !above_zero(step) {
-        return Err(Refusal::Step);
-    }
     let setting = Setting {
         phases,
         taps,
         straight,
         step,
     };
+    setting.answer(prototype)?;
     Ok(PolyphaseResampF32::fresh(setting, prototype))
 }
 
@@ -158,11 +150,6 @@ impl PolyphaseResampF32 {
         ensures whole { W.Resets self.old (told_reset result self.new) }
     {
         let setting = self.setting();
-        if !setting.is_valid(self.mu) {
-            return Err(Refusal::State);
-        }
-        let cells = self.phases * self.taps;
-        *self = PolyphaseResampF32::fresh(setting, &self.prototype[..cells]);
-        Ok(())
+        setting.reset(&mut self.mu, &mut self.delay, &mut self.prototype)
     }
 }

@@ -11,14 +11,24 @@ ghost use Rattle.gauge_line.specs.Crossing.{crossed_step, is_set, kind_of};
 ghost use Rattle.gauge_line.specs.States.{entry, exit, IsFlag, line_at};
 
 use crate::answers::{NONE_MOVED, number, step_moves};
-use crate::lines::{line_of, put_line};
+use crate::lines::put_numbers;
 use crate::states::{flag, is_set, kind, kind_number};
 use float::settings::{MOST_CELLS, MOST_TAPS as MOST_PHASE_TAPS};
 use half_band::{DEC_CASCADE_DELAYS, MOST_STAGES};
 use integer::limits::MAX_STAGES;
-use line::{Arrays, Clock, Line, LineNumbers, Settings, feed_lent, step_lent, zeros};
+use line::{
+    Arrays, Clock, LineNumbers, Places, Settings, feed_lent, open_lent, reset_lent, step_lent,
+};
 use nonrecursive::nonrecursive_decimator::MAX_NEIGHBOURS;
 use q15::MOST_TAPS;
+
+// What an opening writes over.
+const STOPPED: Clock = Clock {
+    sample_counter: 0,
+    wait: 0,
+    mu: 0.0,
+    cuts: 0,
+};
 
 // The number in the name is that of the line's layout: a program that was compiled with a header of another layout does not link.
 #[unsafe(no_mangle)]
@@ -88,40 +98,42 @@ pub extern "C" fn gauge_raw_line_open_3(
         step: wanted_step,
         thinning: kind(wanted_thinning),
     };
-    let opened = Line::open(settings, wanted_taps, wanted_prototype);
-    let told = number(&opened);
-    let next = match opened {
-        Ok(line) => line,
-        Err(_) => zeros(),
+    let mut n = LineNumbers {
+        settings,
+        tap_count: 0,
+        clock: STOPPED,
     };
-    put_line(
-        &next,
-        stages,
-        r,
+    let mut lent = Places {
         integrators,
         combs,
-        sample_counter,
+        neighbours,
         taps,
-        tap_count,
-        factor,
         fir_delay,
-        wait,
-        depth,
         delays,
         held,
         counts,
+        delay,
+        prototype,
+    };
+    let answer = open_lent(settings, wanted_taps, wanted_prototype, &mut n, &mut lent);
+    put_numbers(
+        n,
+        stages,
+        r,
+        sample_counter,
+        tap_count,
+        factor,
+        wait,
+        depth,
         phases,
         phase_taps,
         straight,
         mu,
         step,
-        delay,
-        prototype,
         cuts,
         thinning,
-        neighbours,
     );
-    told
+    number(&answer)
 }
 
 #[unsafe(no_mangle)]
@@ -161,59 +173,57 @@ pub extern "C" fn gauge_raw_line_reset(
         depth delays held counts phases phase_taps straight mu step delay prototype cuts thinning neighbours in
         L.valid before ≡ true → result ≡ 0 }
 {
-    let mut next = line_of(
-        *stages,
-        *r,
-        *integrators,
-        *combs,
-        *sample_counter,
-        *taps,
-        *tap_count,
-        *factor,
-        *fir_delay,
-        *wait,
-        *depth,
-        *delays,
-        *held,
-        *counts,
-        *phases,
-        *phase_taps,
-        *straight,
-        *mu,
-        *step,
-        *delay,
-        *prototype,
-        *cuts,
-        *thinning,
-        *neighbours,
-    );
-    let answer = next.reset();
-    put_line(
-        &next,
-        stages,
-        r,
+    let settings = Settings {
+        stages: *stages,
+        r: *r,
+        factor: *factor,
+        depth: *depth,
+        phases: *phases,
+        taps: *phase_taps,
+        straight: is_set(*straight),
+        step: *step,
+        thinning: kind(*thinning),
+    };
+    let clock = Clock {
+        sample_counter: *sample_counter,
+        wait: *wait,
+        mu: *mu,
+        cuts: *cuts,
+    };
+    let mut n = LineNumbers {
+        settings,
+        tap_count: *tap_count,
+        clock,
+    };
+    let mut lent = Places {
         integrators,
         combs,
-        sample_counter,
+        neighbours,
         taps,
-        tap_count,
-        factor,
         fir_delay,
-        wait,
-        depth,
         delays,
         held,
         counts,
+        delay,
+        prototype,
+    };
+    let answer = reset_lent(&mut n, &mut lent);
+    put_numbers(
+        n,
+        stages,
+        r,
+        sample_counter,
+        tap_count,
+        factor,
+        wait,
+        depth,
         phases,
         phase_taps,
         straight,
         mu,
         step,
-        delay,
-        prototype,
         cuts,
         thinning,
-        neighbours,
     );
     number(&answer)
 }

@@ -1,15 +1,15 @@
 // The line as a caller in C keeps it, field by field: put together from the fields that were lent, and put back into them.
 ghost use Rattle.std.specs.Prelude.{◌≡◌};
-ghost use Rattle.gauge_line.specs.States.{exit, IsFlag, line_by, line_at};
+ghost use Rattle.gauge_line.specs.States.{exit, IsFlag, line_by, line_at, numbers_at};
 
 use crate::states::{
-    decimator, fir, is_set, kind, put_decimator, put_fir, put_resampler, put_stream, put_thinning,
-    resampler, stream,
+    decimator, fir, flag, is_set, kind, kind_number, put_decimator, put_fir, put_resampler,
+    put_stream, put_thinning, resampler, stream,
 };
 use float::settings::{MOST_CELLS, MOST_TAPS as MOST_PHASE_TAPS};
 use half_band::{DEC_CASCADE_DELAYS, MOST_STAGES};
 use integer::limits::MAX_STAGES;
-use line::Line;
+use line::{Line, LineNumbers};
 use nonrecursive::nonrecursive_decimator::MAX_NEIGHBOURS;
 use q15::MOST_TAPS;
 
@@ -109,4 +109,42 @@ pub(crate) fn put_line(
     );
     *cuts = next.cuts;
     put_thinning(next.thinning, &next.neighbours, thinning, neighbours);
+}
+
+// The numbers of a line into the places that were lent for them.
+pub(crate) fn put_numbers(
+    next: LineNumbers,
+    stages: &mut usize,
+    r: &mut usize,
+    sample_counter: &mut usize,
+    tap_count: &mut usize,
+    factor: &mut usize,
+    wait: &mut usize,
+    depth: &mut usize,
+    phases: &mut usize,
+    phase_taps: &mut usize,
+    straight: &mut usize,
+    mu: &mut f32,
+    step: &mut f32,
+    cuts: &mut u32,
+    thinning: &mut usize,
+)
+    ensures state { numbers_at exit stages r sample_counter tap_count factor wait depth phases phase_taps straight mu step cuts thinning ≡ next }
+    ensures setting { IsFlag straight.new × IsFlag thinning.new }
+{
+    let s = next.settings;
+    *stages = s.stages;
+    *r = s.r;
+    *sample_counter = next.clock.sample_counter;
+    *tap_count = next.tap_count;
+    *factor = s.factor;
+    *wait = next.clock.wait;
+    *depth = s.depth;
+    *phases = s.phases;
+    *phase_taps = s.taps;
+    *straight = flag(s.straight);
+    *mu = next.clock.mu;
+    *step = s.step;
+    *cuts = next.clock.cuts;
+    *thinning = kind_number(s.thinning);
 }

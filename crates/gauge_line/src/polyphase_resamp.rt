@@ -6,8 +6,7 @@ ghost use Rattle.gauge_line.specs.Crossing.{is_set};
 ghost use Rattle.gauge_line.specs.States.{entry, exit, IsFlag, resampler_at};
 
 use crate::answers::{NONE_MOVED, number};
-use crate::states::{is_set, put_resampler, resampler};
-use float::PolyphaseResampF32;
+use crate::states::{flag, is_set};
 use float::settings::{MOST_CELLS, MOST_TAPS as MOST_PHASE_TAPS, Setting};
 
 // What an opening set, of the numbers that a caller lends.
@@ -20,6 +19,23 @@ fn setting(phases: usize, taps: usize, straight: usize, step: f32) -> Setting
         straight: is_set(straight),
         step,
     }
+}
+
+// And back into the places that were lent for it.
+fn put_setting(
+    next: Setting,
+    phases: &mut usize,
+    taps: &mut usize,
+    straight: &mut usize,
+    step: &mut f32,
+)
+    ensures state { (phases.new ≡ next.phases) × (taps.new ≡ next.taps) × (is_set straight.new ≡ next.straight) × (step.new ≡ next.step) }
+    ensures setting { IsFlag straight.new }
+{
+    *phases = next.phases;
+    *taps = next.taps;
+    *straight = flag(next.straight);
+    *step = next.step;
 }
 
 #[unsafe(no_mangle)]
@@ -42,16 +58,15 @@ pub extern "C" fn gauge_raw_polyphase_resamp_from_taps(
     ensures whole { let after = resampler_at exit phases taps straight mu step delay prototype in
         W.Opens false wanted_phases wanted_taps wanted_prototype.now wanted_step (record { number = result; state = after }) }
 {
-    let opened = PolyphaseResampF32::from_taps(
-        wanted_phases,
-        wanted_taps,
-        wanted_prototype,
-        wanted_step,
-    );
-    let told = number(&opened);
-    let state = opened.unwrap_or(PolyphaseResampF32::zeros());
-    put_resampler(&state, phases, taps, straight, mu, step, delay, prototype);
-    told
+    let mut opened = Setting {
+        phases: wanted_phases,
+        taps: wanted_taps,
+        straight: false,
+        step: wanted_step,
+    };
+    let answer = opened.open(wanted_prototype, mu, delay, prototype);
+    put_setting(opened, phases, taps, straight, step);
+    number(&answer)
 }
 
 #[unsafe(no_mangle)]
@@ -74,16 +89,15 @@ pub extern "C" fn gauge_raw_polyphase_resamp_from_taps_straight(
     ensures whole { let after = resampler_at exit phases taps straight mu step delay prototype in
         W.Opens true wanted_phases wanted_taps wanted_prototype.now wanted_step (record { number = result; state = after }) }
 {
-    let opened = PolyphaseResampF32::from_taps_straight(
-        wanted_phases,
-        wanted_taps,
-        wanted_prototype,
-        wanted_step,
-    );
-    let told = number(&opened);
-    let state = opened.unwrap_or(PolyphaseResampF32::zeros());
-    put_resampler(&state, phases, taps, straight, mu, step, delay, prototype);
-    told
+    let mut opened = Setting {
+        phases: wanted_phases,
+        taps: wanted_taps,
+        straight: true,
+        step: wanted_step,
+    };
+    let answer = opened.open(wanted_prototype, mu, delay, prototype);
+    put_setting(opened, phases, taps, straight, step);
+    number(&answer)
 }
 
 #[unsafe(no_mangle)]
@@ -104,17 +118,9 @@ pub extern "C" fn gauge_raw_polyphase_resamp_reset(
         let after = resampler_at exit phases taps straight mu step delay prototype in
         W.Resets before (record { number = result; state = after }) }
 {
-    let mut state = resampler(
-        *phases,
-        *taps,
-        is_set(*straight),
-        *mu,
-        *step,
-        *delay,
-        *prototype,
-    );
-    let answer = state.reset();
-    put_resampler(&state, phases, taps, straight, mu, step, delay, prototype);
+    let own = setting(*phases, *taps, *straight, *step);
+    let answer = own.reset(mu, delay, prototype);
+    *straight = flag(own.straight);
     number(&answer)
 }
 

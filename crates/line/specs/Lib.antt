@@ -4,3 +4,4 @@ pub mod Together
 pub mod Lent
 pub mod Demand3
 pub mod Pieces
+pub mod Placed

@@ -1,0 +1,110 @@
+// 01, section 5: a resampler opened and reset where its numbers and arrays lie, as C and the line hold them, so that no call makes a state of 4 KB.
+ghost use Rattle.std.specs.Prelude.{◌≡◌, true, false, take};
+ghost use Rattle.refusal.specs.Outcome.{number_in, told_reset};
+ghost use Rattle.float.specs.PolyphaseResamp as R;
+ghost use Rattle.float.specs.PolyphaseWhole as W;
+
+use crate::settings::{MOST_CELLS, MOST_TAPS, Setting, above_zero, in_limits};
+use refusal::Refusal;
+
+// Of the cells so many are kept, and zeros stand behind them.
+fn keep(cells: &mut [f32; MOST_CELLS], count: usize)
+    ensures { cells.new ≡ R.packed (take count cells.old) }
+{
+    cells[count.min(MOST_CELLS)..].fill(0.0);
+}
+
+impl Setting {
+    // Rows 12, 13 and 14.
+    #[tactic(auto, unfolding(crate::specs::PolyphaseResamp::opening))]
+    pub(crate) fn answer(self, prototype: &[f32]) -> Result<(), Refusal>
+        ensures { number_in result ≡ (R.opening self.straight self.phases self.taps prototype.now self.step).number }
+    {
+        if !in_limits(self.phases, self.taps) {
+            return Err(Refusal::Phases);
+        }
+        if prototype.len() != self.phases * self.taps {
+            return Err(Refusal::Prototype);
+        }
+        if !above_zero(self.step) {
+            return Err(Refusal::Step);
+        }
+        Ok(())
+    }
+
+    // The fresh state of the prototype that stands in front of the cells. A leaf for the openings and resets here and the line's, which have looked at the settings: it
+    // refuses nothing.
+    #[tactic(auto, unfolding(crate::specs::PolyphaseResamp::fresh, crate::specs::PolyphaseResamp::own_taps))]
+    pub fn begin(self, mu: &mut f32, delay: &mut [f32; MOST_TAPS], cells: &mut [f32; MOST_CELLS])
+        ensures { let own = R.own_taps (R.state_of self mu.old delay.old cells.old) in
+            R.state_of self mu.new delay.new cells.new ≡ R.fresh self.straight self.phases self.taps own self.step }
+    {
+        *mu = 1.0;
+        delay.fill(0.0);
+        keep(cells, self.phases.saturating_mul(self.taps));
+    }
+
+    // The state of a refused opening, and in the line of a resampler that is off. A leaf for both.
+    #[tactic(auto, unfolding(crate::specs::PolyphaseResamp::zeros))]
+    pub fn clear(
+        mu: &mut f32,
+        delay: &mut [f32; MOST_TAPS],
+        cells: &mut [f32; MOST_CELLS],
+    ) -> Setting
+        ensures { R.state_of result mu.new delay.new cells.new ≡ R.zeros }
+    {
+        *mu = 0.0;
+        delay.fill(0.0);
+        cells.fill(0.0);
+        Setting {
+            phases: 0,
+            taps: 0,
+            straight: false,
+            step: 0.0,
+        }
+    }
+
+    // `from_taps`, of either reading, where the arrays lie. Refused by 12, 13, 14: all that is lent is zeros then.
+    pub fn open(
+        &mut self,
+        prototype: &[f32],
+        mu: &mut f32,
+        delay: &mut [f32; MOST_TAPS],
+        cells: &mut [f32; MOST_CELLS],
+    ) -> Result<(), Refusal>
+        ensures answer { told_reset result (R.state_of self.new mu.new delay.new cells.new)
+            ≡ R.opening self.old.straight self.old.phases self.old.taps prototype.now self.old.step }
+        ensures whole { W.Opens self.old.straight self.old.phases self.old.taps prototype.now self.old.step
+            (told_reset result (R.state_of self.new mu.new delay.new cells.new)) }
+    {
+        let wanted = *self;
+        match wanted.answer(prototype) {
+            Err(row) => {
+                *self = Setting::clear(mu, delay, cells);
+                Err(row)
+            }
+            Ok(()) => {
+                cells[..prototype.len()].copy_from_slice(prototype);
+                wanted.begin(mu, delay, cells);
+                Ok(())
+            }
+        }
+    }
+
+    // The fresh opening with the setting and the prototype that the state has. Refused by 15: the state stays.
+    pub fn reset(
+        self,
+        mu: &mut f32,
+        delay: &mut [f32; MOST_TAPS],
+        cells: &mut [f32; MOST_CELLS],
+    ) -> Result<(), Refusal>
+        ensures answer { told_reset result (R.state_of self mu.new delay.new cells.new) ≡ R.reset (R.state_of self mu.old delay.old cells.old) }
+        ensures whole { W.Resets (R.state_of self mu.old delay.old cells.old) (told_reset result (R.state_of self mu.new delay.new cells.new)) }
+    {
+        if !self.is_valid(*mu) {
+            return Err(Refusal::State);
+        }
+        self.begin(mu, delay, cells);
+        Ok(())
+    }
+}

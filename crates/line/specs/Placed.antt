@@ -1,0 +1,43 @@
+-- The line of 01, section 6, as an opening or a reset has it whose caller keeps its arrays: the numbers, and the arrays lent to be written.
+use Rattle.std.specs.Prelude.{◌≡◌, ◌*◌, ℕ, take}
+use Rattle.integer.specs.CicDecimator.{decimator_of}
+use Rattle.q15.specs.FirDecimator.{fir_state}
+use Rattle.half_band.specs.HbfStream.{stream_of}
+use Rattle.float.specs.PolyphaseResamp as R
+use Rattle.chain.specs.declared.settings.Settings.{Settings}
+use Rattle.line.specs.Outputs.{Opening}
+use Rattle.line.specs.declared.gauge_line.Line.{Line}
+use Rattle.line.specs.declared.lent.LineNumbers.{LineNumbers}
+use Rattle.line.specs.declared.places.Places.{Places}
+
+-- the line of these numbers and arrays
+abbrev pub line_on : LineNumbers → Places → Line
+line_on n p =
+    let s = n.settings in
+    let c = n.clock in
+    record {
+      thinning = s.thinning;
+      cic = decimator_of s.stages s.r p.integrators.now p.combs.now c.sample_counter;
+      neighbours = p.neighbours.now;
+      fir = fir_state p.taps.now n.tap_count s.factor p.fir_delay.now c.wait;
+      half_band = stream_of s.depth p.delays.now p.held.now p.counts.now;
+      resampler = R.together s.straight s.phases s.taps c.mu s.step p.delay.now p.prototype.now;
+      cuts = c.cuts;
+    }
+
+-- what such a line is opened with, of the taps and the prototype in front of their arrays
+abbrev pub own_opening : Settings → ℕ → Places → Opening
+own_opening s tap_count p = record { settings = s; taps = take tap_count p.taps.now; prototype = take (s.phases * s.taps) p.prototype.now }
+
+-- the references are those that were lent, so what a call wrote stands where the caller keeps it
+pub record SamePlaces (before after : Places) : Type 0 where
+  pub integrators : after.integrators.ghost_name ≡ before.integrators.ghost_name
+  pub combs : after.combs.ghost_name ≡ before.combs.ghost_name
+  pub neighbours : after.neighbours.ghost_name ≡ before.neighbours.ghost_name
+  pub taps : after.taps.ghost_name ≡ before.taps.ghost_name
+  pub fir_delay : after.fir_delay.ghost_name ≡ before.fir_delay.ghost_name
+  pub delays : after.delays.ghost_name ≡ before.delays.ghost_name
+  pub held : after.held.ghost_name ≡ before.held.ghost_name
+  pub counts : after.counts.ghost_name ≡ before.counts.ghost_name
+  pub delay : after.delay.ghost_name ≡ before.delay.ghost_name
+  pub prototype : after.prototype.ghost_name ≡ before.prototype.ghost_name
