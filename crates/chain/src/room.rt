@@ -13,6 +13,7 @@ ghost use Rattle.chain.specs.Batched.{most_sums, Leaves};
 use crate::fixed::{FEW_SUMS, Fixed, MOST_SUMS};
 use float::f32_to_usize_saturating;
 use half_band::MOST_STAGES;
+use nonrecursive::Thinning;
 
 // A level in the parts that a stride is counted in.
 const PARTS: usize = 4096;
@@ -80,7 +81,17 @@ fn sums_within(f: Fixed, wait: usize, counts: [usize; MOST_STAGES], places: usiz
     (first + values * period).min(MOST_SUMS)
 }
 
-// How many sums a block may have where no output is due and so many places are left; 0 where it would have fewer than FEW_SUMS, which go faster one by one.
+// Fewer sums than these are not worth a block: samples of neighbours cost many times as much one by one.
+fn few_sums(thinning: Thinning) -> usize
+    ensures { 1 ≤ result }
+{
+    match thinning {
+        Thinning::Integrators => FEW_SUMS,
+        Thinning::Neighbours => 1,
+    }
+}
+
+// How many sums a block may have where no output is due and so many places are left; 0 where it would have so few that they go faster one by one.
 pub fn sums_for(f: Fixed, wait: usize, counts: [usize; MOST_STAGES], places: usize) -> usize
     ensures within { (result ≤ most_sums) × (1 ≤ result → 1 ≤ places) }
     ensures leaves { (mu : Float) (taps fir_delay : List ℤ) (delays held delay prototype : List Float) →
@@ -92,7 +103,7 @@ pub fn sums_for(f: Fixed, wait: usize, counts: [usize; MOST_STAGES], places: usi
         return 0;
     }
     let count = sums_within(f, wait, counts, places);
-    if count < FEW_SUMS {
+    if count < few_sums(f.settings.thinning) {
         return 0;
     }
     count

@@ -2,8 +2,7 @@
 use mathlib.Core.Path.{◌≡◌, ◌∙◌, subst⁻¹}
 use mathlib.Core.Bool.{true, false}
 use mathlib.Core.List.{List, ◌++◌, map}
-use Prim.Native.Nat.{ℕ, ◌+◌, ◌-◌, ◌/◌, ◌≤◌, ◌<◌}
-use native.Mathlib.Nat.{div-mul-le_self}
+use Prim.Native.Nat.{ℕ, ◌+◌, ◌-◌, ◌≤◌, ◌<◌}
 use native.Mathlib.Omega.{arith}
 use borrow.Author.Tests.{lt-ltb}
 use lib.IntN.{ℤ}
@@ -57,7 +56,7 @@ module _ {l₀ : Line} {xs : List ℤ} {out₀ out : List Float} {l : Line} {t w
       (1 ≤ k) × Whole chain (parts_of m) (take k ys) (length rest) × Batched chain (parts_of m) (take k ys) rest o p v
       × (n ≡ held_sum most_cuts l.cuts (cut_count w16 sums + cut_count w16 (outs summing m.fir (map (cut w16) sums))))
 
-  module _ (enough : l.cic.r ≤ (length xs - t) / 6) {count : ℕ} (some : 1 ≤ count) (counted : (count ≤ most_sums) × (1 ≤ count → 1 ≤ length e.span - e.written))
+  module _ (enough : l.cic.r ≤ length xs - t) {count : ℕ} (some : 1 ≤ count) (counted : (count ≤ most_sums) × (1 ≤ count → 1 ≤ length e.span - e.written))
       (leaving : Q.valid_in_line m.fir ≡ true → valid_in_line m.resampler ≡ true → in_line.due m.resampler ≡ false → 1 ≤ count → Leaves from2 (parts_of m).1 count (length e.span - e.written))
       {k n v : ℕ} {p : Parts} {o : List Float} (few : k ≤ length ys)
       (batch : valid_at m.thinning m.cic.stages m.cic.r m.cic.sample_counter ≡ true → valid_in_line m.resampler ≡ true → 1 ≤ count
@@ -65,9 +64,8 @@ module _ {l₀ : Line} {xs : List ℤ} {out₀ out : List Float} {l : Line} {t w
     some_left : 1 ≤ length ys
     some_left =
         let below = counter_below _ mid.good in
-        let six = div-mul-le_self (length xs - t) 6 in
         let long = left_long t xs in
-        omega (arith, below, six, long)
+        omega (arith, below, enough, long)
 
     place : e.written < length e.span
     place = let h = counted.1 some in omega (arith, h)

@@ -6,22 +6,29 @@ use Rattle.std.specs.Prelude.{Option, None, Some}
 use Prim.Native.Nat.{ℕ, ◌+◌, ◌≤◌, ◌<◌}
 use borrow.Author.Tests.{le-ltb, lt-ltb}
 use lib.Dec.{ltb}
+use lib.Seq.{take_all}
+use native.Mathlib.Nat.{zero-add}
+use native.Mathlib.Omega.{arith}
 use lib.IntN.{ℤ, pos}
 use lib.Ieee.{Float}
 use lib.ListN.{length, take, drop, set, get_or}
 use Rattle.theory.specs.Feeds.{Stepped, taking, head_of, step}
 use Rattle.theory.specs.Feeds as F
-use Rattle.theory.proofs.FeedLoop.{Midway, after_took, after_both, after_stopped}
+use Rattle.theory.proofs.FeedLoop.{Midway, start, after_took, after_both, after_stopped}
 use Rattle.theory.proofs.Steps.{step_full, step_ended, step_took}
 use Rattle.integer.specs.Stages.{ran}
 use Rattle.nonrecursive.specs.EitherKind.{kind_of}
-use Rattle.float.specs.PolyphaseResamp.{Emitted, emitted_from, setting_of}
+use Rattle.float.specs.PolyphaseResamp.{Emitted, emitted_from, setting_of, in_line, is_on}
 use Rattle.float.specs.declared.settings.Setting.{Setting}
-use Rattle.line.specs.Line.{line, fed_line}
-use Rattle.line.specs.Together.{Takes, RanTo}
+use Rattle.chain.specs.declared.arrays.Arrays.{Arrays}
+use Rattle.chain.specs.declared.clock.Clock.{Clock}
+use Rattle.chain.specs.declared.fixed.Fixed.{Fixed}
+use Rattle.nonrecursive.specs.declared.thinning.Thinning.TheVariants as thinning
+use Rattle.line.specs.Line.{line, fed_line, valid}
+use Rattle.line.specs.Together.{Takes, RanTo, line_held, due_at}
 use Rattle.line.specs.declared.gauge_line.Line.{Line}
 use Rattle.line.proofs.Lawful.{Good, line_lawful}
-use Rattle.line.proofs.Left.{left}
+use Rattle.line.proofs.Left.{left, left_are, left_long}
 use Rattle.line.proofs.AtOnce.{with_sums, after_at_once}
 use Rattle.line.proofs.Emitting.{Drained, emptied, with_mu}
 
@@ -38,6 +45,24 @@ stops {l₀} {xs} {out₀} {out} {l} {t} {w} mid s by v =
       line = sym (ap (λ (g : F.Fed Line Float). g.line) f.is_fed);
       span = f.span ∙ sym (ap (λ (g : F.Fed Line Float). g.written ++ drop (length g.written) out₀) f.is_fed);
     }
+
+-- a feed that only integrates its samples: a place is left, nothing is due, and they complete no sum
+pub rested :
+    (f : Fixed) (c : Clock) (lent : Arrays) (xs : List ℤ) (out : List Float) (counter : ℕ) (sums : List ℤ) → valid (line_held f c lent) ≡ true
+    → (f.settings.thinning ≡ thinning.Integrators) × (0 < length out) × (due_at f c.mu ≡ false) × (c.sample_counter + length xs < f.settings.r)
+    → counter ≡ c.sample_counter + length xs → sums ≡ (ran f.settings.stages lent.integrators.now (pos 0) xs).state
+    → RanTo (line_held f c lent) xs out out (length xs) 0 (with_sums (line_held f c lent) sums counter)
+unfolding in_line is_on due_at
+rested f c lent xs out counter sums good only moved made =
+    let l = line_held f c lent in
+    let still : line.due l ≡ false = only.2 in
+    let all_left : take (length xs) (left 0 xs) ≡ xs = ap (take (length xs)) (left_are 0 xs) ∙ take_all (length xs) xs (omega arith) in
+    let long = left_long 0 xs in
+    let fits : (length xs ≤ length (left 0 xs)) × (counter < f.settings.r) = (omega (arith, long), omega (arith, moved, only.3)) in
+    let all_made : sums ≡ (ran f.settings.stages lent.integrators.now (pos 0) (take (length xs) (left 0 xs))).state = rw all_left made in
+    let sped = after_at_once (start line 64 Good line_lawful l xs out good) only.1 still {b = false} (sym only.0) (λ n. refl) fits moved all_made in
+    let here : ltb 0 (length out) ≡ true = lt-ltb 0 (length out) only.1 in
+    rw (zero-add (length xs)) at (stops sped _ (step_ended line (with_sums l sums counter) (ltb 0 (length out)) xs (0 + length xs) here still (omega arith)) refl)
 
 module _ {l₀ : Line} {xs : List ℤ} {out₀ out : List Float} {l : Line} {t w : ℕ} (mid : Midway line 64 Good line_lawful l₀ xs out₀ out l t w)
     {q : Setting} (setting : q ≡ setting_of l.resampler) {e : Emitted} (due : e ≡ emitted_from q.straight q.phases q.taps q.step l.resampler.delay l.resampler.prototype l.resampler.mu w out) where

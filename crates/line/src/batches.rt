@@ -1,6 +1,6 @@
 // 01, section 6: "A feed steps until stopped", by batches: as long as enough samples are left, a block of them goes through each section before the next one. How
 // many samples and outputs a step has does not depend on the samples, so a batch is as long as leaves a place of the span before its last sum.
-ghost use Rattle.std.specs.Prelude.{◌≡◌, true};
+ghost use Rattle.std.specs.Prelude.{◌≡◌, true, ◌≤◌};
 ghost use Rattle.integer.specs.Gain.{gain_bits};
 ghost use Rattle.chain.specs.Lending.{Same};
 ghost use Rattle.line.specs.Line as L;
@@ -10,10 +10,22 @@ use chain::arrays::Arrays;
 use chain::clock::Clock;
 use chain::fixed::{FEW_SUMS, Fixed};
 use chain::room::sums_for;
+use chain::settings::Settings;
 use chain::sums::take_batch;
+use nonrecursive::Thinning;
 use refusal::Moved;
 
-// Steps while samples for FEW_SUMS sums are left and a batch of as many leaves a place. No range: a batch takes as many samples as its sums want.
+// Whether so many samples are worth a batch: those of one sum of neighbours, which go one by one at a higher cost, and of FEW_SUMS of integrators.
+fn worth_a_batch(s: Settings, left: usize) -> bool
+    ensures { result ≡ true → s.r ≤ left }
+{
+    match s.thinning {
+        Thinning::Integrators => s.r <= left / FEW_SUMS,
+        Thinning::Neighbours => s.r <= left,
+    }
+}
+
+// Steps while samples are left that are worth a batch, and a batch of them leaves a place. No range: a batch takes as many samples as its sums want.
 pub(crate) fn feed_batches(
     f: Fixed,
     clock: &mut Clock,
@@ -29,7 +41,7 @@ pub(crate) fn feed_batches(
     let setting = f.settings.resampler();
     let mut taken: usize = 0;
     let mut written: usize = 0;
-    while f.settings.r <= (samples.len() - taken) / FEW_SUMS {
+    while worth_a_batch(f.settings, samples.len() - taken) {
         let due = setting.write_due(lent.prototype, lent.delay, clock.mu, out, written);
         clock.mu = due.mu;
         written = due.written;

@@ -4,12 +4,14 @@ ghost use Rattle.std.specs.Prelude.{◌≡◌, true, false, ◌+◌, ◌<◌, �
 ghost use Rattle.integer.specs.Stages.{ran};
 ghost use Rattle.integer.specs.Gain.{gain_bits};
 ghost use Rattle.nonrecursive.specs.EitherKind as E;
+ghost use Rattle.nonrecursive.specs.declared.thinning.Thinning.TheVariants as thinning;
 ghost use Rattle.chain.specs.Lending.{Same};
 ghost use Rattle.line.specs.Line as L;
 ghost use Rattle.line.specs.Together as T;
 
 use crate::batches::feed_batches;
 use crate::sample::sample_in;
+use crate::step::due;
 use chain::arrays::Arrays;
 use chain::clock::Clock;
 use chain::fixed::Fixed;
@@ -113,7 +115,33 @@ fn feed_singly(
     }
 }
 
-// Steps until stopped: by batches as long as one is worth it, and the rest sample by sample.
+// Whether a feed of so many samples only integrates them: a place is left, no output is due, and they complete no sum of integrators.
+fn only_integrates(f: Fixed, clock: Clock, count: usize, places: usize) -> bool
+    ensures { result ≡ true → (f.settings.thinning ≡ thinning.Integrators) × (0 < places) × (T.due_at f clock.mu ≡ false) × (clock.sample_counter + count < f.settings.r) }
+{
+    f.settings.thinning == Thinning::Integrators
+        && 0 < places
+        && !due(f, clock.mu)
+        && clock.sample_counter < f.settings.r
+        && count < f.settings.r - clock.sample_counter
+}
+
+// All samples go through the integrators, and complete no sum.
+fn integrate_all(
+    f: Fixed,
+    sample_counter: &mut usize,
+    integrators: &mut [i32; MAX_STAGES],
+    samples: &[i32],
+)
+    requires { sample_counter.old + length samples.now < f.settings.r }
+    ensures counter { sample_counter.new ≡ sample_counter.old + length samples.now }
+    ensures made { integrators.new ≡ (ran f.settings.stages integrators.old (pos 0) samples.now).state }
+{
+    run(f.settings.stages, integrators, samples);
+    *sample_counter += samples.len();
+}
+
+// Steps until stopped: by batches as long as one is worth it, and the rest sample by sample. A short feed that only integrates stands apart: it costs little else.
 pub(crate) fn feed_by(
     f: Fixed,
     clock: &mut Clock,
@@ -126,6 +154,13 @@ pub(crate) fn feed_by(
     ensures ran { let before = T.line_held f clock.old lent.old in
         T.RanTo before samples.now out.old out.new result.taken result.written (T.line_held f clock.new lent.new) }
 {
+    if only_integrates(f, *clock, samples.len(), out.len()) {
+        integrate_all(f, &mut clock.sample_counter, lent.integrators, samples);
+        return Moved {
+            taken: samples.len(),
+            written: 0,
+        };
+    }
     let begun = feed_batches(f, clock, lent, samples, out);
     let rest = feed_singly(
         f,

@@ -82,6 +82,8 @@ pub fn feed_lent(
     if !valid_at(f, n.clock, lent.counts) {
         return Err(Refusal::State);
     }
-    let moved = feed_by(f, &mut n.clock, lent, samples, out);
+    let mut clock = n.clock;
+    let moved = feed_by(f, &mut clock, lent, samples, out);
+    n.clock = clock;
     Ok(moved)
 }

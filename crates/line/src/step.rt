@@ -25,7 +25,7 @@ pub enum LineStep {
 
 // "An output is due when the resampler is on and mu < 1."
 #[tactic(auto, unfolding(crate::specs::Together::due_at))]
-fn due(f: Fixed, mu: f32) -> bool
+pub(crate) fn due(f: Fixed, mu: f32) -> bool
     ensures { result ≡ T.due_at f mu }
 {
     f.settings.phases != 0 && mu < 1.0

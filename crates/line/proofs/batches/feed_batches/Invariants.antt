@@ -7,12 +7,12 @@ use Rattle.line.specs.Together.{line_held}
 use Rattle.line.proofs.Lawful.{Good, line_lawful}
 use Rattle.line.proofs.batches.feed_batches.Given as goal
 
-abbrev pub invariant-loop-taken : goal.invariant-loop-taken
-invariant-loop-taken l =
+abbrev pub invariant-loop-f : goal.invariant-loop-f
+invariant-loop-f l =
     record {
       same : Same l.fn.lent l.lent;
       midway : Midway line 64 Good line_lawful (line_held l.f l.fn.clock l.fn.lent) l.samples l.fn.out l.out (line_held l.f l.clock l.lent) l.taken l.written;
     }
 
-abbrev pub decreases-loop-taken : goal.decreases-loop-taken
-decreases-loop-taken l = length l.samples - l.taken
+abbrev pub decreases-loop-f : goal.decreases-loop-f
+decreases-loop-f l = length l.samples - l.taken
