@@ -4,7 +4,7 @@ ghost use Rattle.theory.specs.Sections.{state, outs};
 ghost use Rattle.linear_phase.specs.LinearPhaseFir as P;
 
 use crate::brief::{filter_brief, is_brief};
-use crate::filter::{filter, filter_few, filter_short, is_short};
+use crate::filter::{NARROW, WIDE, filter, filter_few, filter_short, is_short};
 use crate::kinds::Kind;
 use crate::lanes::LANES;
 use crate::limits::{LINEAR_PHASE_DELAYS, MOST_LINEAR_PHASE_TAPS};
@@ -108,10 +108,14 @@ impl Half {
     {
         let m = self.m;
         let long = self.kind.reach(m);
+        let short = is_short(long);
         if span.len() < LANES {
-            return filter_few(&mut delay[..long], &taps[..m], self.kind, src, span);
+            if short {
+                return filter_few::<NARROW>(delay, long, &taps[..m], self.kind, src, span);
+            }
+            return filter_few::<WIDE>(delay, long, &taps[..m], self.kind, src, span);
         }
-        if is_short(long, span.len()) {
+        if short {
             return filter_short(delay, long, &taps[..m], self.kind, src, span);
         }
         filter(&mut delay[..long], &taps[..m], self.kind, src, span);

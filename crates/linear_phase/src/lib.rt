@@ -9,6 +9,7 @@ mod lanes;
 mod lent;
 mod limits;
 pub mod linear_phase_fir;
+mod moves;
 mod one;
 
 pub use crate::kinds::Kind;
