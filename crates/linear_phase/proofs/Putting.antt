@@ -4,7 +4,7 @@ use mathlib.Core.List.{List, ◌++◌, append-nil, append_assoc}
 use Prim.Native.Nat.{ℕ, ◌+◌, ◌-◌, ◌≤◌, min}
 use native.Mathlib.Omega.{arith}
 use lib.ListN.{length, get_or, take, drop, length-append, length-drop, drop_of_length-le}
-use lib.Seq.{length-take-le, take_at, take-add, take-take, take_all, take-append-le, drop-drop, take-append-add}
+use lib.Seq.{length-take-le, take_at, take-add, take-take, take_all, take-append-le, drop_at, drop-drop, take-append-add}
 use lib.Ieee.{Float, nan}
 use Rattle.theory.specs.Lists.{listed}
 use Rattle.q15.proofs.Filling.{listed_take}
@@ -108,3 +108,10 @@ more_long t d y part k room h e p =
 -- and so do fewer
 pub laid_less : (t d : List Float) (k n : ℕ) → k ≤ n → take n t ≡ take n d → take k t ≡ take k d
 laid_less t d k n h e = sym (take-take k n t h) ∙ ap (take k) e ∙ take-take k n d h
+
+-- what was put behind the first places
+pub behind_front : (s r : List Float) (k : ℕ) → k ≤ length s → drop k (take k s ++ (r ++ drop (length s - k) (drop k s))) ≡ r
+behind_front s r k h =
+    drop_at (take k s) (r ++ drop (length s - k) (drop k s)) k (length-take-le k s h)
+    ∙ ap (λ (l : List Float). r ++ l) (drop_of_length-le (drop k s) {i = length s - k} (omega (arith, length-drop k s)))
+    ∙ append-nil r

@@ -6,7 +6,7 @@ use crate::kinds::Folded;
 use crate::lanes::{outputs_at, put_group};
 use crate::one::sum_with;
 
-fn group_of<const N: usize>(tape: &[f32], fir: Folded<'_>, span: &mut [f32])
+pub(crate) fn group_of<const N: usize>(tape: &[f32], fir: Folded<'_>, span: &mut [f32])
     requires { (length fir.taps.now ≤ fir.long) × (fir.long + length span.old ≤ length tape.now) × (length span.old ≡ N) }
     ensures { span.new ≡ W.window_values fir.entry.centre fir.entry.minus fir.entry.taps.now fir.entry.long tape.now (length span.old) }
 {
@@ -29,7 +29,7 @@ fn value_at(line: &[f32], fir: Folded<'_>) -> f32
 }
 
 // Outputs at the windows from the front of the tape on, one by one.
-fn singles(tape: &[f32], fir: Folded<'_>, span: &mut [f32])
+pub(crate) fn singles(tape: &[f32], fir: Folded<'_>, span: &mut [f32])
     requires { (1 ≤ length fir.taps.now) × (length fir.taps.now ≤ fir.long) × (fir.long + length span.old ≤ length tape.now) }
     ensures { span.new ≡ W.window_values fir.entry.centre fir.entry.minus fir.entry.taps.now fir.entry.long tape.now (length span.old) }
 {
@@ -61,12 +61,13 @@ pub(crate) fn few_outputs(tape: &[f32], fir: Folded<'_>, span: &mut [f32])
     }
 }
 
-// A group, or fewer than two: what is more than a group does not wait for the sums of it.
+// About a group, and some more: what is more does not wait for the sums of a group.
 pub(crate) fn more_outputs(tape: &[f32], fir: Folded<'_>, span: &mut [f32])
-    requires { (length fir.taps.now ≤ fir.long) × (fir.long + length span.old ≤ length tape.now) × (16 ≤ length span.old) × (length span.old ≤ 31) }
+    requires { (1 ≤ length fir.taps.now) × (length fir.taps.now ≤ fir.long) × (fir.long + length span.old ≤ length tape.now) × (length span.old ≤ 28) }
     ensures { span.new ≡ W.window_values fir.entry.centre fir.entry.minus fir.entry.taps.now fir.entry.long tape.now (length span.old) }
 {
     match span.len() {
+        0..=15 => few_outputs(tape, fir, span),
         16 => group_of::<16>(tape, fir, span),
         17 => group_of::<17>(tape, fir, span),
         18 => group_of::<18>(tape, fir, span),
@@ -79,9 +80,6 @@ pub(crate) fn more_outputs(tape: &[f32], fir: Folded<'_>, span: &mut [f32])
         25 => group_of::<25>(tape, fir, span),
         26 => group_of::<26>(tape, fir, span),
         27 => group_of::<27>(tape, fir, span),
-        28 => group_of::<28>(tape, fir, span),
-        29 => group_of::<29>(tape, fir, span),
-        30 => group_of::<30>(tape, fir, span),
-        _ => group_of::<31>(tape, fir, span),
+        _ => group_of::<28>(tape, fir, span),
     }
 }

@@ -128,6 +128,7 @@ pub(crate) const NARROW: usize = 2 * LANES;
 pub(crate) const WIDE: usize = 4 * LANES;
 
 // The first places of the delay, in whole groups, the last of which ends with the lent places at most: what stands behind the first is put over. The loop counts by hand, as it goes by groups.
+#[inline(always)]
 fn lay_delay(tape: &mut [f32], delay: &[f32], long: usize)
     requires { (long + 16 ≤ length tape.old) × (long ≤ length delay.now) × (16 ≤ length delay.now) × (length delay.now ≤ 46) }
     ensures { (take long tape.new ≡ take long delay.now) × (length tape.new ≡ length tape.old) }
@@ -144,6 +145,7 @@ fn lay_delay(tape: &mut [f32], delay: &[f32], long: usize)
 }
 
 // `filter` for fewer samples than a group and a delay in front of the lent places, along a tape of so many.
+#[inline(always)]
 pub(crate) fn filter_few<const T: usize>(
     delay: &mut [f32],
     long: usize,

@@ -8,6 +8,9 @@ use crate::kinds::{Folded, pair};
 // The sums of a whole group, which go side by side.
 pub(crate) const LANES: usize = 16;
 
+// The most outputs that are made at once.
+const MORE: usize = 28;
+
 // One pair more for each sum: (new[j] ± old[j]) × tap.
 fn add_pairs(acc: &mut [f32], old: &[f32], new: &[f32], tap: f32, minus: bool)
     requires { (length acc.old ≤ length old.now) × (length acc.old ≤ length new.now) }
@@ -126,7 +129,7 @@ pub(crate) fn outputs_back<'a>(
 {
     // By hand: it goes by groups from the end on, and while one is written the samples before it are read; `end` tells what is left in front.
     let mut end = span.len();
-    while 2 * LANES <= end {
+    while MORE < end {
         let at = end - LANES;
         let front = at < fir.long;
         let from = window_start(front, at, fir.long);

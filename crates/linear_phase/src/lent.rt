@@ -9,6 +9,7 @@ use crate::kinds::Kind;
 use crate::lanes::LANES;
 use crate::limits::{LINEAR_PHASE_DELAYS, MOST_LINEAR_PHASE_TAPS};
 use crate::one::filter_one;
+use crate::straight::{filter_straight, is_straight};
 
 // How many taps one half has, inside the limits, and the filter's kind.
 #[derive(Clone, Copy)]
@@ -77,7 +78,11 @@ impl Half {
             span[0] = self.process(taps, delay, src[0]);
             return;
         }
-        if is_brief(self.m, src.len()) {
+        let long = self.kind.reach(self.m);
+        if is_straight(self.m, long, src.len()) {
+            return filter_straight(long, &taps[..self.m], self.kind, delay, src, span);
+        }
+        if is_brief(self.m) {
             return filter_brief(self.m, self.kind, taps, delay, src, span);
         }
         if src.len() == 2 {

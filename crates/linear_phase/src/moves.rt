@@ -18,6 +18,15 @@ pub(crate) fn taken<const N: usize>(line: &[f32]) -> [f32; N]
     y
 }
 
+// N samples into a span of as many places.
+pub(crate) fn copy_taken<const N: usize>(span: &mut [f32], src: &[f32])
+    requires { (N ≤ length src.now) × (length span.old ≡ N) }
+    ensures { span.new ≡ take N src.now }
+{
+    let y = taken::<N>(src);
+    put_group(span, &y);
+}
+
 // One group in front of a span, and one at its end. Where they meet, the second goes over the first.
 fn put_both(span: &mut [f32], y: &[f32], z: &[f32])
     requires { (length y.now ≡ length z.now) × (length z.now ≤ length span.old) × (length span.old ≤ length y.now + length z.now) }
@@ -124,6 +133,7 @@ pub(crate) fn move_down(delay: &mut [f32], n: usize)
 }
 
 // The last of the delay and of at most sixteen samples behind it are the next delay.
+#[inline(always)]
 pub(crate) fn move_past(delay: &mut [f32], samples: &[f32])
     requires { (1 ≤ length delay.old) × (length samples.now ≤ 16) }
     ensures { delay.new ≡ drop (length samples.now) (delay.old ++ samples.now) }

@@ -1,10 +1,10 @@
--- Before `end` the span is as it was, and from there on it has its outputs (`Written`); a group is left.
-use Rattle.std.proofs.Common.{◌≤◌, option_copied}
+-- Before `end` the span is as it was, and from there on it has its outputs (`Written`).
+use Rattle.std.proofs.Common.{option_copied}
 use Rattle.linear_phase.proofs.Backward.{Written, output}
 use Rattle.linear_phase.proofs.lanes.outputs_back.Given as goal
 
 abbrev pub invariant-loop-end : goal.invariant-loop-end
-invariant-loop-end l = (16 ≤ l.end) × Written (output l.fir.centre l.fir.minus l.fir.taps.now l.fir.long l.tape (option_copied l.src) l.initial.span) l.initial.span l.span l.end
+invariant-loop-end l = Written (output l.fir.centre l.fir.minus l.fir.taps.now l.fir.long l.tape (option_copied l.src) l.initial.span) l.initial.span l.span l.end
 
 abbrev pub decreases-loop-end : goal.decreases-loop-end
 decreases-loop-end l = l.end
