@@ -71,6 +71,7 @@ fn held<const M: usize, const ODD: bool>(
 }
 
 // A copy for each of the eight lengths.
+#[inline(never)]
 pub(crate) fn filter_brief(
     m: usize,
     kind: Kind,

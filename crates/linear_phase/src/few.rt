@@ -16,6 +16,7 @@ pub(crate) fn group_of<const N: usize>(tape: &[f32], fir: Folded<'_>, span: &mut
 }
 
 // The output at the window in front of a line; the centre is added last.
+#[inline(always)]
 fn value_at(line: &[f32], fir: Folded<'_>) -> f32
     requires { (1 ≤ length fir.taps.now) × (length fir.taps.now ≤ fir.long) × (fir.long + 1 ≤ length line.now) }
     ensures { result ≡ W.centred_value fir.entry.centre fir.entry.minus fir.entry.taps.now (take (fir.entry.long + 1) line.now) }
@@ -29,6 +30,7 @@ fn value_at(line: &[f32], fir: Folded<'_>) -> f32
 }
 
 // Outputs at the windows from the front of the tape on, one by one.
+#[inline(always)]
 pub(crate) fn singles(tape: &[f32], fir: Folded<'_>, span: &mut [f32])
     requires { (1 ≤ length fir.taps.now) × (length fir.taps.now ≤ fir.long) × (fir.long + length span.old ≤ length tape.now) }
     ensures { span.new ≡ W.window_values fir.entry.centre fir.entry.minus fir.entry.taps.now fir.entry.long tape.now (length span.old) }

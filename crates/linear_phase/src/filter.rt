@@ -31,8 +31,8 @@ fn last_in(delay: &mut [f32], tape: &[f32], samples: &[f32])
     put_at_end(delay, &samples[newest..]);
 }
 
-// The lent samples, or else those of the span itself, go through the filter, and their outputs into the span. A call of its own would be some 80 instructions of a block.
-#[inline(always)]
+// The lent samples, or else those of the span itself, go through the filter, and their outputs into the span.
+#[inline(never)]
 pub(crate) fn filter(
     delay: &mut [f32],
     taps: &[f32],
@@ -91,6 +91,7 @@ fn lay_groups(tape: &mut [f32], delay: &[f32], long: usize, samples: &[f32])
 }
 
 // `filter` for a delay of so many places in front of the lent ones, all of which goes to the tape in whole groups.
+#[inline(never)]
 pub(crate) fn filter_short(
     delay: &mut [f32],
     long: usize,

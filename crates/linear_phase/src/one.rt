@@ -8,6 +8,7 @@ use crate::kinds::{Kind, pair};
 use crate::moves::move_down;
 
 // Σ (new ± old) × taps[t] from 0.0, t ascending, at the window of the delay with x behind it.
+#[inline(always)]
 pub(crate) fn sum_with(delay: &[f32], taps: &[f32], antisymmetric: bool, x: f32) -> f32
     requires { (1 ≤ length taps.now) × (length taps.now ≤ length delay.now) }
     ensures { result ≡ W.window_acc antisymmetric taps.now (delay.now ++ (x ∷ [])) (length taps.now) }

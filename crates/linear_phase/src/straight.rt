@@ -53,6 +53,7 @@ fn straight<const M: usize, const LONG: usize, const CENTRE: bool>(
 
 // A copy for each length, and for a centre sample.
 #[tactic(auto, unfolding(crate::specs::LinearPhase::reach, crate::specs::Windows::has_centre))]
+#[inline(never)]
 pub(crate) fn filter_straight(
     long: usize,
     taps: &[f32],
