@@ -128,21 +128,22 @@ pub(crate) const NARROW: usize = 2 * LANES;
 
 pub(crate) const WIDE: usize = 4 * LANES;
 
-// The first places of the delay, in whole groups, the last of which ends with the lent places at most: what stands behind the first is put over. The loop counts by hand, as it goes by groups.
+// The first places of the delay, in whole groups: what the first of them has behind these is put over.
 #[inline(always)]
 fn lay_delay(tape: &mut [f32], delay: &[f32], long: usize)
-    requires { (long + 16 ≤ length tape.old) × (long ≤ length delay.now) × (16 ≤ length delay.now) × (length delay.now ≤ 46) }
+    requires { (long + 16 ≤ length tape.old) × (long ≤ 46) × (16 ≤ length tape.old) × (length delay.now ≡ 46) }
     ensures { (take long tape.new ≡ take long delay.now) × (length tape.new ≡ length tape.old) }
 {
-    let mut at = 0;
-    while at + LANES < long {
-        let y = taken(&delay[at..]);
-        put_all(&mut tape[at..], y);
-        at += LANES;
+    let early = taken(delay);
+    put_all(tape, early);
+    if long <= LANES {
+        return;
     }
-    let last = at.min(delay.len() - LANES);
-    let y = taken(&delay[last..]);
-    put_all(&mut tape[last..], y);
+    let middle = taken(&delay[LANES..]);
+    put_all(&mut tape[LANES..], middle);
+    let last = long - LANES;
+    let late = taken(&delay[last..]);
+    put_all(&mut tape[last..], late);
 }
 
 // `filter` for fewer samples than a group and a delay in front of the lent places, along a tape of so many.

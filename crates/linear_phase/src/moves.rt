@@ -38,6 +38,7 @@ fn put_both(span: &mut [f32], y: &[f32], z: &[f32])
 }
 
 // The samples into a span of as many places, by their first N and their last N, which are all of them.
+#[inline(always)]
 fn copy_ends<const N: usize>(span: &mut [f32], src: &[f32])
     requires { (length src.now ≡ length span.old) × (N ≤ length span.old) × (length span.old ≤ N + N) }
     ensures { span.new ≡ src.now }
@@ -49,6 +50,7 @@ fn copy_ends<const N: usize>(span: &mut [f32], src: &[f32])
 }
 
 // At most sixteen samples into a span of as many places.
+#[inline(always)]
 pub(crate) fn copy_few(span: &mut [f32], src: &[f32])
     requires { (length src.now ≡ length span.old) × (length span.old ≤ 16) }
     ensures { span.new ≡ src.now }
@@ -69,6 +71,7 @@ pub(crate) fn copy_few(span: &mut [f32], src: &[f32])
 }
 
 // The places from `to` on, as many as a group, get what stands n places on; all of it is read before any is written.
+#[inline(always)]
 fn move_group(delay: &mut [f32], to: usize, n: usize)
     requires { to + n + 16 ≤ length delay.old }
     ensures { delay.new ≡ take to delay.old ++ (take 16 (drop (to + n) delay.old) ++ drop (to + 16) delay.old) }
@@ -79,6 +82,7 @@ fn move_group(delay: &mut [f32], to: usize, n: usize)
 }
 
 // The places of whole groups move down by n; where these end. The loop counts by hand: it goes by groups, and the answer is the count that it ends with.
+#[inline(always)]
 fn move_groups(delay: &mut [f32], n: usize) -> usize
     requires { n ≤ length delay.old }
     ensures { (result + n ≤ length delay.old) × (length delay.old < result + n + 16) × (delay.new ≡ take result (drop n delay.old) ++ drop result delay.old) }
@@ -92,6 +96,7 @@ fn move_groups(delay: &mut [f32], n: usize) -> usize
 }
 
 // The places behind the first n move down by n, by their first N and their last N, which are all of them; both are read before either is written.
+#[inline(always)]
 fn move_ends<const N: usize>(rest: &mut [f32], n: usize)
     requires { (N + n ≤ length rest.old) × (length rest.old ≤ N + N + n) }
     ensures { rest.new ≡ drop n rest.old ++ drop (length rest.old - n) rest.old }
@@ -104,6 +109,7 @@ fn move_ends<const N: usize>(rest: &mut [f32], n: usize)
 }
 
 // The same of fewer than a group.
+#[inline(always)]
 fn move_rest(rest: &mut [f32], n: usize)
     requires { (n ≤ length rest.old) × (length rest.old < n + 16) }
     ensures { rest.new ≡ drop n rest.old ++ drop (length rest.old - n) rest.old }
@@ -124,6 +130,7 @@ fn move_rest(rest: &mut [f32], n: usize)
 }
 
 // All places move down by n; the last n stay too.
+#[inline(always)]
 pub(crate) fn move_down(delay: &mut [f32], n: usize)
     requires { n ≤ length delay.old }
     ensures { delay.new ≡ drop n delay.old ++ drop (length delay.old - n) delay.old }
