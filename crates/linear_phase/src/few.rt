@@ -6,7 +6,7 @@ use crate::kinds::Folded;
 use crate::lanes::{outputs_at, put_group};
 use crate::one::sum_with;
 
-pub(crate) fn group_of<const N: usize>(tape: &[f32], fir: Folded<'_>, span: &mut [f32])
+fn group_of<const N: usize>(tape: &[f32], fir: Folded<'_>, span: &mut [f32])
     requires { (length fir.taps.now ≤ fir.long) × (fir.long + length span.old ≤ length tape.now) × (length span.old ≡ N) }
     ensures { span.new ≡ W.window_values fir.entry.centre fir.entry.minus fir.entry.taps.now fir.entry.long tape.now (length span.old) }
 {

@@ -1,12 +1,13 @@
 // Blocks no shorter than a short delay, with a copy of the code for each length of a filter. Outputs whose windows begin in the delay are made on a tape; all others along the samples one by one: the
 // compiler knows the window, and makes several at once.
-ghost use Rattle.std.specs.Prelude.{◌≡◌, true, ◌++◌, ◌≤◌, length, take, drop};
+ghost use Rattle.std.specs.Prelude.{◌≡◌, true, ◌++◌, ◌+◌, ◌≤◌, length, take, drop};
 ghost use Rattle.theory.specs.Sections.{state, outs};
 ghost use Rattle.linear_phase.specs.LinearPhase as P;
 ghost use Rattle.linear_phase.specs.Windows as W;
 
-use crate::few::{group_of, singles};
+use crate::few::singles;
 use crate::kinds::{Folded, Kind};
+use crate::lanes::{outputs_at, put_group};
 use crate::moves::{copy_taken, taken};
 
 // Places for the longest of these delays and as many samples.
@@ -17,6 +18,16 @@ pub(crate) fn is_straight(m: usize, long: usize, n: usize) -> bool
     ensures { result ≡ true → (2 ≤ m) × (m ≤ 5) × (long ≤ n) }
 {
     2 <= m && m <= 5 && long <= n
+}
+
+// Outputs at the first windows of the tape. With `group_of`, which does the same, each group there has two callers, and the compiler no longer keeps its sums in registers.
+fn first_outputs<const N: usize>(tape: &[f32], fir: Folded<'_>, span: &mut [f32])
+    requires { (length fir.taps.now ≤ fir.long) × (fir.long + length span.old ≤ length tape.now) × (length span.old ≡ N) }
+    ensures { span.new ≡ W.window_values fir.entry.centre fir.entry.minus fir.entry.taps.now fir.entry.long tape.now (length span.old) }
+{
+    let mut y = [0.0f32; N];
+    outputs_at(&mut y, tape, fir);
+    put_group(span, &y);
 }
 
 // The taps go to an array of this function: no store to the span can be one to it.
@@ -48,7 +59,7 @@ fn straight<const M: usize, const LONG: usize, const CENTRE: bool>(
     let newest = src.len() - LONG;
     copy_taken::<LONG>(&mut delay[..LONG], &src[newest..]);
     singles(src, fir, &mut span[LONG..]);
-    group_of::<LONG>(&tape, fir, &mut span[..LONG]);
+    first_outputs::<LONG>(&tape, fir, &mut span[..LONG]);
 }
 
 // A copy for each length, and for a centre sample.

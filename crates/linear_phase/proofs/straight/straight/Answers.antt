@@ -54,8 +54,8 @@ returns-clause-span g c =
     c.singles.ensures
     ∙ ap₂ {C = List Float} (λ (t : List Float) (m : ℕ). window_values centre a.kind.antisymmetric t k v m) own rest_long in
     let head =
-    c.group_of.ensures
+    c.first_outputs.ensures
     ∙ ap₂ {C = List Float} (λ (t : List Float) (m : ℕ). window_values centre a.kind.antisymmetric t k tape m) own first_long in
-    ap (λ (l : List Float). c.group_of.new.span ++ l) (behind_front a.span.now r k within)
+    ap (λ (l : List Float). c.first_outputs.new.span ++ l) (behind_front a.span.now r k within)
     ∙ straight_outs a.kind.odd a.kind.antisymmetric a.taps.now d v tape c.requires.known.3 (sym is) (omega (arith, is, c.requires.known)) (omega (arith, is, fits)) on.0 on.1 head others
     ∙ ap (λ (m : ℕ). outs (linear_phase a.kind.odd a.kind.antisymmetric a.taps.now) (take m a.delay.now) v) c.requires.told.1
