@@ -17,6 +17,33 @@ use Rattle.linear_phase.specs.Windows.{centred_value, window_values, put_in_fron
 use Rattle.linear_phase.proofs.SideBySide.{output_at, values_long}
 use Rattle.linear_phase.proofs.Tapes.{taken_from}
 
+-- as many samples as r stand on the tape behind the delay
+module _ (long : ℕ) (tape v : List Float) (r : ℕ) (room : long + r ≤ length tape) (enough : r ≤ length v) (same : take r (drop long tape) ≡ take r v) where
+  in_front : length (take long tape) ≡ long
+  in_front = length-take-le long tape (omega arith)
+
+  -- a window that begins before them
+  window_on : (i : ℕ) → i < r → take (suc long) (drop i tape) ≡ take (suc long) (drop i (take long tape ++ v))
+  window_on i h =
+      sym (taken_from tape (long + r) i (suc long) (omega arith) room)
+      ∙ ap (λ (l : List Float). take (suc long) (drop i l)) front
+      ∙ taken_from (take long tape ++ v) (long + r) i (suc long) (omega arith) (omega (arith, length-append (take long tape) v, in_front))
+    where
+      front : take (long + r) tape ≡ take (long + r) (take long tape ++ v)
+      front =
+          take-add long r tape
+          ∙ ap (λ (l : List Float). take long tape ++ l) same
+          ∙ sym (take-append-add (take long tape) v r)
+          ∙ ap (λ (k : ℕ). take (k + r) (take long tape ++ v)) in_front
+
+  -- the outputs of windows that all begin there
+  few_values : (centre antisymmetric : Bool) (c : List Float) (end : ℕ) → end ≤ r
+      → window_values centre antisymmetric c long tape end ≡ listed end (λ i. centred_value centre antisymmetric c (take (suc long) (drop i (take long tape ++ v))))
+  unfolding window_values
+  few_values centre antisymmetric c end h =
+      listed_ext end (λ i. centred_value centre antisymmetric c (take (suc long) (drop i tape))) (λ i. centred_value centre antisymmetric c (take (suc long) (drop i (take long tape ++ v))))
+      (λ i l. ap (centred_value centre antisymmetric c) (window_on i (omega arith)))
+
 module _ (long : ℕ) (tape v : List Float) (n : ℕ) (room : long + min n (long + 16) ≤ length tape) (on : OnTape long tape v n) where
   -- delay and samples
   abbrev line : List Float
@@ -25,30 +52,9 @@ module _ (long : ℕ) (tape v : List Float) (n : ℕ) (room : long + min n (long
   delay_long : length (take long tape) ≡ long
   delay_long = length-take-le long tape (omega arith)
 
-  line_long : length line ≡ long + n
-  line_long = length-append (take long tape) v ∙ omega (arith, delay_long, on.all)
-
   -- a window that begins in the delay
   on_tape : (i : ℕ) → i < n → i < long + 16 → take (suc long) (drop i tape) ≡ take (suc long) (drop i line)
-  on_tape i h g =
-      sym (taken_from tape (long + min n (long + 16)) i (suc long) (omega arith) (omega arith))
-      ∙ ap (λ (l : List Float). take (suc long) (drop i l)) front
-      ∙ taken_from line (long + min n (long + 16)) i (suc long) (omega arith) (omega (arith, line_long))
-    where
-      front : take (long + min n (long + 16)) tape ≡ take (long + min n (long + 16)) line
-      front =
-          take-add long (min n (long + 16)) tape
-          ∙ ap (λ (l : List Float). take long tape ++ l) on.same
-          ∙ sym (take-append-add (take long tape) v (min n (long + 16)))
-          ∙ ap (λ (k : ℕ). take (k + min n (long + 16)) line) delay_long
-
-  -- the outputs of windows that all begin there
-  few_values : (centre antisymmetric : Bool) (c : List Float) (end : ℕ) → end ≤ n → end ≤ long + 16
-      → window_values centre antisymmetric c long tape end ≡ listed end (λ i. centred_value centre antisymmetric c (take (suc long) (drop i line)))
-  unfolding window_values
-  few_values centre antisymmetric c end h g =
-      listed_ext end (λ i. centred_value centre antisymmetric c (take (suc long) (drop i tape))) (λ i. centred_value centre antisymmetric c (take (suc long) (drop i line)))
-      (λ i l. ap (centred_value centre antisymmetric c) (on_tape i (omega arith) (omega arith)))
+  on_tape i h g = window_on long tape v (min n (long + 16)) room (omega (arith, on.all)) on.same i (omega arith)
 
   -- and one among the samples
   among : (i : ℕ) → drop i v ≡ drop (long + i) line
@@ -157,14 +163,6 @@ module _ (g : ℕ → Float) (d e : List Float) (end : ℕ) (w : Written g d e e
           ∙ listed_more (λ k. g (at + k)) (end - at) (length d - end)
           ∙ ap (λ (k : ℕ). listed k (λ k. g (at + k))) (let i : end - at + (length d - end) ≡ length d - at = omega (arith, w.most) in i)
 
-  -- none is left
-  none_back : end ≡ 0 → e ≡ listed (length d) g
-  none_back z =
-      w.is
-      ∙ ap (λ (k : ℕ). take k d ++ from g d k) z
-      ∙ listed_ext (length d - 0) (λ k. g (0 + k)) g (λ k l. ap g (let i : 0 + k ≡ k = omega arith in i))
-      ∙ ap (λ (m : ℕ). listed m g) (let i : length d - 0 ≡ length d = omega arith in i)
-
   -- the rest of them, in front
   all_back : (part : List Float) → part ≡ listed end g → part ++ drop end e ≡ listed (length d) g
   all_back part p =
@@ -179,7 +177,7 @@ abbrev pub output : Bool → Bool → List Float → ℕ → List Float → Opti
 output centre minus c long tape src d i = centred_value centre minus c (take (suc long) (drop i (take long tape ++ unwrap_or src d)))
 
 module _ (centre minus : Bool) (c : List Float) (long : ℕ) (tape : List Float) (src : Option (List Float)) (d e : List Float) (end : ℕ)
-    (b : (1 ≤ length c) × (length c ≤ long) × (long + min (length d) (long + 16) ≤ length tape) × (long + 16 ≤ length tape)) (on : OnTape long tape (unwrap_or src d) (length d))
+    (b : (1 ≤ length c) × (length c ≤ long) × (long + min (length d) (long + 16) ≤ length tape) × (long + 32 ≤ length tape) × (16 ≤ length d)) (on : OnTape long tape (unwrap_or src d) (length d))
     (w : Written (output centre minus c long tape src d) d e end) where
   abbrev g : ℕ → Float
   g = output centre minus c long tape src d
@@ -214,17 +212,13 @@ module _ (centre minus : Bool) (c : List Float) (long : ℕ) (tape : List Float)
         ∙ group_window long tape (unwrap_or src d) (length d) b.2 on (ltb (end - 16) long) src (end - 16) end e refl refl whole w.most source unwritten (back_long g d e end w) k i))
         p
 
-  -- at last all are
-  pub all_written : end ≡ 0 → e ≡ window_values centre minus c long (take long tape ++ unwrap_or src d) (length d)
-  unfolding window_values
-  all_written z = none_back g d e end w z
-
-  pub few_written : (part : List Float) → end < 16 → part ≡ window_values centre minus c long tape (length (take end e))
+  -- and those in front
+  pub few_written : (part : List Float) → (let k = min (length d) 32 in take k (drop long tape) ≡ take k (unwrap_or src d)) → end < 32 → part ≡ window_values centre minus c long tape (length (take end e))
       → part ++ drop end e ≡ window_values centre minus c long (take long tape ++ unwrap_or src d) (length d)
   unfolding window_values
-  few_written part few p =
+  few_written part ahead few p =
       let n : length (take end e) ≡ end = length-take-le end e (omega (arith, w.most, back_long g d e end w)) in
       all_back g d e end w part
       (p
       ∙ ap (window_values centre minus c long tape) n
-      ∙ few_values long tape (unwrap_or src d) (length d) b.2 on centre minus c end w.most (omega (arith, few)))
+      ∙ few_values long tape (unwrap_or src d) (min (length d) 32) (omega (arith, b)) (omega (arith, on.all)) ahead centre minus c end (omega (arith, w.most, few)))

@@ -4,7 +4,7 @@ use mathlib.Core.List.{List, ◌++◌, append-nil, append_assoc}
 use Prim.Native.Nat.{ℕ, ◌+◌, ◌-◌, ◌≤◌, min}
 use native.Mathlib.Omega.{arith}
 use lib.ListN.{length, get_or, take, drop, length-append, length-drop, drop_of_length-le}
-use lib.Seq.{length-take-le, take_at, take-add, take-take, take_all, take-append-le, drop-drop, take-append-add}
+use lib.Seq.{length-take-le, take_at, take-add, take-take, take_all, take-append-le, drop_at, drop-drop, take-append-add}
 use lib.Ieee.{Float, nan}
 use Rattle.theory.specs.Lists.{listed}
 use Rattle.q15.proofs.Filling.{listed_take}
@@ -89,3 +89,29 @@ laid_groups delay samples t₀ t₁ t₂ t₃ long s n count few part h room siz
     ∙ ap₂ {C = List Float} ◌++◌
     (ap (take long) e₁ ∙ take-append-le long (take 16 delay) (drop 16 t₀) (omega (arith, d)) ∙ take-take long 16 delay few)
     (sym (take-add s 16 samples) ∙ ap (λ (k : ℕ). take k samples) (sym count))
+
+-- a group more of d stands in front of t
+pub more_laid : (t d y part : List Float) (k : ℕ) → take k t ≡ take k d → k + 16 ≤ length t → k + 16 ≤ length d → y ≡ take 16 (take (length d - k) (drop k d))
+    → part ≡ put_in_front y (take (length t - k) (drop k t)) → take (k + 16) (take k t ++ (part ++ drop (length t - k) (drop k t))) ≡ take (k + 16) d
+more_laid t d y part k same room h e p =
+    ap (take (k + 16)) (put_from 16 t y (drop k d) part k (e ∙ ap (take 16) (rest d k)) (simp length-drop (omega arith)) room p)
+    ∙ up_to 16 t (drop k d) k (simp length-drop (omega arith)) room
+    ∙ ap (λ (l : List Float). l ++ take 16 (drop k d)) same
+    ∙ sym (take-add k 16 d)
+
+pub more_long : (t d y part : List Float) (k : ℕ) → k + 16 ≤ length t → k + 16 ≤ length d → y ≡ take 16 (take (length d - k) (drop k d))
+    → part ≡ put_in_front y (take (length t - k) (drop k t)) → length (take k t ++ (part ++ drop (length t - k) (drop k t))) ≡ length t
+more_long t d y part k room h e p =
+    ap length (put_from 16 t y (drop k d) part k (e ∙ ap (take 16) (rest d k)) (simp length-drop (omega arith)) room p)
+    ∙ long_from 16 t (drop k d) k (simp length-drop (omega arith)) room
+
+-- and so do fewer
+pub laid_less : (t d : List Float) (k n : ℕ) → k ≤ n → take n t ≡ take n d → take k t ≡ take k d
+laid_less t d k n h e = sym (take-take k n t h) ∙ ap (take k) e ∙ take-take k n d h
+
+-- what was put behind the first places
+pub behind_front : (s r : List Float) (k : ℕ) → k ≤ length s → drop k (take k s ++ (r ++ drop (length s - k) (drop k s))) ≡ r
+behind_front s r k h =
+    drop_at (take k s) (r ++ drop (length s - k) (drop k s)) k (length-take-le k s h)
+    ∙ ap (λ (l : List Float). r ++ l) (drop_of_length-le (drop k s) {i = length s - k} (omega (arith, length-drop k s)))
+    ∙ append-nil r

@@ -5,8 +5,8 @@ use mathlib.Core.List.{List, [], ◌∷◌, ◌++◌, append-nil, append_assoc}
 use Prim.Native.Nat.{ℕ, zero, suc, ◌+◌, ◌-◌, ◌*◌, ◌≤◌, ◌<◌, min}
 use native.Mathlib.Numerals.{add-one}
 use native.Mathlib.Omega.{arith}
-use lib.ListN.{length, get_or, take, drop, length-drop, take-append-drop}
-use lib.Seq.{length-take-le, take-add, take-take, take_all, take-append-le, take-append-add, drop-append-le, drop-append-add, drop-drop}
+use lib.ListN.{length, get_or, take, drop, length-append, length-drop, take-append-drop}
+use lib.Seq.{length-take-le, take_at, take-add, take-take, take_all, take-append-le, take-append-add, drop_at, drop-append-le, drop-append-add, drop-drop}
 use lib.Ieee.{Float, nan}
 use Rattle.theory.specs.Sections.{Section, outs, state}
 use Rattle.q15.proofs.Filling.{listed_ext, listed_take}
@@ -14,8 +14,9 @@ use Rattle.float.proofs.Laid.{delay_in_front, samples_behind, tape_last}
 use Rattle.half_band.specs.Windows.{slid}
 use Rattle.half_band.proofs.Blocks.{outs_length}
 use Rattle.half_band.proofs.Moving.{length_slid}
-use Rattle.linear_phase.specs.Windows.{has_centre, window_value, window_values, linear_phase, OnTape, InRow}
-use Rattle.linear_phase.proofs.SideBySide.{rest}
+use Rattle.linear_phase.specs.Windows.{has_centre, centred_value, window_value, window_values, linear_phase, OnTape, InRow}
+use Rattle.linear_phase.proofs.SideBySide.{rest, values_long}
+use Rattle.linear_phase.proofs.Groups.{values_part, values_front}
 
 pub outs_long : (odd antisymmetric : Bool) (c d v : List Float) → length (outs (linear_phase odd antisymmetric c) d v) ≡ length v
 unfolding linear_phase
@@ -101,6 +102,91 @@ taken_from l m k s h g =
     sym (take-append-le s (drop k (take m l)) (drop m l) (simp length-drop (omega (arith, e))))
     ∙ ap (take s) (sym (drop-append-le k (take m l) (drop m l) (omega (arith, e))))
     ∙ ap (λ (z : List Float). take s (drop k z)) (take-append-drop m l)
+
+-- outputs at windows that two lines share
+pub same_values : (centre minus : Bool) (c : List Float) (long n : ℕ) (a b : List Float) → long + n ≤ length a → long + n ≤ length b → take (long + n) a ≡ take (long + n) b
+    → window_values centre minus c long a n ≡ window_values centre minus c long b n
+unfolding window_values
+same_values centre minus c long n a b la lb e =
+    listed_ext n (λ i. centred_value centre minus c (take (suc long) (drop i a))) (λ i. centred_value centre minus c (take (suc long) (drop i b)))
+    (λ i l. ap (centred_value centre minus c)
+    (sym (taken_from a (long + n) i (suc long) (omega arith) la)
+    ∙ ap (λ (z : List Float). take (suc long) (drop i z)) e
+    ∙ taken_from b (long + n) i (suc long) (omega arith) lb))
+
+-- delay and all samples stand on a tape
+pub few_of : (odd antisymmetric : Bool) (c d v tape : List Float) {centre : Bool} {y : List Float} {long n : ℕ} → centre ≡ has_centre odd antisymmetric → long ≡ length d → length v ≡ n
+    → 1 ≤ length d → length d + length v ≤ length tape → take (length d + length v) tape ≡ d ++ v → y ≡ window_values centre antisymmetric c long tape n → y ≡ outs (linear_phase odd antisymmetric c) d v
+few_of odd antisymmetric c d v tape {centre} {y} {long} {n} b e l some room whole q =
+    q
+    ∙ ap (λ (k : ℕ). window_values centre antisymmetric c k tape n) e
+    ∙ ap₂ {C = List Float} (λ (k : Bool) (m : ℕ). window_values k antisymmetric c (length d) tape m) b (sym l)
+    ∙ same_values (has_centre odd antisymmetric) antisymmetric c (length d) (length v) tape (d ++ v) room (omega (arith, length-append d v))
+    (whole ∙ sym (take_all (length d + length v) (d ++ v) (omega (arith, length-append d v))))
+    ∙ values_on odd antisymmetric c v d some
+
+-- samples put behind the delay that stands in front of a tape
+pub put_behind : (d s p r : List Float) → p ≡ s → take (length d + length s) (d ++ (p ++ r)) ≡ d ++ s
+put_behind d s p r e =
+    ap (λ (l : List Float). take (length d + length s) (d ++ (l ++ r))) e
+    ∙ ap (take (length d + length s)) (sym (append_assoc d s r))
+    ∙ take_at (d ++ s) r (length d + length s) (length-append d s)
+
+pub long_behind : (t p : List Float) (k n : ℕ) → k + n ≤ length t → length p ≡ n → length (take k t ++ (p ++ drop n (drop k t))) ≡ length t
+long_behind t p k n h e =
+    length-append (take k t) (p ++ drop n (drop k t))
+    ∙ omega (arith, h, e, length-take-le k t (omega arith), length-append p (drop n (drop k t)), length-drop n (drop k t), length-drop k t)
+
+-- the first outputs on a tape of the delay and the first samples, and the others along the samples
+pub straight_outs : (odd antisymmetric : Bool) (c d v tape : List Float) {centre : Bool} {h r : List Float} {long : ℕ} → centre ≡ has_centre odd antisymmetric → long ≡ length d → 1 ≤ length d
+    → length d ≤ length v → length d + length d ≤ length tape → take (length d + length d) tape ≡ d ++ take (length d) v → h ≡ window_values centre antisymmetric c long tape long
+    → r ≡ window_values centre antisymmetric c long v (length v - long) → h ++ r ≡ outs (linear_phase odd antisymmetric c) d v
+straight_outs odd antisymmetric c d v tape {centre} {h} {r} {long} b e some fits room whole eh er =
+    ap₂ {C = List Float} ◌++◌ head others
+    ∙ sym (take-add (length d) (length v - length d) all)
+    ∙ ap (λ (k : ℕ). take k all) (count (length d) (length v) fits)
+    ∙ take_all (length v) all (omega (arith, values_long (has_centre odd antisymmetric) antisymmetric c (length d) (d ++ v) (length v)))
+    ∙ values_on odd antisymmetric c v d some
+  where
+    all : List Float
+    all = window_values (has_centre odd antisymmetric) antisymmetric c (length d) (d ++ v) (length v)
+
+    count : (k n : ℕ) → k ≤ n → k + (n - k) ≡ n
+    count k n h = omega arith
+
+    head : h ≡ take (length d) (window_values (has_centre odd antisymmetric) antisymmetric c (length d) (d ++ v) (length v))
+    head =
+        eh
+        ∙ ap₂ {C = List Float} (λ (k : ℕ) (a : Bool). window_values a antisymmetric c k tape k) e b
+        ∙ same_values (has_centre odd antisymmetric) antisymmetric c (length d) (length d) tape (d ++ v) room (omega (arith, length-append d v)) (whole ∙ sym (take-append-add d v (length d)))
+        ∙ values_front (has_centre odd antisymmetric) antisymmetric c (length d) (d ++ v) (length v) (length d) fits
+
+    others : r ≡ take (length v - length d) (drop (length d) (window_values (has_centre odd antisymmetric) antisymmetric c (length d) (d ++ v) (length v)))
+    others =
+        er
+        ∙ ap₂ {C = List Float} (λ (k : ℕ) (a : Bool). window_values a antisymmetric c k v (length v - k)) e b
+        ∙ ap (λ (l : List Float). window_values (has_centre odd antisymmetric) antisymmetric c (length d) l (length v - length d)) (sym (drop_at d v (length d) refl))
+        ∙ values_part (has_centre odd antisymmetric) antisymmetric c (length d) (d ++ v) (length v) (length d) (length v - length d) (omega arith)
+
+-- that tape: so many places of zeros, over which the delay was put, and then the first samples behind it
+pub straight_tape : (d v p q zeros : List Float) (k : ℕ) → length d ≡ k → k + k ≤ length zeros → k ≤ length v → p ≡ d → q ≡ take k v
+    → let t = p ++ drop k zeros in let u = take k t ++ (q ++ drop (k + k - k) (drop k t)) in (length d + length d ≤ length u) × (take (length d + length d) u ≡ d ++ take (length d) v)
+straight_tape d v p q zeros k is room fits ep eq = (
+  omega (arith, is, places, long_behind (p ++ drop k zeros) q k (k + k - k) (omega (arith, places, room)) (eq_long ∙ less k)),
+  ap (λ (l : List Float). take (length d + length d) (l ++ (q ++ drop (k + k - k) (drop k (p ++ drop k zeros))))) (take_at p (drop k zeros) k (ap length ep ∙ is) ∙ ep)
+      ∙ ap (λ (m : ℕ). take (length d + m) (d ++ (q ++ drop (k + k - k) (drop k (p ++ drop k zeros))))) (is ∙ sym (length-take-le k v fits))
+      ∙ put_behind d (take k v) q (drop (k + k - k) (drop k (p ++ drop k zeros))) eq
+      ∙ ap (λ (m : ℕ). d ++ take m v) (sym is),
+)
+  where
+    places : length (p ++ drop k zeros) ≡ length zeros
+    places = length-append p (drop k zeros) ∙ omega (arith, ap length ep, is, room, length-drop k zeros)
+
+    eq_long : length q ≡ k
+    eq_long = ap length eq ∙ length-take-le k v fits
+
+    less : (k : ℕ) → k ≡ k + k - k
+    less k = omega arith
 
 -- where they are fewer than the delay has, it is a part of the tape
 pub few_last : (tape d v : List Float) → length v < length d → 2 * length d ≤ length tape → InRow tape d v

@@ -11,23 +11,11 @@ use crate::one::value_with;
 // The longest delay of four taps.
 const SHORT_DELAY: usize = 8;
 
-// So many samples are made sooner one by one than in groups, with two, three and four taps.
-const FEW_BY_TWO: usize = 48;
-
-const FEW_BY_THREE: usize = 24;
-
-const FEW_BY_FOUR: usize = 15;
-
-// Whether there are at most four taps, and few samples; with one tap any number are few.
-pub(crate) fn is_brief(m: usize, n: usize) -> bool
+// Whether there are at most four taps.
+pub(crate) fn is_brief(m: usize) -> bool
     ensures { result ≡ true → m ≤ 4 }
 {
-    match m {
-        1 => true,
-        2 => n <= FEW_BY_TWO,
-        3 => n <= FEW_BY_THREE,
-        _ => m <= 4 && n <= FEW_BY_FOUR,
-    }
+    m <= 4
 }
 
 // The delay moves down by one place, and x stands at its end. It goes from the end on: the other way would be a copy in memory to the compiler.
@@ -83,6 +71,7 @@ fn held<const M: usize, const ODD: bool>(
 }
 
 // A copy for each of the eight lengths.
+#[inline(never)]
 pub(crate) fn filter_brief(
     m: usize,
     kind: Kind,

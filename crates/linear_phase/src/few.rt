@@ -1,65 +1,22 @@
-// Outputs of a few samples in a row, fewer than a whole group, at windows on the tape: one or two alone, then a group of four, then two of four or eight, the second of which ends with the samples.
-ghost use Rattle.std.specs.Prelude.{◌≡◌, ◌++◌, ◌+◌, ◌-◌, ◌≤◌, length, take};
+// Outputs of a few samples in a row, at windows on a tape: one or two alone, more by a group of exactly as many, of which the compiler knows the size.
+ghost use Rattle.std.specs.Prelude.{◌≡◌, ◌+◌, ◌≤◌, length, take};
 ghost use Rattle.linear_phase.specs.Windows as W;
 
 use crate::kinds::Folded;
 use crate::lanes::{outputs_at, put_group};
 use crate::one::sum_with;
 
-// So many are made one by one: a group would wait for samples that were laid on the tape just now.
-const SINGLES: usize = 2;
-
-// The sums of the smaller groups.
-const FOUR: usize = 4;
-
-const EIGHT: usize = 8;
-
-// One group in front of a span, and one at its end. Where they meet, the second goes over the first.
-fn put_both(span: &mut [f32], y: &[f32], z: &[f32])
-    requires { (length y.now ≡ length z.now) × (length z.now ≤ length span.old) × (length span.old ≤ length y.now + length z.now) }
-    ensures { span.new ≡ take (length span.old - length z.now) y.now ++ z.now }
-{
-    let last = span.len() - z.len();
-    put_group(span, y);
-    put_group(&mut span[last..], z);
-}
-
-// As many of them as the span has places, by two parts of w: the compiler knows w, and copies them without a call.
-fn put_some(span: &mut [f32], y: &[f32], w: usize)
-    requires { (length span.old ≤ length y.now) × (w ≤ length span.old) × (length span.old ≤ w + w) }
-    ensures { span.new ≡ take (length span.old) y.now }
-{
-    let past = span.len();
-    let last = past - w;
-    put_both(span, &y[..w], &y[last..past]);
-}
-
-fn one_four(tape: &[f32], fir: Folded<'_>, span: &mut [f32])
-    requires { (length fir.taps.now ≤ fir.long) × (fir.long + 16 ≤ length tape.now) × (2 ≤ length span.old) × (length span.old ≤ 4) }
+fn group_of<const N: usize>(tape: &[f32], fir: Folded<'_>, span: &mut [f32])
+    requires { (length fir.taps.now ≤ fir.long) × (fir.long + length span.old ≤ length tape.now) × (length span.old ≡ N) }
     ensures { span.new ≡ W.window_values fir.entry.centre fir.entry.minus fir.entry.taps.now fir.entry.long tape.now (length span.old) }
 {
-    let mut y = [0.0f32; FOUR];
-    outputs_at(&mut y, tape, fir);
-    if span.len() == FOUR {
-        return put_group(span, &y);
-    }
-    put_some(span, &y, 2);
-}
-
-// Two groups of N, the second of which ends with the span.
-fn two_of<const N: usize>(tape: &[f32], fir: Folded<'_>, span: &mut [f32])
-    requires { (N ≤ 8) × (length fir.taps.now ≤ fir.long) × (fir.long + 16 ≤ length tape.now) × (N ≤ length span.old) × (length span.old ≤ N + N) }
-    ensures { span.new ≡ W.window_values fir.entry.centre fir.entry.minus fir.entry.taps.now fir.entry.long tape.now (length span.old) }
-{
-    let last = span.len() - N;
     let mut y = [0.0f32; N];
     outputs_at(&mut y, tape, fir);
-    let mut z = [0.0f32; N];
-    outputs_at(&mut z, &tape[last..], fir);
-    put_both(span, &y, &z);
+    put_group(span, &y);
 }
 
 // The output at the window in front of a line; the centre is added last.
+#[inline(always)]
 fn value_at(line: &[f32], fir: Folded<'_>) -> f32
     requires { (1 ≤ length fir.taps.now) × (length fir.taps.now ≤ fir.long) × (fir.long + 1 ≤ length line.now) }
     ensures { result ≡ W.centred_value fir.entry.centre fir.entry.minus fir.entry.taps.now (take (fir.entry.long + 1) line.now) }
@@ -73,7 +30,8 @@ fn value_at(line: &[f32], fir: Folded<'_>) -> f32
 }
 
 // Outputs at the windows from the front of the tape on, one by one.
-fn singles(tape: &[f32], fir: Folded<'_>, span: &mut [f32])
+#[inline(always)]
+pub(crate) fn singles(tape: &[f32], fir: Folded<'_>, span: &mut [f32])
     requires { (1 ≤ length fir.taps.now) × (length fir.taps.now ≤ fir.long) × (fir.long + length span.old ≤ length tape.now) }
     ensures { span.new ≡ W.window_values fir.entry.centre fir.entry.minus fir.entry.taps.now fir.entry.long tape.now (length span.old) }
 {
@@ -82,18 +40,48 @@ fn singles(tape: &[f32], fir: Folded<'_>, span: &mut [f32])
     }
 }
 
+// Fewer than a group.
 pub(crate) fn few_outputs(tape: &[f32], fir: Folded<'_>, span: &mut [f32])
-    requires { (1 ≤ length fir.taps.now) × (length fir.taps.now ≤ fir.long) × (fir.long + 16 ≤ length tape.now) × (length span.old ≤ 16) }
+    requires { (1 ≤ length fir.taps.now) × (length fir.taps.now ≤ fir.long) × (fir.long + length span.old ≤ length tape.now) × (length span.old ≤ 15) }
     ensures { span.new ≡ W.window_values fir.entry.centre fir.entry.minus fir.entry.taps.now fir.entry.long tape.now (length span.old) }
 {
-    if span.len() <= SINGLES {
-        return singles(tape, fir, span);
+    match span.len() {
+        0..=2 => singles(tape, fir, span),
+        3 => group_of::<3>(tape, fir, span),
+        4 => group_of::<4>(tape, fir, span),
+        5 => group_of::<5>(tape, fir, span),
+        6 => group_of::<6>(tape, fir, span),
+        7 => group_of::<7>(tape, fir, span),
+        8 => group_of::<8>(tape, fir, span),
+        9 => group_of::<9>(tape, fir, span),
+        10 => group_of::<10>(tape, fir, span),
+        11 => group_of::<11>(tape, fir, span),
+        12 => group_of::<12>(tape, fir, span),
+        13 => group_of::<13>(tape, fir, span),
+        14 => group_of::<14>(tape, fir, span),
+        _ => group_of::<15>(tape, fir, span),
     }
-    if span.len() <= FOUR {
-        return one_four(tape, fir, span);
+}
+
+// About a group, and some more: what is more does not wait for the sums of a group.
+pub(crate) fn more_outputs(tape: &[f32], fir: Folded<'_>, span: &mut [f32])
+    requires { (1 ≤ length fir.taps.now) × (length fir.taps.now ≤ fir.long) × (fir.long + length span.old ≤ length tape.now) × (length span.old ≤ 28) }
+    ensures { span.new ≡ W.window_values fir.entry.centre fir.entry.minus fir.entry.taps.now fir.entry.long tape.now (length span.old) }
+{
+    match span.len() {
+        0..=15 => few_outputs(tape, fir, span),
+        16 => group_of::<16>(tape, fir, span),
+        17 => group_of::<17>(tape, fir, span),
+        18 => group_of::<18>(tape, fir, span),
+        19 => group_of::<19>(tape, fir, span),
+        20 => group_of::<20>(tape, fir, span),
+        21 => group_of::<21>(tape, fir, span),
+        22 => group_of::<22>(tape, fir, span),
+        23 => group_of::<23>(tape, fir, span),
+        24 => group_of::<24>(tape, fir, span),
+        25 => group_of::<25>(tape, fir, span),
+        26 => group_of::<26>(tape, fir, span),
+        27 => group_of::<27>(tape, fir, span),
+        _ => group_of::<28>(tape, fir, span),
     }
-    if span.len() <= EIGHT {
-        return two_of::<FOUR>(tape, fir, span);
-    }
-    two_of::<EIGHT>(tape, fir, span);
 }

@@ -1,13 +1,15 @@
 // A block of samples through a delay of the last ones, the oldest first.
-ghost use Rattle.std.specs.Prelude.{◌≡◌, true, ◌++◌, ◌+◌, ◌-◌, ◌*◌, ◌≤◌, ◌<◌, min, length, take, drop, replicate, unwrap_or, option_copied};
+ghost use Rattle.std.specs.Prelude.{◌≡◌, true, false, ◌++◌, ◌+◌, ◌-◌, ◌*◌, ◌≤◌, ◌<◌, min, length, take, drop, replicate, unwrap_or, option_copied};
 ghost use Rattle.theory.specs.Sections.{state, outs};
 ghost use Rattle.float.specs.F32.{zero32};
 ghost use Rattle.linear_phase.specs.LinearPhase as P;
 ghost use Rattle.linear_phase.specs.Windows as W;
 
+use crate::few::few_outputs;
 use crate::kinds::{Folded, Kind};
-use crate::lanes::{LANES, outputs_back, put_all, samples_of, taken};
+use crate::lanes::{LANES, outputs_back, put_all, samples_of};
 use crate::limits::{LINEAR_PHASE_DELAYS, MOST_LINEAR_PHASE_TAPS};
+use crate::moves::{copy_few, move_past, taken};
 use float::span::{lay, put_at_end};
 
 // Places for the longest delay, and for the samples that the last group of windows beginning in it reaches.
@@ -29,8 +31,8 @@ fn last_in(delay: &mut [f32], tape: &[f32], samples: &[f32])
     put_at_end(delay, &samples[newest..]);
 }
 
-// The lent samples, or else those of the span itself, go through the filter, and their outputs into the span. A call of its own would be some 80 instructions of a block.
-#[inline(always)]
+// The lent samples, or else those of the span itself, go through the filter, and their outputs into the span.
+#[inline(never)]
 pub(crate) fn filter(
     delay: &mut [f32],
     taps: &[f32],
@@ -39,6 +41,7 @@ pub(crate) fn filter(
     span: &mut [f32],
 )
     requires in_bounds { (1 ≤ length taps.now) × (length taps.now ≤ 23) × (length delay.old ≡ P.reach kind.odd (length taps.now)) }
+    requires many { (16 < length delay.old) × (16 ≤ length span.old) }
     requires src_len { length (unwrap_or (option_copied src) span.old) ≡ length span.old }
     ensures delay { let samples = unwrap_or (option_copied src.entry) span.old in
         delay.new ≡ state (W.linear_phase kind.odd kind.antisymmetric taps.now) delay.old samples }
@@ -61,11 +64,11 @@ pub(crate) fn filter(
     outputs_back(&tape, src, fir, span);
 }
 
-// Whether the delay is no longer than a group, and the samples are a group at least.
-pub(crate) fn is_short(long: usize, n: usize) -> bool
-    ensures { result ≡ true → (long ≤ 16) × (16 ≤ n) }
+// Whether the delay is no longer than a group.
+pub(crate) fn is_short(long: usize) -> bool
+    ensures { (result ≡ true → long ≤ 16) × (result ≡ false → 16 < long) }
 {
-    long <= LANES && LANES <= n
+    long <= LANES
 }
 
 // The places for such a delay and two groups of samples.
@@ -88,6 +91,7 @@ fn lay_groups(tape: &mut [f32], delay: &[f32], long: usize, samples: &[f32])
 }
 
 // `filter` for a delay of so many places in front of the lent ones, all of which goes to the tape in whole groups.
+#[inline(never)]
 pub(crate) fn filter_short(
     delay: &mut [f32],
     long: usize,
@@ -119,39 +123,63 @@ pub(crate) fn filter_short(
     outputs_back(&tape, src, fir, span);
 }
 
-// The places for the longest delay, and for fewer samples than a group: a multiple of sixteen, which the compiler clears without a call.
-const FEW_TAPE: usize = 64;
+// Places of a tape for a delay of one group and fewer samples than that, and for the longest delay.
+pub(crate) const NARROW: usize = 2 * LANES;
 
-// `filter` for fewer samples than a group, all of which go to the tape.
-pub(crate) fn filter_few(
+pub(crate) const WIDE: usize = 4 * LANES;
+
+// The first places of the delay, in whole groups: what the first of them has behind these is put over.
+#[inline(always)]
+fn lay_delay(tape: &mut [f32], delay: &[f32], long: usize)
+    requires { (long + 16 ≤ length tape.old) × (long ≤ 46) × (16 ≤ length tape.old) × (length delay.now ≡ 46) }
+    ensures { (take long tape.new ≡ take long delay.now) × (length tape.new ≡ length tape.old) }
+{
+    let early = taken(delay);
+    put_all(tape, early);
+    if long <= LANES {
+        return;
+    }
+    let middle = taken(&delay[LANES..]);
+    put_all(&mut tape[LANES..], middle);
+    let last = long - LANES;
+    let late = taken(&delay[last..]);
+    put_all(&mut tape[last..], late);
+}
+
+// `filter` for fewer samples than a group and a delay in front of the lent places, along a tape of so many.
+#[inline(always)]
+pub(crate) fn filter_few<const T: usize>(
     delay: &mut [f32],
+    long: usize,
     taps: &[f32],
     kind: Kind,
     src: Option<&[f32]>,
     span: &mut [f32],
 )
-    requires in_bounds { (1 ≤ length taps.now) × (length taps.now ≤ 23) × (length delay.old ≡ P.reach kind.odd (length taps.now)) }
+    requires in_bounds { (1 ≤ length taps.now) × (length taps.now ≤ 23) × (long ≡ P.reach kind.odd (length taps.now)) }
+    requires places { (long + 16 ≤ T) × (T ≤ 64) × (length delay.old ≡ 46) }
     requires src_len { (length (unwrap_or (option_copied src) span.old) ≡ length span.old) × (length span.old < 16) }
     ensures delay { let samples = unwrap_or (option_copied src.entry) span.old in
-        delay.new ≡ state (W.linear_phase kind.odd kind.antisymmetric taps.now) delay.old samples }
+        let next = state (W.linear_phase kind.odd kind.antisymmetric taps.now) (take long delay.old) samples in
+        delay.new ≡ next ++ drop long delay.old }
     ensures span { let samples = unwrap_or (option_copied src.entry) span.old in
-        span.new ≡ outs (W.linear_phase kind.odd kind.antisymmetric taps.now) delay.old samples }
+        span.new ≡ outs (W.linear_phase kind.odd kind.antisymmetric taps.now) (take long delay.old) samples }
 {
-    let long = delay.len();
-    let n = span.len();
-    let past = n + long;
+    let past = long + span.len();
     let centre = kind.has_centre();
     let lent = samples_of(src, span);
-    let mut tape = [0.0f32; FEW_TAPE];
-    lay(&mut tape, delay, lent);
-    put_at_end(delay, &tape[n..past]);
+    let mut places = [0.0f32; T];
+    let tape = &mut places[..];
+    lay_delay(tape, delay, long);
+    copy_few(&mut tape[long..past], lent);
+    move_past(&mut delay[..long], lent);
     let fir = Folded {
         taps,
         long,
         minus: kind.antisymmetric,
         centre,
     };
-    outputs_back(&tape, src, fir, span);
+    few_outputs(tape, fir, span);
 }
 
 // The taps in front, and zeros behind them.

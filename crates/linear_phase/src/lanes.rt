@@ -2,11 +2,14 @@
 ghost use Rattle.std.specs.Prelude.{◌≡◌, false, ◌++◌, ◌+◌, ◌≤◌, min, length, take, drop, unwrap_or, option_copied};
 ghost use Rattle.linear_phase.specs.Windows as W;
 
-use crate::few::few_outputs;
+use crate::few::more_outputs;
 use crate::kinds::{Folded, pair};
 
 // The sums of a whole group, which go side by side.
 pub(crate) const LANES: usize = 16;
+
+// The most outputs that are made at once.
+const MORE: usize = 28;
 
 // One pair more for each sum: (new[j] ± old[j]) × tap.
 fn add_pairs(acc: &mut [f32], old: &[f32], new: &[f32], tap: f32, minus: bool)
@@ -62,16 +65,6 @@ fn group_at(line: &[f32], from: usize, fir: Folded<'_>) -> [f32; LANES]
     y
 }
 
-// The first of a line.
-pub(crate) fn taken(line: &[f32]) -> [f32; LANES]
-    requires { 16 ≤ length line.now }
-    ensures { result ≡ take 16 line.now }
-{
-    let mut y = [0.0f32; LANES];
-    y.copy_from_slice(&line[..LANES]);
-    y
-}
-
 // All of a group in front of a span. By hand: with copy_from_slice, three outputs of a filter take 24 instructions more.
 pub(crate) fn put_group(span: &mut [f32], y: &[f32])
     requires { length y.now ≤ length span.old }
@@ -118,22 +111,25 @@ fn window_start(front: bool, at: usize, long: usize) -> usize
 }
 
 // An output of each sample into the span, the last whole group first. The samples are the lent ones, or else those of the span itself, whose places before the
-// group are still samples. The windows that begin in the delay are read on the tape, which has the delay and the first samples; so are those of the few outputs
-// before the first whole group.
+// group are still samples. The windows that begin in the delay are read on the tape, which has the delay and the first samples; so are those of the group in front and
+// of what is left before whole groups.
 pub(crate) fn outputs_back<'a>(
     tape: &'a [f32],
     src: Option<&'a [f32]>,
     fir: Folded<'_>,
     span: &mut [f32],
 )
-    requires in_bounds { (1 ≤ length fir.taps.now) × (length fir.taps.now ≤ fir.long) × (fir.long + min (length span.old) (fir.long + 16) ≤ length tape.now) × (fir.long + 16 ≤ length tape.now) }
+    requires in_bounds { (1 ≤ length fir.taps.now) × (length fir.taps.now ≤ fir.long) × (fir.long + min (length span.old) (fir.long + 16) ≤ length tape.now) × (fir.long + 32 ≤ length tape.now) × (16 ≤ length span.old) }
+    requires ahead { let samples = unwrap_or (option_copied src) span.old in
+        let n = min (length span.old) 32 in
+        take n (drop fir.long tape.now) ≡ take n samples }
     requires on_tape { W.OnTape fir.long tape.now (unwrap_or (option_copied src) span.old) (length span.old) }
     ensures { let z = take fir.entry.long tape.now ++ unwrap_or (option_copied src.entry) span.old in
         span.new ≡ W.window_values fir.entry.centre fir.entry.minus fir.entry.taps.now fir.entry.long z (length span.old) }
 {
     // By hand: it goes by groups from the end on, and while one is written the samples before it are read; `end` tells what is left in front.
     let mut end = span.len();
-    while LANES <= end {
+    while MORE < end {
         let at = end - LANES;
         let front = at < fir.long;
         let from = window_start(front, at, fir.long);
@@ -143,8 +139,5 @@ pub(crate) fn outputs_back<'a>(
         put_all(&mut span[at..end], y);
         end = at;
     }
-    if end == 0 {
-        return;
-    }
-    few_outputs(tape, fir, &mut span[..end]);
+    more_outputs(tape, fir, &mut span[..end]);
 }

@@ -4,11 +4,12 @@ ghost use Rattle.theory.specs.Sections.{state, outs};
 ghost use Rattle.linear_phase.specs.LinearPhaseFir as P;
 
 use crate::brief::{filter_brief, is_brief};
-use crate::filter::{filter, filter_few, filter_short, is_short};
+use crate::filter::{NARROW, WIDE, filter, filter_few, filter_short, is_short};
 use crate::kinds::Kind;
 use crate::lanes::LANES;
 use crate::limits::{LINEAR_PHASE_DELAYS, MOST_LINEAR_PHASE_TAPS};
 use crate::one::filter_one;
+use crate::straight::{filter_straight, is_straight};
 
 // How many taps one half has, inside the limits, and the filter's kind.
 #[derive(Clone, Copy)]
@@ -77,7 +78,11 @@ impl Half {
             span[0] = self.process(taps, delay, src[0]);
             return;
         }
-        if is_brief(self.m, src.len()) {
+        let long = self.kind.reach(self.m);
+        if is_straight(self.m, long, src.len()) {
+            return filter_straight(long, &taps[..self.m], self.kind, delay, src, span);
+        }
+        if is_brief(self.m) {
             return filter_brief(self.m, self.kind, taps, delay, src, span);
         }
         if src.len() == 2 {
@@ -108,10 +113,14 @@ impl Half {
     {
         let m = self.m;
         let long = self.kind.reach(m);
+        let short = is_short(long);
         if span.len() < LANES {
-            return filter_few(&mut delay[..long], &taps[..m], self.kind, src, span);
+            if short {
+                return filter_few::<NARROW>(delay, long, &taps[..m], self.kind, src, span);
+            }
+            return filter_few::<WIDE>(delay, long, &taps[..m], self.kind, src, span);
         }
-        if is_short(long, span.len()) {
+        if short {
             return filter_short(delay, long, &taps[..m], self.kind, src, span);
         }
         filter(&mut delay[..long], &taps[..m], self.kind, src, span);

@@ -9,7 +9,9 @@ mod lanes;
 mod lent;
 mod limits;
 pub mod linear_phase_fir;
+mod moves;
 mod one;
+mod straight;
 
 pub use crate::kinds::Kind;
 pub use crate::limits::{LINEAR_PHASE_DELAYS, MOST_LINEAR_PHASE_TAPS};

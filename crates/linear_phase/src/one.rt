@@ -1,13 +1,14 @@
 // One sample through a delay of the last samples, the oldest first.
-ghost use Rattle.std.specs.Prelude.{◌≡◌, [], ◌∷◌, ◌++◌, ◌+◌, ◌-◌, ◌≤◌, ◌<◌, length, take, drop};
+ghost use Rattle.std.specs.Prelude.{◌≡◌, [], ◌∷◌, ◌++◌, ◌≤◌, length};
 ghost use Rattle.half_band.specs.Windows.{slid};
 ghost use Rattle.linear_phase.specs.LinearPhase as P;
 ghost use Rattle.linear_phase.specs.Windows as W;
 
 use crate::kinds::{Kind, pair};
-use crate::lanes::{LANES, put_all, taken};
+use crate::moves::move_down;
 
 // Σ (new ± old) × taps[t] from 0.0, t ascending, at the window of the delay with x behind it.
+#[inline(always)]
 pub(crate) fn sum_with(delay: &[f32], taps: &[f32], antisymmetric: bool, x: f32) -> f32
     requires { (1 ≤ length taps.now) × (length taps.now ≤ length delay.now) }
     ensures { result ≡ W.window_acc antisymmetric taps.now (delay.now ++ (x ∷ [])) (length taps.now) }
@@ -33,45 +34,13 @@ pub(crate) fn value_with(delay: &[f32], taps: &[f32], kind: Kind, x: f32) -> f32
     }
 }
 
-// So many places from `to` on get what stands one place on; all of it is read before any is written.
-fn move_group(delay: &mut [f32], to: usize)
-    requires { to + 17 ≤ length delay.old }
-    ensures { delay.new ≡ W.group_moved delay.old to }
-{
-    let from = to + 1;
-    let y = taken(&delay[from..]);
-    put_all(&mut delay[to..], y);
-}
-
-// The places of whole groups move down by one; where these end. The loop counts by hand: it goes by groups, and the answer is the count that it ends with.
-fn move_groups(delay: &mut [f32]) -> usize
-    requires { 1 ≤ length delay.old }
-    ensures { (result < length delay.old) × (delay.new ≡ take result (drop 1 delay.old) ++ drop result delay.old) }
-{
-    let mut i = 0;
-    while i + LANES < delay.len() {
-        move_group(delay, i);
-        i += LANES;
-    }
-    i
-}
-
-// All places move down by one; the last one stays too.
-fn move_down(delay: &mut [f32])
-    requires { 1 ≤ length delay.old }
-    ensures { delay.new ≡ drop 1 delay.old ++ drop (length delay.old - 1) delay.old }
-{
-    delay.copy_within(1.., 0);
-}
-
 // The delay moves down by one place, and x stands at its end.
 fn move_in(delay: &mut [f32], x: f32)
     requires { 1 ≤ length delay.old }
     ensures { delay.new ≡ slid delay.old (x ∷ []) }
 {
     let last = delay.len() - 1;
-    let first = move_groups(delay);
-    move_down(&mut delay[first..]);
+    move_down(delay, 1);
     delay[last] = x;
 }
 

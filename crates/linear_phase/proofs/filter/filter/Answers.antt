@@ -3,6 +3,7 @@ use Rattle.std.proofs.Common.{◌≡◌, ℕ, ◌+◌, ◌≤◌, min, List, ◌
 use lib.Ieee.{Float}
 use Rattle.linear_phase.specs.Windows.{InRow}
 use Rattle.linear_phase.proofs.WholeList.{within}
+use Rattle.linear_phase.proofs.Putting.{laid_less}
 use Rattle.linear_phase.proofs.Tapes.{in_row, renamed, next_of, outs_of}
 use Rattle.linear_phase.proofs.filter.filter.Goals as goal
 
@@ -22,7 +23,17 @@ last_in-requires c =
 pub outputs_back-requires-clause-in_bounds : goal.outputs_back-requires-clause-in_bounds
 outputs_back-requires-clause-in_bounds c =
     let b = within _ c.requires.in_bounds in
-    (c.requires.in_bounds.0, b.least, omega (arith, b, c.lay.auto.tape), omega (arith, b, c.lay.auto.tape))
+    (c.requires.in_bounds.0, b.least, omega (arith, b, c.lay.auto.tape), omega (arith, b, c.lay.auto.tape), c.requires.many.1)
+
+pub outputs_back-requires-clause-ahead : goal.outputs_back-requires-clause-ahead
+outputs_back-requires-clause-ahead c =
+    let a = c.args in
+    let b = within _ c.requires.in_bounds in
+    let row = laid b.most c.samples_of-samples.ensures c.requires.src_len c.min-head.ensures c.lay.ensures in
+    let on = (renamed c.samples_of-samples.ensures c.requires.src_len refl row.on).same in
+    let n = length a.span.now in
+    let few : min (length c.args.span.now) 32 ≤ min (length c.args.span.now) (length c.args.delay.now + 16) = omega (arith, c.requires.many) in
+    laid_less _ _ (min n 32) (min n (length a.delay.now + 16)) few on
 
 pub outputs_back-requires-clause-on_tape : goal.outputs_back-requires-clause-on_tape
 outputs_back-requires-clause-on_tape c =

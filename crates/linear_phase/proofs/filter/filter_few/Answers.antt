@@ -1,49 +1,58 @@
--- `linear_phase::filter::filter_few` meets its contract: delay and samples stand on the tape, so its part behind the first samples is the next delay, and the outputs are those at the windows.
-use Rattle.std.proofs.Common.{◌≡◌, ℕ, ◌+◌, ◌-◌, ◌≤◌, ◌<◌, List, ◌++◌, length, take, drop, sym, refl, ap, ◌∙◌, arith}
-use Rattle.std.proofs.lemmas.List.{take_all}
+-- `linear_phase::filter::filter_few` meets its contract: delay and samples stand on the tape, and the outputs are those at the windows.
+use Rattle.std.proofs.Common.{◌≡◌, ◌+◌, ◌-◌, ◌≤◌, List, ◌++◌, length, take, drop, sym, ap, ◌∙◌, option_copied, arith, length-take-le}
+use Rattle.std.specs.Prelude.{unwrap_or}
+use lib.ListN.{length-replicate}
 use lib.Ieee.{Float}
-use Rattle.float.specs.Ending.{ending_in}
-use Rattle.float.proofs.Laid.{put_last, tape_last}
-use Rattle.linear_phase.specs.Windows.{InRow}
+use Rattle.float.specs.F32.{zero32}
 use Rattle.linear_phase.proofs.WholeList.{within}
-use Rattle.linear_phase.proofs.Tapes.{in_row, renamed, next_of, outs_of}
+use Rattle.linear_phase.proofs.Tapes.{next_of, few_of, put_behind, long_behind}
 use Rattle.linear_phase.proofs.filter.filter_few.Goals as goal
 
--- what `lay` leaves, and the part behind the first samples
-laid : {tape d samples v : List Float} {n : ℕ} → length d ≤ 46 → samples ≡ v → (length v ≡ n) × (n < 16)
-    → (length d + length samples ≤ 64 → take (length d + length samples) tape ≡ d ++ samples) → InRow tape d samples
-laid {tape} {d} {samples} most e l whole =
-    let m = ap length e in
-    in_row tape d samples samples (sym (take_all (length samples) samples (omega arith))) (omega arith) (whole (omega (arith, m)))
+pub whole_as_slice-tape : goal.whole_as_slice-tape
+whole_as_slice-tape g c = omega (arith, c.requires.places)
 
-last : (tape d : List Float) {samples v next : List Float} {n : ℕ} → length tape ≡ 64 → length d ≤ 46 → samples ≡ v → (length v ≡ n) × (n < 16)
-    → (length d + length samples ≤ 64 → take (length d + length samples) tape ≡ d ++ samples) → next ≡ ending_in (take (n + length d - n) (drop n tape)) d → next ≡ drop (length samples) (d ++ samples)
-last tape d {samples} room most e l whole =
-    let m = ap length e ∙ l.0 in
-    put_last d samples _ _ (
-    ap (λ (k : ℕ). take (k + length d - k) (drop k tape)) (sym m) ∙ tape_last tape d samples (omega (arith, m)) (whole (omega (arith, m)))
-    )
-
-pub slice_bounds-put_at_end-end : goal.slice_bounds-put_at_end-end
-slice_bounds-put_at_end-end c = let b = within _ c.requires.in_bounds in omega (arith, b, c.requires.src_len, c.lay.auto.tape)
-
-pub outputs_back-requires-clause-in_bounds : goal.outputs_back-requires-clause-in_bounds
-outputs_back-requires-clause-in_bounds c =
+pub lay_delay-requires : goal.lay_delay-requires
+lay_delay-requires g c =
     let b = within _ c.requires.in_bounds in
-    (c.requires.in_bounds.0, b.least, omega (arith, b, c.requires.src_len, c.lay.auto.tape), omega (arith, b, c.lay.auto.tape))
+    let many = length-replicate g.row.T zero32 in
+    (omega (arith, many, c.requires.places), omega (arith, b, c.requires.places), omega (arith, c.requires.places), omega (arith, c.requires.places))
 
-pub outputs_back-requires-clause-on_tape : goal.outputs_back-requires-clause-on_tape
-outputs_back-requires-clause-on_tape c =
+pub move_past-requires : goal.move_past-requires
+move_past-requires g c =
     let b = within _ c.requires.in_bounds in
-    renamed c.samples_of-lent.ensures c.requires.src_len.0 refl (laid b.most c.samples_of-lent.ensures c.requires.src_len c.lay.ensures).on
+    let is = length-take-le c.args.long c.args.delay.now (omega (arith, b, c.requires.places)) in
+    (omega (arith, is, b), omega (arith, ap length c.samples_of-lent.ensures, c.requires.src_len))
+
+pub few_outputs-requires : goal.few_outputs-requires
+few_outputs-requires g c =
+    let b = within _ c.requires.in_bounds in
+    let many = length-replicate g.row.T zero32 in
+    let room : c.args.long + 16 ≤ length c.lay_delay.new.tape = omega (arith, c.lay_delay.ensures.1, many, c.requires.places) in
+    let put : length c.copy_few.new.span ≡ c.args.long + length c.args.span.now - c.args.long = omega (arith, ap length c.copy_few.ensures, ap length c.samples_of-lent.ensures, c.requires.src_len) in
+    let same = long_behind c.lay_delay.new.tape c.copy_few.new.span c.args.long (c.args.long + length c.args.span.now - c.args.long) (omega (arith, room, c.requires.src_len)) put in
+    (c.requires.in_bounds.0, b.least, omega (arith, same, room, c.requires.src_len), omega (arith, c.requires.src_len))
 
 pub returns-clause-delay : goal.returns-clause-delay
-returns-clause-delay c =
+returns-clause-delay g c =
     let b = within _ c.requires.in_bounds in
-    next_of _ _ _ _ c.samples_of-lent.ensures b.some (last _ _ c.lay.auto.tape b.most c.samples_of-lent.ensures c.requires.src_len c.lay.ensures c.put_at_end.ensures)
+    let is = length-take-le c.args.long c.args.delay.now (omega (arith, b, c.requires.places)) in
+    ap (λ (l : List Float). l ++ drop c.args.long c.args.delay.now) (next_of _ _ _ _ c.samples_of-lent.ensures (omega (arith, is, b)) c.move_past.ensures)
 
 pub returns-clause-span : goal.returns-clause-span
-returns-clause-span c =
+returns-clause-span g c =
+    let a = c.args in
     let b = within _ c.requires.in_bounds in
-    let row = laid b.most c.samples_of-lent.ensures c.requires.src_len c.lay.ensures in
-    outs_of _ _ _ _ _ c.has_centre-centre.ensures refl c.requires.src_len.0 b.some row.front c.outputs_back.ensures
+    let d = take a.long a.delay.now in
+    let v = unwrap_or (option_copied a.src) a.span.now in
+    let n = a.long + length a.span.now - a.long in
+    let t = c.lay_delay.new.tape in
+    let p = c.copy_few.new.span in
+    let is : length (take c.args.long c.args.delay.now) ≡ c.args.long = length-take-le c.args.long c.args.delay.now (omega (arith, b, c.requires.places)) in
+    let many = length-replicate g.row.T zero32 in
+    let room : c.args.long + 16 ≤ length c.lay_delay.new.tape = omega (arith, c.lay_delay.ensures.1, many, c.requires.places) in
+    let put : length c.copy_few.new.span ≡ c.args.long + length c.args.span.now - c.args.long = omega (arith, ap length c.copy_few.ensures, ap length c.samples_of-lent.ensures, c.requires.src_len) in
+    let same = long_behind c.lay_delay.new.tape c.copy_few.new.span c.args.long (c.args.long + length c.args.span.now - c.args.long) (omega (arith, room, c.requires.src_len)) put in
+    few_of _ _ _ d v (take a.long t ++ (p ++ drop n (drop a.long t))) c.has_centre-centre.ensures (sym is) c.requires.src_len.0 (omega (arith, is, b)) (omega (arith, is, same, room, c.requires.src_len))
+    (ap (λ (l : List Float). take (length d + length v) (l ++ (p ++ drop n (drop a.long t)))) c.lay_delay.ensures.0
+    ∙ put_behind d v p (drop n (drop a.long t)) (c.copy_few.ensures ∙ c.samples_of-lent.ensures))
+    c.few_outputs.ensures

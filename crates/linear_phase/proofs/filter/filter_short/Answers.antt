@@ -1,6 +1,7 @@
 -- `linear_phase::filter::filter_short` meets its contract: delay and first samples stand on the tape, so the last of all are the next delay, and the outputs are those at the windows.
 use Rattle.std.proofs.Common.{◌≡◌, ℕ, ◌+◌, ◌≤◌, min, List, ◌++◌, length, take, drop, sym, ap, ap₂, ◌∙◌, arith, length-take-le}
 use lib.Ieee.{Float}
+use Rattle.float.proofs.Laid.{samples_behind}
 use Rattle.linear_phase.specs.Windows.{InRow}
 use Rattle.linear_phase.proofs.WholeList.{within}
 use Rattle.linear_phase.proofs.Tapes.{in_row, renamed, next_of, outs_of}
@@ -20,6 +21,18 @@ laid delay {tape} {samples} {v} {long} s e l whole =
     in_row tape (take long delay) samples (take k samples) (ap (λ (j : ℕ). take j samples) (sym first)) (omega (arith, first, is, s, l, ap length e))
     (ap₂ {C = List Float} (λ (i j : ℕ). take (i + j) tape) is first ∙ whole)
 
+-- and its first samples
+first_of : (long : ℕ) (tape delay : List Float) {samples v : List Float} {n : ℕ} → (long ≤ 16) × (length delay ≡ 46) → samples ≡ v → length v ≡ n
+    → (let k = min (length samples) 32 in take (long + k) tape ≡ take long delay ++ take k samples) → take (min n 32) (drop long tape) ≡ take (min n 32) v
+first_of long tape delay {samples} {v} {n} s e l whole =
+    let first : length (take (min (length samples) 32) samples) ≡ min (length samples) 32 = length-take-le (min (length samples) 32) samples (omega arith) in
+    let is = long_is delay s in
+    let m : length samples ≡ n = ap length e ∙ l in
+    let on : take (min (length samples) 32) (drop long tape) ≡ take (min (length samples) 32) samples =
+    ap₂ {C = List Float} (λ (i j : ℕ). take i (drop j tape)) (sym first) (sym is)
+    ∙ samples_behind tape (take long delay) (take (min (length samples) 32) samples) (ap₂ {C = List Float} (λ (i j : ℕ). take (i + j) tape) is first ∙ whole) in
+    ap (λ (k : ℕ). take (min k 32) (drop long tape)) (sym m) ∙ on ∙ ap₂ {C = List Float} (λ (k : ℕ) (z : List Float). take (min k 32) z) m e
+
 pub last_in-requires : goal.last_in-requires
 last_in-requires c =
     let is = long_is _ c.requires.long_bound in
@@ -31,7 +44,11 @@ last_in-requires c =
 pub outputs_back-requires-clause-in_bounds : goal.outputs_back-requires-clause-in_bounds
 outputs_back-requires-clause-in_bounds c =
     let b = within _ c.requires.in_bounds in
-    (c.requires.in_bounds.0, b.least, omega (arith, c.requires.long_bound, c.lay_groups.auto.tape), omega (arith, c.requires.long_bound, c.lay_groups.auto.tape))
+    (c.requires.in_bounds.0, b.least, omega (arith, c.requires.long_bound, c.lay_groups.auto.tape), omega (arith, c.requires.long_bound, c.lay_groups.auto.tape), c.requires.src_len.1)
+
+pub outputs_back-requires-clause-ahead : goal.outputs_back-requires-clause-ahead
+outputs_back-requires-clause-ahead c =
+    first_of c.args.long _ c.args.delay.now c.requires.long_bound c.samples_of-line.ensures c.requires.src_len.0 c.lay_groups.ensures
 
 pub outputs_back-requires-clause-on_tape : goal.outputs_back-requires-clause-on_tape
 outputs_back-requires-clause-on_tape c =

@@ -5,19 +5,34 @@ use Rattle.linear_phase.specs.LinearPhaseFir.{phase_of}
 use Rattle.linear_phase.proofs.Filters.{state_is, outs_are}
 use Rattle.linear_phase.proofs.lent.Half.along.Goals as goal
 
-pub returns-then-span-lt-LANES : goal.returns-then-span-lt-LANES
-returns-then-span-lt-LANES c =
+pub returns-then-short : goal.returns-then-short
+returns-then-short c =
     let a = c.args in
     let s = a.self in
     let v = unwrap_or (option_copied a.src) a.span.now in
     let o = c.filter_few.ensures in
     record {
-      delay = state_is _ _ _ _ _ s.inside c.told-taps c.told-delay _ c.reach-long.ensures.value v _ o.delay;
+      delay =
+          ap (phase_of s.m s.kind.odd s.kind.antisymmetric a.taps.now) o.delay
+          ∙ state_is _ _ _ _ _ s.inside c.told-taps c.told-delay _ c.reach-long.ensures.value v _ refl;
       span = outs_are _ _ _ _ _ s.inside c.told-taps c.told-delay _ c.reach-long.ensures.value v _ o.span;
     }
 
-pub returns-then-is_short : goal.returns-then-is_short
-returns-then-is_short c =
+pub returns-then-span-lt-LANES : goal.returns-then-span-lt-LANES
+returns-then-span-lt-LANES c =
+    let a = c.args in
+    let s = a.self in
+    let v = unwrap_or (option_copied a.src) a.span.now in
+    let o = c.filter_few-then-span-lt-LANES.ensures in
+    record {
+      delay =
+          ap (phase_of s.m s.kind.odd s.kind.antisymmetric a.taps.now) o.delay
+          ∙ state_is _ _ _ _ _ s.inside c.told-taps c.told-delay _ c.reach-long.ensures.value v _ refl;
+      span = outs_are _ _ _ _ _ s.inside c.told-taps c.told-delay _ c.reach-long.ensures.value v _ o.span;
+    }
+
+pub returns-then-short-2 : goal.returns-then-short-2
+returns-then-short-2 c =
     let a = c.args in
     let s = a.self in
     let v = unwrap_or (option_copied a.src) a.span.now in

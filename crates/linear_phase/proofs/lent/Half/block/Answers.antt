@@ -12,6 +12,18 @@ returns-then-src-eq1 c =
     let one = c.if-src-eq1.true in
     record { delay = one_state d v _ one c.process.ensures.delay; span = one_out d v a.span.now _ one (c.requires ∙ one) c.process.ensures.value }
 
+pub returns-then-is_straight : goal.returns-then-is_straight
+returns-then-is_straight c =
+    let a = c.args in
+    let s = a.self in
+    let o = c.filter_straight.ensures in
+    record {
+      delay =
+          ap (phase_of s.m s.kind.odd s.kind.antisymmetric a.taps.now) o.delay
+          ∙ state_is _ _ _ _ _ s.inside c.told-taps c.told-delay _ c.reach-long.ensures.value a.src.now _ refl;
+      span = outs_are _ _ _ _ _ s.inside c.told-taps c.told-delay _ c.reach-long.ensures.value a.src.now _ o.span;
+    }
+
 pub returns-then-is_brief : goal.returns-then-is_brief
 returns-then-is_brief c =
     let a = c.args in

@@ -1,7 +1,7 @@
--- `linear_phase::few::put_both` meets its contract: the second group goes over what is too much of the first (`put_ends`).
+-- `linear_phase::moves::put_both` meets its contract: the second group goes over what is too much of the first (`put_ends`).
 use Rattle.std.proofs.Common.{length, refl, arith}
 use Rattle.linear_phase.proofs.Putting.{put_ends}
-use Rattle.linear_phase.proofs.few.put_both.Goals as goal
+use Rattle.linear_phase.proofs.moves.put_both.Goals as goal
 
 pub returns : goal.returns
 returns c =

@@ -1,6 +1,0 @@
--- `linear_phase::one::move_group` meets its contract: sixteen places are read, and then put one place down.
-use Rattle.linear_phase.proofs.Shifting.{group_put}
-use Rattle.linear_phase.proofs.one.move_group.Goals as goal
-
-pub returns : goal.returns
-returns c = group_put c.args.delay.now c.taken-y.result _ c.args.to c.requires c.taken-y.ensures c.put_all.ensures
