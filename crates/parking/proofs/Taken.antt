@@ -14,12 +14,10 @@ use lib.Ieee.Bits.{of_bits-to_bits}
 use lib.ListN.{length, get_or, take, drop}
 use lib.Seq.{take_at}
 use Rattle.refusal.specs.Outcome.{Opened}
-use Rattle.refusal.specs.Rows.{outside}
-use Rattle.refusal.proofs.Limits.{within}
 use Rattle.integer.specs.declared.cic_decimator.CicDecimator.{CicDecimator}
 use Rattle.nonrecursive.specs.declared.thinning.Thinning.{Thinning}
 use Rattle.nonrecursive.specs.declared.thinning.Thinning.TheVariants as thinning
-use Rattle.q15.specs.FirDecimator.{most_taps, fir_zeros, settings_number}
+use Rattle.q15.specs.FirDecimator.{most_taps, fir_zeros}
 use Rattle.q15.specs.FirDecimator as Q
 use Rattle.q15.specs.declared.fir_decimator.FirDecimator.{FirDecimator}
 use Rattle.q15.proofs.FirSteps.{valid_on, line_valid}

@@ -12,11 +12,9 @@ use lib.Ieee.{Float}
 use lib.ListN.{length, get_or, replicate}
 use lib.Pow.{pow_pos}
 use Rattle.refusal.specs.declared.Moved.{Moved}
-use Rattle.refusal.specs.Rows.{first_of, outside}
-use Rattle.refusal.proofs.Limits.{within}
+use Rattle.refusal.specs.Rows.{first_of}
 use Rattle.integer.specs.Limits.{factor_ok}
 use Rattle.nonrecursive.proofs.EitherKind.{either_opens}
-use Rattle.q15.specs.Block.{most_factor}
 use Rattle.q15.specs.FirDecimator as Q
 use Rattle.q15.proofs.FirSteps.{settings_in_lem, line_settings}
 use Rattle.float.specs.F32.{zero32, one32}
