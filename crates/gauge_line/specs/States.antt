@@ -112,22 +112,26 @@ line_at m stages r integrators combs counter taps tap_count factor fir_delay wai
     (at m depth) (at m delays) (at m held) (at m counts) (at m phases) (at m phase_taps) (at m straight) (at m mu) (at m step) (at m delay) (at m prototype) (at m cuts) (at m kind) (at m neighbours)
 
 -- its numbers alone
-abbrev pub numbers_at :
-    Moment → Place ℕ → Place ℕ → Place ℕ → Place ℕ → Place ℕ → Place ℕ → Place ℕ → Place ℕ → Place ℕ → Place ℕ → Place Float → Place Float → Place ℕ → Place ℕ → LineNumbers
-numbers_at m stages r counter tap_count factor wait depth phases phase_taps straight mu step cuts kind =
+abbrev pub numbers_by : ℕ → ℕ → ℕ → ℕ → ℕ → ℕ → ℕ → ℕ → ℕ → ℕ → Float → Float → ℕ → ℕ → LineNumbers
+numbers_by stages r counter tap_count factor wait depth phases phase_taps straight mu step cuts kind =
     record {
       settings =
           record {
-            stages = at m stages;
-            r = at m r;
-            factor = at m factor;
-            depth = at m depth;
-            phases = at m phases;
-            taps = at m phase_taps;
-            straight = is_set (at m straight);
-            step = at m step;
-            thinning = kind_of (at m kind);
+            stages = stages;
+            r = r;
+            factor = factor;
+            depth = depth;
+            phases = phases;
+            taps = phase_taps;
+            straight = is_set straight;
+            step = step;
+            thinning = kind_of kind;
           };
-      tap_count = at m tap_count;
-      clock = record { sample_counter = at m counter; wait = at m wait; mu = at m mu; cuts = at m cuts };
+      tap_count = tap_count;
+      clock = record { sample_counter = counter; wait = wait; mu = mu; cuts = cuts };
     }
+
+abbrev pub numbers_at :
+    Moment → Place ℕ → Place ℕ → Place ℕ → Place ℕ → Place ℕ → Place ℕ → Place ℕ → Place ℕ → Place ℕ → Place ℕ → Place Float → Place Float → Place ℕ → Place ℕ → LineNumbers
+numbers_at m stages r counter tap_count factor wait depth phases phase_taps straight mu step cuts kind =
+    numbers_by (at m stages) (at m r) (at m counter) (at m tap_count) (at m factor) (at m wait) (at m depth) (at m phases) (at m phase_taps) (at m straight) (at m mu) (at m step) (at m cuts) (at m kind)

@@ -1,64 +1,56 @@
 // The line as a caller in C keeps it, field by field: put together from the fields that were lent, and put back into them.
 ghost use Rattle.std.specs.Prelude.{◌≡◌};
-ghost use Rattle.gauge_line.specs.States.{exit, IsFlag, line_by, line_at, numbers_at};
+ghost use Rattle.gauge_line.specs.States.{exit, IsFlag, line_at, numbers_at, numbers_by};
 
 use crate::states::{
-    decimator, fir, flag, is_set, kind, kind_number, put_decimator, put_fir, put_resampler,
-    put_stream, put_thinning, resampler, stream,
+    flag, is_set, kind, kind_number, put_decimator, put_fir, put_resampler, put_stream,
+    put_thinning,
 };
 use float::settings::{MOST_CELLS, MOST_TAPS as MOST_PHASE_TAPS};
 use half_band::{DEC_CASCADE_DELAYS, MOST_STAGES};
 use integer::limits::MAX_STAGES;
-use line::{Line, LineNumbers};
+use line::{Clock, Line, LineNumbers, Settings};
 use nonrecursive::nonrecursive_decimator::MAX_NEIGHBOURS;
 use q15::MOST_TAPS;
 
-// The line of fields that were lent.
-pub(crate) fn line_of(
+// The numbers of a line whose fields were lent.
+pub(crate) fn numbers(
     stages: usize,
     r: usize,
-    integrators: [i32; MAX_STAGES],
-    combs: [i32; MAX_STAGES],
     sample_counter: usize,
-    taps: [i16; MOST_TAPS],
     tap_count: usize,
     factor: usize,
-    fir_delay: [i16; MOST_TAPS],
     wait: usize,
     depth: usize,
-    delays: [f32; DEC_CASCADE_DELAYS],
-    held: [f32; MOST_STAGES],
-    counts: [usize; MOST_STAGES],
     phases: usize,
     phase_taps: usize,
     straight: usize,
     mu: f32,
     step: f32,
-    delay: [f32; MOST_PHASE_TAPS],
-    prototype: [f32; MOST_CELLS],
     cuts: u32,
     thinning: usize,
-    neighbours: [i32; MAX_NEIGHBOURS],
-) -> Line
-    ensures { result ≡ line_by stages r integrators combs sample_counter taps tap_count factor fir_delay wait depth delays held counts
-        phases phase_taps straight mu step delay prototype cuts thinning neighbours }
+) -> LineNumbers
+    ensures { result ≡ numbers_by stages r sample_counter tap_count factor wait depth phases phase_taps straight mu step cuts thinning }
 {
-    Line {
-        thinning: kind(thinning),
-        cic: decimator(stages, r, integrators, combs, sample_counter),
-        neighbours,
-        fir: fir(taps, tap_count, factor, fir_delay, wait),
-        half_band: stream(depth, delays, held, counts),
-        resampler: resampler(
+    LineNumbers {
+        settings: Settings {
+            stages,
+            r,
+            factor,
+            depth,
             phases,
-            phase_taps,
-            is_set(straight),
-            mu,
+            taps: phase_taps,
+            straight: is_set(straight),
             step,
-            delay,
-            prototype,
-        ),
-        cuts,
+            thinning: kind(thinning),
+        },
+        tap_count,
+        clock: Clock {
+            sample_counter,
+            wait,
+            mu,
+            cuts,
+        },
     }
 }
 

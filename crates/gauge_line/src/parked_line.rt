@@ -9,13 +9,13 @@ ghost use Rattle.taking_up.specs.TakenBack.{TakenBack};
 ghost use Rattle.gauge_line.specs.States.{exit, IsFlag, line_at, line_by};
 
 use crate::answers::number;
-use crate::lines::{line_of, put_line};
+use crate::lines::{numbers, put_line};
 use float::settings::{MOST_CELLS, MOST_TAPS as MOST_PHASE_TAPS};
 use half_band::{DEC_CASCADE_DELAYS, MOST_STAGES};
 use integer::limits::MAX_STAGES;
 use line::zeros;
 use nonrecursive::nonrecursive_decimator::MAX_NEIGHBOURS;
-use parking::{park, parked_len};
+use parking::{KeptLine, park_kept, parked_len_kept};
 use q15::MOST_TAPS;
 use taking_up::take_up;
 
@@ -53,33 +53,35 @@ pub extern "C" fn gauge_raw_line_parked_len(
         phases phase_taps straight mu step delay.now prototype.now cuts thinning neighbours.now in
         record { number = result; value = bytes.new } ≡ K.length_answer P.panel line }
 {
-    let line = line_of(
-        stages,
-        r,
-        *integrators,
-        *combs,
-        sample_counter,
-        *taps,
-        tap_count,
-        factor,
-        *fir_delay,
-        wait,
-        depth,
-        *delays,
-        *held,
-        *counts,
-        phases,
-        phase_taps,
-        straight,
-        mu,
-        step,
-        *delay,
-        *prototype,
-        cuts,
-        thinning,
-        *neighbours,
-    );
-    let answer = parked_len(&line);
+    let k = KeptLine {
+        numbers: numbers(
+            stages,
+            r,
+            sample_counter,
+            tap_count,
+            factor,
+            wait,
+            depth,
+            phases,
+            phase_taps,
+            straight,
+            mu,
+            step,
+            cuts,
+            thinning,
+        ),
+        integrators,
+        combs,
+        neighbours,
+        taps,
+        fir_delay,
+        delays,
+        held,
+        counts,
+        delay,
+        prototype,
+    };
+    let answer = parked_len_kept(&k);
     *bytes = answer.unwrap_or(0);
     number(&answer)
 }
@@ -127,33 +129,35 @@ pub extern "C" fn gauge_raw_line_park(
         phases phase_taps straight mu step delay.now prototype.now cuts thinning neighbours.now in
         result ≡ 0 → ForOlder line (take written.new span.new) }
 {
-    let line = line_of(
-        stages,
-        r,
-        *integrators,
-        *combs,
-        sample_counter,
-        *taps,
-        tap_count,
-        factor,
-        *fir_delay,
-        wait,
-        depth,
-        *delays,
-        *held,
-        *counts,
-        phases,
-        phase_taps,
-        straight,
-        mu,
-        step,
-        *delay,
-        *prototype,
-        cuts,
-        thinning,
-        *neighbours,
-    );
-    let answer = park(&line, span);
+    let k = KeptLine {
+        numbers: numbers(
+            stages,
+            r,
+            sample_counter,
+            tap_count,
+            factor,
+            wait,
+            depth,
+            phases,
+            phase_taps,
+            straight,
+            mu,
+            step,
+            cuts,
+            thinning,
+        ),
+        integrators,
+        combs,
+        neighbours,
+        taps,
+        fir_delay,
+        delays,
+        held,
+        counts,
+        delay,
+        prototype,
+    };
+    let answer = park_kept(&k, span);
     *written = answer.unwrap_or(0);
     number(&answer)
 }

@@ -6,7 +6,6 @@ ghost use Rattle.nonrecursive.specs.NonrecursiveDecimator.{nonrecursive_of};
 ghost use Rattle.q15.specs.FirDecimator.{fir_state};
 ghost use Rattle.half_band.specs.HbfDecCascade.{cascade_of};
 ghost use Rattle.half_band.specs.HbfStream.{stream_of};
-ghost use Rattle.float.specs.PolyphaseResamp.{together};
 ghost use Rattle.linear_phase.specs.LinearPhaseFir.{phase_of};
 ghost use Rattle.gauge_line.specs.Crossing.{is_set, flag_of, kind_of, kind_number};
 ghost use Rattle.gauge_line.specs.States.{exit, decimator_at, nonrecursive_at, interpolator_at, fir_at, dec_cascade_at, int_cascade_at, stream_at, IsFlag, resampler_at};
@@ -312,28 +311,6 @@ pub(crate) fn put_thinning(
 {
     *thinning = kind_number(next);
     *neighbours = *next_neighbours;
-}
-
-pub(crate) fn resampler(
-    phases: usize,
-    taps: usize,
-    straight: bool,
-    mu: f32,
-    step: f32,
-    delay: [f32; MOST_PHASE_TAPS],
-    prototype: [f32; MOST_CELLS],
-) -> PolyphaseResampF32
-    ensures { result ≡ together straight phases taps mu step delay prototype }
-{
-    PolyphaseResampF32 {
-        phases,
-        taps,
-        straight,
-        mu,
-        step,
-        delay,
-        prototype,
-    }
 }
 
 pub(crate) fn put_resampler(

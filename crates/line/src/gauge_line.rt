@@ -10,7 +10,7 @@ ghost use Rattle.line.specs.Demand3.{Demand3};
 use crate::lent::{LineNumbers, feed_lent, step_lent};
 use crate::opening::answer;
 use crate::step::LineStep;
-use crate::validity::valid_at;
+use crate::validity::numbers_valid;
 use chain::arrays::Arrays;
 use chain::clock::Clock;
 use chain::settings::Settings;
@@ -84,7 +84,8 @@ fn fresh(s: Settings, taps: &[i16], prototype: &[f32]) -> Line
     }
 }
 
-fn numbers_in(l: &Line) -> LineNumbers
+// The numbers of a line.
+pub fn numbers_in(l: &Line) -> LineNumbers
     ensures { result ≡ N.numbers_in l.now }
 {
     LineNumbers {
@@ -119,8 +120,7 @@ fn lengths(taps: &[i16; MOST_TAPS], prototype: &[f32; MOST_CELLS])
 pub fn line_valid(l: &Line) -> bool
     ensures { result ≡ L.valid l.now }
 {
-    let n = numbers_in(l);
-    valid_at(n.fixed(), n.clock, &l.half_band.counts)
+    numbers_valid(numbers_in(l), &l.half_band.counts)
 }
 
 impl Line {

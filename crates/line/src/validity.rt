@@ -1,7 +1,9 @@
 // Row 15 of 01's table, as a call on the line has it.
 ghost use Rattle.std.specs.Prelude.{◌≡◌};
+ghost use Rattle.line.specs.Lent as N;
 ghost use Rattle.line.specs.Together as T;
 
+use crate::lent::LineNumbers;
 use crate::opening::MAX_BITS;
 use chain::clock::Clock;
 use chain::fixed::Fixed;
@@ -30,4 +32,11 @@ pub(crate) fn valid_at(f: Fixed, clock: Clock, counts: &[usize; MOST_STAGES]) ->
         && s.fir(f.tap_count).is_valid_in_line(clock.wait)
         && !hbf_stream_refused_in_line(s.depth, counts)
         && s.resampler().is_valid_in_line(clock.mu)
+}
+
+// `line_valid` by the numbers alone, and the counts of held samples.
+pub fn numbers_valid(n: LineNumbers, counts: &[usize; MOST_STAGES]) -> bool
+    ensures { result ≡ T.valid_at (N.fixed_in n) n.clock counts.now }
+{
+    valid_at(n.fixed(), n.clock, counts)
 }

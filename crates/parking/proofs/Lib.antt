@@ -17,3 +17,4 @@ pub mod Older
 pub mod Alike
 pub mod AlikeParts
 pub mod Trimmed
+pub mod OffParts

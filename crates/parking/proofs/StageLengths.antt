@@ -1,12 +1,10 @@
 -- How long the half-band entry is, stage by stage, for arrays of their length.
-use mathlib.Core.Path.{◌≡◌, refl, sym, ap, ap₂, ◌∙◌}
-use mathlib.Core.List.{List, ◌++◌}
+use mathlib.Core.Path.{◌≡◌, refl, sym, ap₂, ◌∙◌}
 use Prim.Native.Nat.{ℕ, zero, suc, ◌+◌, ◌*◌, ◌≤◌, ◌<◌}
 use native.Mathlib.Nat.{mul-le-mul}
 use native.Mathlib.Omega.{arith}
 use native.Mathlib.Decide.{dec_lt}
 use lib.ListN.{length, take, drop, length-append, length-drop}
-use Rattle.half_band.specs.HbfStream.{stream_of}
 use Rattle.half_band.specs.declared.hbf_stream.HbfStream.{HbfStream}
 use Rattle.parking.specs.Parked.{half_band_bytes}
 use Rattle.words.specs.Fields.{joined, f32_bytes}

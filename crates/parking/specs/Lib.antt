@@ -6,3 +6,4 @@ pub mod Older
 pub mod Told
 pub mod Limits
 pub mod Alike
+pub mod Kept

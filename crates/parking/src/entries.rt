@@ -5,17 +5,14 @@ ghost use Rattle.sheet.specs.Sheet.{bytes16};
 ghost use Rattle.words.specs.Fields.{joined};
 ghost use Rattle.words.specs.Puts.{Puts};
 ghost use Rattle.parking.specs.Entries as E;
+ghost use Rattle.parking.specs.Kept.{line_kept};
 ghost use Rattle.parking.specs.Parked as P;
 ghost use Rattle.parking.specs.Told.{numbers_of, first_bytes, last_bytes};
 
+use crate::kept::KeptLine;
 use crate::put::{put, put_all};
 use crate::settings::{ParkedSettings, halvings, window};
-use float::PolyphaseResampF32;
-use half_band::HbfStream;
-use integer::CicDecimator;
-use line::Line;
 use nonrecursive::Thinning;
-use q15::FirDecimator;
 use sheet::fields::bytes16;
 use words::bits_of_f32;
 
@@ -42,90 +39,103 @@ pub(crate) fn put_settings(span: &mut [u8], at: usize, q: &ParkedSettings) -> us
     put(span, at, &q.cuts.to_le_bytes())
 }
 
-fn put_cic(span: &mut [u8], at: usize, cic: &CicDecimator) -> usize
-    requires { (cic.now.stages ≤ 8) × (at + length (E.cic_bytes cic.now) ≤ length span.old) }
-    ensures { Puts at (E.cic_bytes cic.now) span.old span.new result }
+fn put_cic(span: &mut [u8], at: usize, k: &KeptLine<'_>) -> usize
+    requires { let d = (line_kept k.now).cic in (d.stages ≤ 8) × (at + length (E.cic_bytes d) ≤ length span.old) }
+    ensures { Puts at (E.cic_bytes (line_kept k.now).cic) span.old span.new result }
 {
-    let n = cic.stages;
-    let at = put(span, at, &bytes16(cic.sample_counter));
-    let at = put_all(span, at, &cic.integrator_state[..n]);
-    put_all(span, at, &cic.comb_state[..n])
+    let n = k.numbers.settings.stages;
+    let integrators = k.integrators;
+    let combs = k.combs;
+    let at = put(span, at, &bytes16(k.numbers.clock.sample_counter));
+    let at = put_all(span, at, &integrators[..n]);
+    put_all(span, at, &combs[..n])
 }
 
 // The CIC entry, of a line of neighbours an empty one.
 #[tactic(auto, using(words::proofs::Putting::puts_none))]
-pub(crate) fn put_first(span: &mut [u8], at: usize, line: &Line) -> usize
-    requires { (line.now.cic.stages ≤ 8) × (at + length (first_bytes line.now) ≤ length span.old) }
-    ensures { Puts at (first_bytes line.now) span.old span.new result }
+pub(crate) fn put_first(span: &mut [u8], at: usize, k: &KeptLine<'_>) -> usize
+    requires { (k.now.numbers.settings.stages ≤ 8) × (at + length (first_bytes (line_kept k.now)) ≤ length span.old) }
+    ensures { Puts at (first_bytes (line_kept k.now)) span.old span.new result }
 {
-    match line.thinning {
-        Thinning::Integrators => put_cic(span, at, &line.cic),
+    match k.numbers.settings.thinning {
+        Thinning::Integrators => put_cic(span, at, k),
         Thinning::Neighbours => at,
     }
 }
 
 // The entries of FIR taps and FIR delay.
-pub(crate) fn put_fir(span: &mut [u8], at: usize, fir: &FirDecimator) -> usize
-    requires { (fir.now.tap_count ≤ most_taps) × (at + length (E.tap_bytes fir.now ++ E.delay_bytes fir.now) ≤ length span.old) }
-    ensures { Puts at (E.tap_bytes fir.now ++ E.delay_bytes fir.now) span.old span.new result }
+pub(crate) fn put_fir(span: &mut [u8], at: usize, k: &KeptLine<'_>) -> usize
+    requires { let f = (line_kept k.now).fir in (f.tap_count ≤ most_taps) × (at + length (E.tap_bytes f ++ E.delay_bytes f) ≤ length span.old) }
+    ensures { let f = (line_kept k.now).fir in Puts at (E.tap_bytes f ++ E.delay_bytes f) span.old span.new result }
 {
-    let n = fir.tap_count;
-    let at = put_all(span, at, &fir.taps[..n]);
-    let at = put(span, at, &bytes16(fir.wait));
-    put_all(span, at, &fir.delay[..n])
+    let n = k.numbers.tap_count;
+    let taps = k.taps;
+    let delay = k.fir_delay;
+    let at = put_all(span, at, &taps[..n]);
+    let at = put(span, at, &bytes16(k.numbers.clock.wait));
+    put_all(span, at, &delay[..n])
 }
 
-// Half-band stage k.
-fn put_stage(span: &mut [u8], at: usize, k: usize, stream: &HbfStream) -> usize
-    requires { (k < 5) × (at + length (E.stage_bytes stream.now k) ≤ length span.old) }
-    ensures { Puts at (E.stage_bytes stream.now k) span.old span.new result }
+// One of the half-band stages.
+fn put_stage(span: &mut [u8], at: usize, stage: usize, k: &KeptLine<'_>) -> usize
+    requires { let s = (line_kept k.now).half_band in (stage < 5) × (length s.held ≡ 5) × (at + length (E.stage_bytes s stage) ≤ length span.old) }
+    ensures { Puts at (E.stage_bytes (line_kept k.now).half_band stage) span.old span.new result }
 {
-    let from = 96 * k;
-    let at = put(span, at, &bytes16(stream.counts[k]));
-    let at = put(span, at, &bits_of_f32(stream.held[k]).to_le_bytes());
-    put_all(span, at, &stream.delays[from..from + window(k)])
+    let from = 96 * stage;
+    let counts = k.counts;
+    let held = k.held;
+    let delays = k.delays;
+    let at = put(span, at, &bytes16(counts[stage]));
+    let at = put(span, at, &bits_of_f32(held[stage]).to_le_bytes());
+    put_all(span, at, &delays[from..from + window(stage)])
 }
 
 // The half-band entry.
-pub(crate) fn put_half_band(span: &mut [u8], at: usize, stream: &HbfStream) -> usize
-    requires { (stream.now.depth ≤ 5) × (at + length (E.stages_bytes stream.now stream.now.depth) ≤ length span.old) }
-    ensures { Puts at (E.stages_bytes stream.now stream.now.depth) span.old span.new result }
+pub(crate) fn put_half_band(span: &mut [u8], at: usize, k: &KeptLine<'_>) -> usize
+    requires { let s = (line_kept k.now).half_band in (s.depth ≤ 5) × (length s.held ≡ 5) × (at + length (E.stages_bytes s s.depth) ≤ length span.old) }
+    ensures { let s = (line_kept k.now).half_band in Puts at (E.stages_bytes s s.depth) span.old span.new result }
 {
     let mut behind = at;
-    for k in 0..stream.depth {
-        behind = put_stage(span, behind, k, stream);
+    for stage in 0..k.numbers.settings.depth {
+        behind = put_stage(span, behind, stage, k);
     }
     behind
 }
 
 // The entries of the prototype and the resampler.
-pub(crate) fn put_resampler(span: &mut [u8], at: usize, p: &PolyphaseResampF32) -> usize
-    requires { (p.now.phases ≤ 64) × (p.now.taps ≤ 16) × (at + length (E.prototype_bytes p.now ++ E.resampler_bytes p.now) ≤ length span.old) }
-    ensures { Puts at (E.prototype_bytes p.now ++ E.resampler_bytes p.now) span.old span.new result }
+pub(crate) fn put_resampler(span: &mut [u8], at: usize, k: &KeptLine<'_>) -> usize
+    requires { let p = (line_kept k.now).resampler in
+        (p.phases ≤ 64) × (p.taps ≤ 16) × (at + length (E.prototype_bytes p ++ E.resampler_bytes p) ≤ length span.old) }
+    ensures { let p = (line_kept k.now).resampler in Puts at (E.prototype_bytes p ++ E.resampler_bytes p) span.old span.new result }
 {
-    let at = put_all(span, at, &p.prototype[..p.phases * p.taps]);
-    let at = put(span, at, &bits_of_f32(p.mu).to_le_bytes());
-    put_all(span, at, &p.delay[..p.taps])
+    let s = k.numbers.settings;
+    let prototype = k.prototype;
+    let delay = k.delay;
+    let at = put_all(span, at, &prototype[..s.phases * s.taps]);
+    let at = put(span, at, &bits_of_f32(k.numbers.clock.mu).to_le_bytes());
+    put_all(span, at, &delay[..s.taps])
 }
 
 // "its place and then N neighbours for each halving"
-fn put_neighbours(span: &mut [u8], at: usize, line: &Line) -> usize
-    requires { (line.now.cic.stages ≤ 8) × (line.now.cic.r ≤ 4096) × (at + length (E.neighbours_bytes line.now.cic line.now.neighbours) ≤ length span.old) }
-    ensures { Puts at (E.neighbours_bytes line.now.cic line.now.neighbours) span.old span.new result }
+fn put_neighbours(span: &mut [u8], at: usize, k: &KeptLine<'_>) -> usize
+    requires { let l = line_kept k.now in (l.cic.stages ≤ 8) × (l.cic.r ≤ 4096) × (at + length (E.neighbours_bytes l.cic l.neighbours) ≤ length span.old) }
+    ensures { let l = line_kept k.now in Puts at (E.neighbours_bytes l.cic l.neighbours) span.old span.new result }
 {
-    let n = line.cic.stages * halvings(line.cic.r);
-    let at = put(span, at, &bytes16(line.cic.sample_counter));
-    put_all(span, at, &line.neighbours[..n])
+    let s = k.numbers.settings;
+    let n = s.stages * halvings(s.r);
+    let neighbours = k.neighbours;
+    let at = put(span, at, &bytes16(k.numbers.clock.sample_counter));
+    put_all(span, at, &neighbours[..n])
 }
 
 // The entry that a line of neighbours has more.
 #[tactic(auto, using(words::proofs::Putting::puts_none))]
-pub(crate) fn put_last(span: &mut [u8], at: usize, line: &Line) -> usize
-    requires { (line.now.cic.stages ≤ 8) × (line.now.cic.r ≤ 4096) × (at + length (last_bytes line.now) ≤ length span.old) }
-    ensures { Puts at (last_bytes line.now) span.old span.new result }
+pub(crate) fn put_last(span: &mut [u8], at: usize, k: &KeptLine<'_>) -> usize
+    requires { let l = line_kept k.now in (l.cic.stages ≤ 8) × (l.cic.r ≤ 4096) × (at + length (last_bytes l) ≤ length span.old) }
+    ensures { Puts at (last_bytes (line_kept k.now)) span.old span.new result }
 {
-    match line.thinning {
+    match k.numbers.settings.thinning {
         Thinning::Integrators => at,
-        Thinning::Neighbours => put_neighbours(span, at, line),
+        Thinning::Neighbours => put_neighbours(span, at, k),
     }
 }

@@ -2,8 +2,10 @@
 #![tactic(auto)]
 
 mod entries;
+pub mod kept;
 mod put;
 pub mod settings;
 mod writing;
 
-pub use crate::writing::{park, parked_len};
+pub use crate::kept::KeptLine;
+pub use crate::writing::{park, park_kept, parked_len, parked_len_kept};

@@ -4,10 +4,12 @@ ghost use Rattle.nonrecursive.specs.NonrecursiveDecimator as D;
 ghost use Rattle.parking.specs.Entries as E;
 ghost use Rattle.parking.specs.Limits.{InWords};
 ghost use Rattle.parking.specs.Parked as P;
-ghost use Rattle.parking.specs.Told.{numbers_of, count_by, sizes_by};
+ghost use Rattle.parking.specs.Kept.{line_by};
+ghost use Rattle.parking.specs.Told.{numbers_of, count_by, settings_by, sizes_by};
+ghost use Rattle.parking.specs.declared.kept.KeptLine.{KeptLine};
 
 use half_band::MOST_STAGES;
-use line::Line;
+use line::LineNumbers;
 use nonrecursive::Thinning;
 use words::bits_of_f32;
 
@@ -75,21 +77,21 @@ pub(crate) fn total(sizes: &[usize]) -> usize
 
 impl ParkedSettings {
     #[tactic(auto, unfolding(crate::specs::Entries::settings_in))]
-    pub(crate) fn of(line: &Line) -> ParkedSettings
-        ensures { numbers_of result ≡ E.settings_in line.now.cic line.now.fir line.now.half_band.depth line.now.resampler line.now.cuts }
+    pub(crate) fn of(n: LineNumbers) -> ParkedSettings
+        ensures { (k : KeptLine) → numbers_of result ≡ settings_by (line_by n k) }
     {
-        let resampler = &line.resampler;
+        let s = n.settings;
         ParkedSettings {
-            stages: line.cic.stages,
-            r: line.cic.r,
-            taps: line.fir.tap_count,
-            factor: line.fir.factor,
-            depth: line.half_band.depth,
-            phases: resampler.phases,
-            cells: resampler.taps,
-            straight: resampler.straight as usize,
-            step: bits_of_f32(resampler.step),
-            cuts: line.cuts,
+            stages: s.stages,
+            r: s.r,
+            taps: n.tap_count,
+            factor: s.factor,
+            depth: s.depth,
+            phases: s.phases,
+            cells: s.taps,
+            straight: s.straight as usize,
+            step: bits_of_f32(s.step),
+            cuts: n.clock.cuts,
         }
     }
 

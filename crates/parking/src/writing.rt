@@ -5,74 +5,105 @@ ghost use Rattle.refusal.specs.Outcome.{count_answer};
 ghost use Rattle.sheet.specs.Laid.{laid};
 ghost use Rattle.sheet.specs.Sheet as S;
 ghost use Rattle.words.specs.Fields.{IsFloat};
-ghost use Rattle.parking.specs.Limits.{ArrayLengths};
+ghost use Rattle.parking.specs.Kept.{line_by, line_kept, fir_numbers, resampler_numbers, numbers_on};
 ghost use Rattle.parking.specs.Older.{ForOlder};
 ghost use Rattle.parking.specs.Parked as P;
 ghost use Rattle.parking.specs.Parking as K;
-ghost use Rattle.parking.specs.Told.{Fine, Lengths, on, parts};
+ghost use Rattle.parking.specs.Told.{Fine, Lengths, parts};
 
 use crate::entries::{put_fir, put_first, put_half_band, put_last, put_resampler, put_settings};
+use crate::kept::KeptLine;
 use crate::settings::{ParkedSettings, entry_count, total};
-use float::PolyphaseResampF32;
-use half_band::HbfStream;
-use integer::CicDecimator;
-use line::{Line, line_valid};
+use float::settings::{MOST_CELLS, MOST_TAPS as MOST_PHASE_TAPS};
+use half_band::{DEC_CASCADE_DELAYS, MOST_STAGES};
+use integer::limits::MAX_STAGES;
+use line::{Clock, Line, LineNumbers, Settings, numbers_valid};
 use nonrecursive::nonrecursive_decimator::MAX_NEIGHBOURS;
-use q15::{FirDecimator, MOST_TAPS};
+use q15::MOST_TAPS;
 use refusal::Refusal;
 use sheet::lay_directory;
 
-// "A part that is off is parked as zeros, settings too."
-#[tactic(auto, unfolding(crate::specs::Entries::fir_on, crate::specs::Entries::resampler_on))]
-fn zeros_where_off(line: &Line) -> Line
-    ensures { result ≡ on line.now }
+// "A part that is off is parked as zeros, settings too": the FIR's numbers, since of its arrays no entry has a place then.
+#[tactic(auto, unfolding(crate::specs::Kept::fir_numbers))]
+fn fir_parked(n: LineNumbers) -> LineNumbers
+    ensures { result ≡ fir_numbers n }
 {
-    let mut line = *line;
-    if line.fir.tap_count == 0 {
-        line.fir = FirDecimator {
-            taps: [0; MOST_TAPS],
-            tap_count: 0,
-            factor: 0,
-            delay: [0; MOST_TAPS],
-            wait: 0,
+    if n.tap_count == 0 {
+        return LineNumbers {
+            settings: Settings {
+                factor: 0,
+                ..n.settings
+            },
+            clock: Clock { wait: 0, ..n.clock },
+            ..n
         };
     }
-    if line.resampler.phases == 0 {
-        line.resampler = PolyphaseResampF32::zeros();
-    }
-    line
+    n
 }
 
-// What their types say of a line's parts. By value, since of what stands behind a reference a proof knows too little; nothing is done with them.
-fn parts_typed(
-    cic: CicDecimator,
+// And the resampler's.
+#[tactic(auto, unfolding(crate::specs::Kept::resampler_numbers))]
+fn resampler_parked(n: LineNumbers) -> LineNumbers
+    ensures { result ≡ resampler_numbers n }
+{
+    if n.settings.phases == 0 {
+        return LineNumbers {
+            settings: Settings {
+                taps: 0,
+                straight: false,
+                step: 0.0,
+                ..n.settings
+            },
+            clock: Clock { mu: 0.0, ..n.clock },
+            ..n
+        };
+    }
+    n
+}
+
+// What their types say of the fields of a line, which no struct carries: this call hands the facts over and compiles to nothing.
+fn typed(
+    integrators: &[i32; MAX_STAGES],
+    combs: &[i32; MAX_STAGES],
     neighbours: &[i32; MAX_NEIGHBOURS],
-    fir: FirDecimator,
-    half_band: HbfStream,
-    resampler: PolyphaseResampF32,
+    taps: &[i16; MOST_TAPS],
+    fir_delay: &[i16; MOST_TAPS],
+    delays: &[f32; DEC_CASCADE_DELAYS],
+    held: &[f32; MOST_STAGES],
+    counts: &[usize; MOST_STAGES],
+    delay: &[f32; MOST_PHASE_TAPS],
+    prototype: &[f32; MOST_CELLS],
+    step: f32,
     cuts: u32,
 )
-    ensures arrays { ArrayLengths cic fir half_band resampler }
-    ensures neighbours { length neighbours.now ≡ 96 }
-    ensures step { IsFloat resampler.step }
-    ensures cuts { cuts < 4294967296 }
+    ensures sums { (length integrators.now ≡ 8) × (length combs.now ≡ 8) × (length neighbours.now ≡ 96) }
+    ensures fir { (length taps.now ≡ 128) × (length fir_delay.now ≡ 128) }
+    ensures half_band { (length delays.now ≡ 480) × (length held.now ≡ 5) × (length counts.now ≡ 5) }
+    ensures resampler { (length delay.now ≡ 16) × (length prototype.now ≡ 1024) }
+    ensures numbers { (IsFloat step) × (cuts < 4294967296) }
 {}
 
-// "A part that is off is parked as zeros, settings too."
-fn parked_parts(line: &Line) -> Line
-    ensures value { result ≡ on line.now }
-    ensures typed { Lengths result }
+// The line as it is parked.
+fn parked<'a>(k: &KeptLine<'a>) -> KeptLine<'a>
+    ensures value { line_kept result ≡ line_by (numbers_on k.now.numbers) k.now }
+    ensures typed { Lengths (line_kept result) }
 {
-    let line = zeros_where_off(line);
-    parts_typed(
-        line.cic,
-        &line.neighbours,
-        line.fir,
-        line.half_band,
-        line.resampler,
-        line.cuts,
+    let numbers = resampler_parked(fir_parked(k.numbers));
+    typed(
+        k.integrators,
+        k.combs,
+        k.neighbours,
+        k.taps,
+        k.fir_delay,
+        k.delays,
+        k.held,
+        k.counts,
+        k.delay,
+        k.prototype,
+        numbers.settings.step,
+        numbers.clock.cuts,
     );
-    line
+    KeptLine { numbers, ..*k }
 }
 
 // Where the data of a sheet of n entries begin.
@@ -84,41 +115,64 @@ fn data_from(n: usize) -> usize
 }
 
 // How many bytes the sheet of a line has whose parts that are off are zeros.
-fn sheet_len(line: &Line) -> usize
-    requires { Fine line.now }
-    ensures { result ≡ length (P.parked S.Rule.present (parts line.now)) }
+fn sheet_len(k: &KeptLine<'_>) -> usize
+    requires { Fine (line_kept k.now) }
+    ensures { result ≡ length (P.parked S.Rule.present (parts (line_kept k.now))) }
 {
-    let count = entry_count(line.thinning);
-    let sizes = ParkedSettings::of(line).sizes(line.thinning);
+    let thinning = k.numbers.settings.thinning;
+    let count = entry_count(thinning);
+    let sizes = ParkedSettings::of(k.numbers).sizes(thinning);
     data_from(count) + total(&sizes[..count])
 }
 
 // The whole sheet of such a line.
-fn put_line(span: &mut [u8], line: &Line)
-    requires { (Fine line.now) × (length (P.parked S.Rule.present (parts line.now)) ≤ length span.old) }
-    ensures { span.new ≡ laid 0 (P.parked S.Rule.present (parts line.now)) span.old }
+fn put_line(span: &mut [u8], k: &KeptLine<'_>)
+    requires { (Fine (line_kept k.now)) × (length (P.parked S.Rule.present (parts (line_kept k.now))) ≤ length span.old) }
+    ensures { span.new ≡ laid 0 (P.parked S.Rule.present (parts (line_kept k.now))) span.old }
 {
-    let q = ParkedSettings::of(line);
-    let count = entry_count(line.thinning);
-    let sizes = q.sizes(line.thinning);
+    let thinning = k.numbers.settings.thinning;
+    let q = ParkedSettings::of(k.numbers);
+    let count = entry_count(thinning);
+    let sizes = q.sizes(thinning);
     let lengths = &sizes[..count];
     lay_directory(span, lengths, total(lengths));
     let at = put_settings(span, data_from(count), &q);
-    let at = put_first(span, at, line);
-    let at = put_fir(span, at, &line.fir);
-    let at = put_half_band(span, at, &line.half_band);
-    let at = put_resampler(span, at, &line.resampler);
-    put_last(span, at, line);
+    let at = put_first(span, at, k);
+    let at = put_fir(span, at, k);
+    let at = put_half_band(span, at, k);
+    let at = put_resampler(span, at, k);
+    put_last(span, at, k);
+}
+
+// `parked_len` of a line whose fields are lent apart.
+pub fn parked_len_kept(k: &KeptLine<'_>) -> Result<usize, Refusal>
+    ensures { count_answer result ≡ K.length_answer P.panel (line_kept k.now) }
+{
+    if !numbers_valid(k.numbers, k.counts) {
+        return Err(Refusal::State);
+    }
+    Ok(sheet_len(&parked(k)))
+}
+
+// `park` of a line whose fields are lent apart, so that none is copied.
+pub fn park_kept(k: &KeptLine<'_>, span: &mut [u8]) -> Result<usize, Refusal>
+    ensures answer { count_answer result ≡ K.park_answer P.panel (line_kept k.now) (length span.old) }
+    ensures span { span.new ≡ K.park_span P.panel (line_kept k.now) span.old }
+    ensures older { (count_answer result).number ≡ 0 → ForOlder (line_kept k.now) (take (count_answer result).value span.new) }
+{
+    let size = parked_len_kept(k)?;
+    if span.len() < size {
+        return Err(Refusal::Entries);
+    }
+    put_line(span, &parked(k));
+    Ok(size)
 }
 
 // How many bytes the line's sheet has, so that a span may be made for it. Refusal 15.
 pub fn parked_len(line: &Line) -> Result<usize, Refusal>
     ensures { count_answer result ≡ K.length_answer P.panel line.now }
 {
-    if !line_valid(line) {
-        return Err(Refusal::State);
-    }
-    Ok(sheet_len(&parked_parts(line)))
+    parked_len_kept(&KeptLine::of(line))
 }
 
 // Writes the line as a tap sheet at the front of a span, and says how many bytes it has. Refusals 15, then 17. The clause `older`: to the bytes of a panel before request
@@ -128,10 +182,5 @@ pub fn park(line: &Line, span: &mut [u8]) -> Result<usize, Refusal>
     ensures span { span.new ≡ K.park_span P.panel line.now span.old }
     ensures older { (count_answer result).number ≡ 0 → ForOlder line.now (take (count_answer result).value span.new) }
 {
-    let size = parked_len(line)?;
-    if span.len() < size {
-        return Err(Refusal::Entries);
-    }
-    put_line(span, &parked_parts(line));
-    Ok(size)
+    park_kept(&KeptLine::of(line), span)
 }

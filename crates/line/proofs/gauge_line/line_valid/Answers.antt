@@ -4,4 +4,4 @@ use Rattle.line.proofs.Numbers.{valid_apart}
 use Rattle.line.proofs.gauge_line.line_valid.Goals as goal
 
 pub returns : goal.returns
-returns c = rw (c.fixed.ensures, c.numbers_in-n.ensures) at c.valid_at.ensures ∙ valid_apart c.args.l.now
+returns c = rw c.numbers_in.ensures at c.numbers_valid.ensures ∙ valid_apart c.args.l.now

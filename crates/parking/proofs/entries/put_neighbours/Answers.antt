@@ -4,6 +4,7 @@ use Rattle.words.proofs.Putting.{puts_two}
 use Rattle.parking.specs.Parked.{neighbour_count}
 use Rattle.parking.specs.Entries.{neighbours_bytes}
 use Rattle.parking.proofs.Thinned.{few_neighbours}
+use Rattle.parking.specs.Kept.{line_kept}
 use Rattle.parking.proofs.entries.put_neighbours.Goals as goal
 
 pub returns : goal.returns
@@ -17,7 +18,7 @@ put-at-requires c = omega arith
 pub shared_ref_as_front-put_all : goal.shared_ref_as_front-put_all
 unfolding neighbour_count
 shared_ref_as_front-put_all c =
-    let l = c.args.line.now in
+    let l = line_kept c.args.k.now in
     let f = few_neighbours l.cic.stages l.cic.r c.requires.0 c.requires.1 in
     let h : l.cic.stages * c.halvings.result ≤ 96 = rw c.halvings.ensures.value f in
     search rules
