@@ -74,6 +74,10 @@ impl Setting {
         if !in_limits(self.phases, self.taps) {
             return Due { mu, written: from };
         }
+        // Mostly none is due, and then no reading is made ready for one.
+        if !(mu < 1.0) {
+            return Due { mu, written: from };
+        }
         let reading = Reading {
             prototype,
             setting: self,

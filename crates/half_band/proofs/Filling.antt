@@ -1,10 +1,10 @@
 -- Lists written from the front by stores, and the front and the rest of a list of equal values.
 use mathlib.Core.Path.{◌≡◌, refl, sym, ap, ◌∙◌}
 use mathlib.Core.List.{List, [], ◌∷◌, ◌++◌}
-use Prim.Native.Nat.{ℕ, zero, suc, ◌+◌, ◌-◌, ◌≤◌, ◌<◌}
+use Prim.Native.Nat.{ℕ, suc, ◌+◌, ◌<◌}
 use native.Mathlib.Numerals.{add-one}
 use native.Mathlib.Omega.{arith}
-use lib.ListN.{length, get_or, set, take, drop, replicate}
+use lib.ListN.{length, get_or, set, take, drop}
 use lib.Seq.{take-suc, length-take-le, drop-cons, set_at, append_snoc}
 
 abbrev pub filled : {A : Type 0} → List A → List A → ℕ → List A

@@ -7,6 +7,7 @@ pub mod Moving
 pub mod Sliding
 pub mod Earlier
 pub mod WholeLists
+pub mod OnePair
 pub mod PairsAlong
 pub mod Blocks
 pub mod Expanding

@@ -99,9 +99,9 @@ fn lay_led(line: &mut [f32], window: &[f32], lead: &[f32], values: &[f32])
     line[behind..past].copy_from_slice(values);
 }
 
-// The pairs of the lead and the span go through the decimator, and their outputs stand in front of the span. They are put behind the window on a line of their
-// own, so that nothing is moved for a pair; and a sample that was held before the values needs no place in the span. An odd last value is left out.
-pub(crate) fn decimate_in_place(window: &mut [f32], taps: &[f32], lead: &[f32], span: &mut [f32])
+// The pairs of the lead and the span are put behind the window on a line of their own, so that nothing is moved for a pair; and a sample that was held before the
+// values needs no place in the span. An odd last value is left out.
+fn decimate_on_line(window: &mut [f32], taps: &[f32], lead: &[f32], span: &mut [f32])
     requires { (1 ≤ length taps.now) × (length taps.now ≤ 23) × (length window.old ≡ 4 * length taps.now) × (length lead.now ≤ length span.old) × (length lead.now + length span.old ≤ 193) }
     ensures { let stage = decimator taps.now in
         let taken = pairs (lead.now ++ span.old) in
@@ -115,6 +115,34 @@ pub(crate) fn decimate_in_place(window: &mut [f32], taps: &[f32], lead: &[f32], 
     lay_led(&mut line, window, lead, &span[..behind]);
     window.copy_from_slice(&line[values..past]);
     decimate_along(&line[..past], taps, &mut span[..n]);
+}
+
+// The one pair of the lead and the span.
+fn decimate_one(window: &mut [f32], taps: &[f32], lead: &[f32], span: &mut [f32])
+    requires { (1 ≤ length taps.now) × (length window.old ≡ 4 * length taps.now) × (length lead.now ≤ length span.old) × ((length lead.now + length span.old) / 2 ≡ 1) }
+    ensures { let stage = decimator taps.now in
+        let taken = pairs (lead.now ++ span.old) in
+        (window.new ≡ state stage window.old taken) × (span.new ≡ outs stage window.old taken ++ drop ((length lead.now + length span.old) / 2) span.old) }
+{
+    if lead.is_empty() {
+        span[0] = take_pair(window, taps, span[0], span[1]);
+        return;
+    }
+    span[0] = take_pair(window, taps, lead[0], span[0]);
+}
+
+// The pairs of the lead and the span go through the decimator, and their outputs stand in front of the span. For none or one of them no line is laid.
+pub(crate) fn decimate_in_place(window: &mut [f32], taps: &[f32], lead: &[f32], span: &mut [f32])
+    requires { (1 ≤ length taps.now) × (length taps.now ≤ 23) × (length window.old ≡ 4 * length taps.now) × (length lead.now ≤ length span.old) × (length lead.now + length span.old ≤ 193) }
+    ensures { let stage = decimator taps.now in
+        let taken = pairs (lead.now ++ span.old) in
+        (window.new ≡ state stage window.old taken) × (span.new ≡ outs stage window.old taken ++ drop ((length lead.now + length span.old) / 2) span.old) }
+{
+    match (lead.len() + span.len()) / 2 {
+        0 => {}
+        1 => decimate_one(window, taps, lead, span),
+        _ => decimate_on_line(window, taps, lead, span),
+    }
 }
 
 // The interpolator's even and odd output at a window.

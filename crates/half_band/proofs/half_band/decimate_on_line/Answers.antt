@@ -6,7 +6,7 @@ use Rattle.half_band.specs.Windows.{pairs, decimator}
 use Rattle.float.proofs.Laid.{tape_last}
 use Rattle.half_band.proofs.PairsAlong.{state_along}
 use Rattle.half_band.proofs.StageRuns.{front_pairs}
-use Rattle.half_band.proofs.half_band.decimate_in_place.Goals as goal
+use Rattle.half_band.proofs.half_band.decimate_on_line.Goals as goal
 
 -- the line has the window w in front, then the lead l, and then what is taken of the span s
 module _ (c line w l s : List Float) (n : ℕ) (some : 1 ≤ length c) (window_long : length w ≡ 4 * length c) (led : length l ≤ 2 * n) (room : 2 * n ≤ length l + length s)
