@@ -91,7 +91,7 @@ fn lay_groups(tape: &mut [f32], delay: &[f32], long: usize, samples: &[f32])
 }
 
 // `filter` for a delay of so many places in front of the lent ones, all of which goes to the tape in whole groups.
-#[inline(never)]
+#[inline(always)]
 pub(crate) fn filter_short(
     delay: &mut [f32],
     long: usize,
@@ -113,7 +113,8 @@ pub(crate) fn filter_short(
     let line = samples_of(src, span);
     let mut tape = [0.0f32; SHORT_TAPE];
     lay_groups(&mut tape, delay, long, line);
-    last_in(&mut delay[..long], &tape, line);
+    let newest = line.len() - long;
+    copy_few(&mut delay[..long], &line[newest..]);
     let fir = Folded {
         taps,
         long,
