@@ -91,7 +91,7 @@ fn lay_groups(tape: &mut [f32], delay: &[f32], long: usize, samples: &[f32])
 }
 
 // `filter` for a delay of so many places in front of the lent ones, all of which goes to the tape in whole groups.
-#[inline(always)]
+#[inline(never)]
 pub(crate) fn filter_short(
     delay: &mut [f32],
     long: usize,
