@@ -11,11 +11,11 @@ use crate::one::value_with;
 // The longest delay of four taps.
 const SHORT_DELAY: usize = 8;
 
-// Whether there are at most four taps.
-pub(crate) fn is_brief(m: usize) -> bool
+// Whether there are at most three taps, or four and no more samples than that.
+pub(crate) fn is_brief(m: usize, n: usize) -> bool
     ensures { result ≡ true → m ≤ 4 }
 {
-    m <= 4
+    m <= 3 || m <= 4 && n <= 4
 }
 
 // The delay moves down by one place, and x stands at its end. It goes from the end on: the other way would be a copy in memory to the compiler.

@@ -113,7 +113,8 @@ pub(crate) fn filter_short(
     let line = samples_of(src, span);
     let mut tape = [0.0f32; SHORT_TAPE];
     lay_groups(&mut tape, delay, long, line);
-    last_in(&mut delay[..long], &tape, line);
+    let newest = line.len() - long;
+    copy_few(&mut delay[..long], &line[newest..]);
     let fir = Folded {
         taps,
         long,

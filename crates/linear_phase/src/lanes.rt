@@ -113,6 +113,7 @@ fn window_start(front: bool, at: usize, long: usize) -> usize
 // An output of each sample into the span, the last whole group first. The samples are the lent ones, or else those of the span itself, whose places before the
 // group are still samples. The windows that begin in the delay are read on the tape, which has the delay and the first samples; so are those of the group in front and
 // of what is left before whole groups.
+#[inline(always)]
 pub(crate) fn outputs_back<'a>(
     tape: &'a [f32],
     src: Option<&'a [f32]>,

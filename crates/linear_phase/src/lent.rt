@@ -82,7 +82,7 @@ impl Half {
         if is_straight(self.m, long, src.len()) {
             return filter_straight(long, &taps[..self.m], self.kind, delay, src, span);
         }
-        if is_brief(self.m) {
+        if is_brief(self.m, src.len()) {
             return filter_brief(self.m, self.kind, taps, delay, src, span);
         }
         if src.len() == 2 {

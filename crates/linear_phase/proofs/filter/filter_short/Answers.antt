@@ -1,10 +1,10 @@
 -- `linear_phase::filter::filter_short` meets its contract: delay and first samples stand on the tape, so the last of all are the next delay, and the outputs are those at the windows.
-use Rattle.std.proofs.Common.{◌≡◌, ℕ, ◌+◌, ◌≤◌, min, List, ◌++◌, length, take, drop, sym, ap, ap₂, ◌∙◌, arith, length-take-le}
+use Rattle.std.proofs.Common.{◌≡◌, ℕ, ◌+◌, ◌-◌, ◌≤◌, min, List, ◌++◌, length, take, drop, sym, ap, ap₂, ◌∙◌, arith, length-take-le}
 use lib.Ieee.{Float}
 use Rattle.float.proofs.Laid.{samples_behind}
 use Rattle.linear_phase.specs.Windows.{InRow}
 use Rattle.linear_phase.proofs.WholeList.{within}
-use Rattle.linear_phase.proofs.Tapes.{in_row, renamed, next_of, outs_of}
+use Rattle.linear_phase.proofs.Tapes.{in_row, renamed, next_of, outs_of, many_last}
 use Rattle.linear_phase.proofs.filter.filter_short.Goals as goal
 
 -- the delay
@@ -33,13 +33,9 @@ first_of long tape delay {samples} {v} {n} s e l whole =
     ∙ samples_behind tape (take long delay) (take (min (length samples) 32) samples) (ap₂ {C = List Float} (λ (i j : ℕ). take (i + j) tape) is first ∙ whole) in
     ap (λ (k : ℕ). take (min k 32) (drop long tape)) (sym m) ∙ on ∙ ap₂ {C = List Float} (λ (k : ℕ) (z : List Float). take (min k 32) z) m e
 
-pub last_in-requires : goal.last_in-requires
-last_in-requires c =
-    let is = long_is _ c.requires.long_bound in
-    record {
-      room = omega (arith, is, c.requires.long_bound, c.lay_groups.auto.tape);
-      on_tape = laid _ c.requires.long_bound c.samples_of-line.ensures c.requires.src_len c.lay_groups.ensures;
-    }
+-- the last samples are the next delay
+last : (d v : List Float) {next : List Float} (k : ℕ) → length d ≡ k → k ≤ length v → next ≡ take (length v - (length v - k)) (drop (length v - k) v) → next ≡ drop (length v) (d ++ v)
+last d v k is fits q = q ∙ ap (λ (m : ℕ). take (length v - (length v - m)) (drop (length v - m) v)) (sym is) ∙ many_last d v (omega (arith, is, fits))
 
 pub outputs_back-requires-clause-in_bounds : goal.outputs_back-requires-clause-in_bounds
 outputs_back-requires-clause-in_bounds c =
@@ -59,7 +55,8 @@ pub returns-clause-delay : goal.returns-clause-delay
 returns-clause-delay c =
     let b = within _ c.requires.in_bounds in
     let is = long_is _ c.requires.long_bound in
-    ap (λ (l : List Float). l ++ drop c.args.long c.args.delay.now) (next_of _ _ _ _ c.samples_of-line.ensures (omega (arith, is, b)) c.last_in.ensures)
+    let fits : c.args.long ≤ length c.samples_of-line.result.now = omega (arith, ap length c.samples_of-line.ensures, c.requires.src_len, c.requires.long_bound) in
+    ap (λ (l : List Float). l ++ drop c.args.long c.args.delay.now) (next_of _ _ _ _ c.samples_of-line.ensures (omega (arith, is, b)) (last _ _ c.args.long is fits c.copy_few.ensures))
 
 pub returns-clause-span : goal.returns-clause-span
 returns-clause-span c =
