@@ -16,7 +16,6 @@ use lib.ListN.{length, get_or, drop, replicate, replicate-append-replicate}
 use lib.Pow.{pow_pos}
 use lib.Seq.{drop_at}
 use mir.Syntax.{w32}
-use Rattle.theory.specs.Floor.{floor_div}
 use Rattle.theory.specs.Wrap.{wrap}
 use Rattle.theory.specs.Lists.{listed}
 use Rattle.theory.specs.Sections.{Section, onto, state, outs}
@@ -30,12 +29,11 @@ use Rattle.integer.specs.Gain.{gain_bits}
 use Rattle.integer.specs.MovingSums.{Signal, signal_of, fold, sum_at, scaled_sums}
 use Rattle.integer.specs.MovingSums as M
 use Rattle.nonrecursive.specs.Nonrecursive.{halved, nonrecursive_sums}
-use Rattle.integer.specs.CicDecimator.{scaled_by}
 use Rattle.integer.specs.CicDecimator as C
 use Rattle.nonrecursive.specs.NonrecursiveDecimator.{halvings, power_of_two, nonrecursive_of, fresh, settings_number, valid_at, valid, Thinned, thinned, next_place, nonrecursive, scaled_nonrecursive, machine, Streams}
 use Rattle.nonrecursive.specs.declared.nonrecursive_decimator.NonrecursiveDecimator.{NonrecursiveDecimator}
 use Rattle.integer.proofs.Within.{stages_within, factor_within}
-use Rattle.integer.proofs.Streaming.{streams}
+use Rattle.integer.proofs.Streaming.{floored, scaled_outs, streams}
 use Rattle.nonrecursive.proofs.Nonrecursive.{nonrecursive_sums_lem}
 use Rattle.theory.proofs.EveryRth.{every_rth}
 use Rattle.nonrecursive.proofs.Halvings.{power_is, few_halvings}
@@ -191,20 +189,16 @@ module _ (N r : ℕ) where
   unfolding nonrecursive
   settings_kept d x h = h
 
-  abbrev scale : ℤ → ℤ
-  scale y = floor_div y (2 ^ gain_bits N r)
+abbrev bits_of_sums : NonrecursiveDecimator → ℕ
+bits_of_sums d = gain_bits d.stages d.r
 
-  scaled_outs : (d : NonrecursiveDecimator) (w : List ℤ) → Set d → outs scaled_nonrecursive d w ≡ map scale (outs nonrecursive d w)
-  unfolding scaled_nonrecursive
-  scaled_outs d [] h = refl
-  scaled_outs d (x ∷ w) h =
-      ap (λ (g : ℕ). onto (scaled_by g (nonrecursive.out d x)) (outs scaled_nonrecursive (nonrecursive.next d x) w)) (ap (λ (n : ℕ). gain_bits n d.r) h.0 ∙ ap (gain_bits N) h.1)
-      ∙ ap (onto (scaled_by (gain_bits N r) (nonrecursive.out d x))) (scaled_outs (nonrecursive.next d x) w (settings_kept d x h))
-      ∙ go (nonrecursive.out d x) (outs nonrecursive (nonrecursive.next d x) w)
-    where
-      go : (o : Option ℤ) (l : List ℤ) → onto (scaled_by (gain_bits N r) o) (map scale l) ≡ map scale (onto o l)
-      go None l = refl
-      go (Some y) l = refl
+bits_kept : (d : NonrecursiveDecimator) (x : ℤ) → bits_of_sums (nonrecursive.next d x) ≡ bits_of_sums d
+unfolding nonrecursive
+bits_kept d x = refl
+
+scaled_sums_made : (d : NonrecursiveDecimator) (w : List ℤ) → outs scaled_nonrecursive d w ≡ map (floored (bits_of_sums d)) (outs nonrecursive d w)
+unfolding scaled_nonrecursive
+scaled_sums_made = scaled_outs nonrecursive bits_of_sums bits_kept
 
 pub nonrecursive_streams : (N r : ℕ) → settings_number N r ≡ 0 → Streams N r (fresh N r)
 nonrecursive_streams N r ok =
@@ -213,8 +207,9 @@ nonrecursive_streams N r ok =
       settings = λ w. state_keeps nonrecursive (Set N r) (settings_kept N r) (fresh N r) w (refl, refl);
       sums_made = made;
       scaled_made = λ w.
-          scaled_outs N r (fresh N r) w (refl, refl) ∙ ap (map (scale N r)) (made w)
-          ∙ unfold M.sums scaled_sums in map_listed (scale N r) (length w / r) (sum_at N r (signal_of w));
+          let g : ℕ = gain_bits N r in
+          scaled_sums_made (fresh N r) w ∙ ap (map (floored g)) (made w)
+          ∙ unfold M.sums scaled_sums in map_listed (floored g) (length w / r) (sum_at N r (signal_of w));
       blocks = promised_by machine 0 (λ d. valid d ≡ true) (lawful_alone (pos 0) nonrecursive 0 (λ d. valid d ≡ true) valid_kept) (fresh N r) (valid_from N r 0 ok f.0) (M.sums N r)
           (λ w. all_alone (pos 0) nonrecursive 0 (fresh N r) w ∙ made w);
       as_cic = same_out nonrecursive C.decimator (fresh N r) (C.fresh N r) (λ w. made w ∙ sym ((streams N r s.stages s.factor).sums_made w));
