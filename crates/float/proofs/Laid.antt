@@ -4,16 +4,6 @@ use lib.Ieee.{Float}
 use Rattle.float.specs.Ending.{ending_in}
 use Rattle.float.proofs.Tape.{ends_in, put_over}
 
--- samples put behind the delay that stands in front of a tape
-pub laid : (tape d v p : List Float) → take (length d) tape ≡ d → length d + length v ≤ length tape → p ≡ ending_in v (take (length d + length v) tape) → p ≡ d ++ v
-laid tape d v p e h q =
-    let long : length (take (length d + length v) tape) ≡ length d + length v = length-take-le (length d + length v) tape h in
-    let before : length (take (length d + length v) tape) - length v ≡ length d = omega (arith, long) in
-    q
-    ∙ ends_in v (take (length d + length v) tape) (omega (arith, long))
-    ∙ ap (λ (n : ℕ). take n (take (length d + length v) tape) ++ v) before
-    ∙ ap (λ (l : List Float). l ++ v) (take-take (length d) (length d + length v) tape (omega arith) ∙ e)
-
 -- the front of a tape with d and v
 module _ (tape d v : List Float) (e : take (length d + length v) tape ≡ d ++ v) where
   pub delay_in_front : take (length d) tape ≡ d

@@ -1,9 +1,6 @@
 -- A choice whose tests are known is the one they choose.
 use mathlib.Core.Path.{◌≡◌, sym, ap, ◌∙◌}
-use mathlib.Core.Bool.{Bool, true, false, cond}
-
-pub chosen : {A : Type 0} (b : Bool) (x y : A) → b ≡ true → x ≡ cond b x y
-chosen b x y e = ap (λ (t : Bool). cond t x y) (sym e)
+use mathlib.Core.Bool.{Bool, false, cond}
 
 pub other : {A : Type 0} (b : Bool) (x y : A) → b ≡ false → y ≡ cond b x y
 other b x y e = ap (λ (t : Bool). cond t x y) (sym e)

@@ -29,12 +29,6 @@ Usable d = stored.Usable 96 d.m d.coeffs d.delay
 room : (d : HbfDec) → Usable d → 4 * d.m ≤ 96
 room d u = omega (arith, u.most)
 
-pub taps_long : (d : HbfDec) → Usable d → length (dec_taps d) ≡ d.m
-taps_long d u = stored.taps_long (4 * d.m) 96 d.m d.coeffs d.delay u (room d u)
-
-pub window_long : (d : HbfDec) → Usable d → length (dec_window d) ≡ 4 * d.m
-window_long d u = stored.window_long (4 * d.m) 96 d.m d.coeffs d.delay u (room d u)
-
 abbrev build : ℕ → List Float → List Float → HbfDec
 build m c d = record { m = m; coeffs = c; delay = d }
 

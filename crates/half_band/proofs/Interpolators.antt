@@ -30,12 +30,6 @@ Usable d = stored.Usable 48 d.m d.coeffs d.delay
 room : (d : HbfInt) → Usable d → 2 * d.m ≤ 48
 room d u = omega (arith, u.most)
 
-pub taps_long : (d : HbfInt) → Usable d → length (int_taps d) ≡ d.m
-taps_long d u = stored.taps_long (2 * d.m) 48 d.m d.coeffs d.delay u (room d u)
-
-pub window_long : (d : HbfInt) → Usable d → length (int_window d) ≡ 2 * d.m
-window_long d u = stored.window_long (2 * d.m) 48 d.m d.coeffs d.delay u (room d u)
-
 abbrev build : ℕ → List Float → List Float → HbfInt
 build m c d = record { m = m; coeffs = c; delay = d }
 

@@ -1,10 +1,7 @@
 -- The parts that the code takes of its tables are the stages' taps: each pattern is the f32 nearest to its printed decimal.
 use mathlib.Core.Path.{◌≡◌, refl, sym, ap, ◌∙◌}
 use mathlib.Core.List.{List, []}
-use Prim.Native.Nat.{ℕ, ◌-◌, ◌*◌, ◌^◌, ◌≤◌, ◌<◌}
-use native.Mathlib.Nat.{mul-one, mul-le-mul_left}
-use native.Mathlib.Omega.{arith}
-use lib.Pow.{pow_pos}
+use Prim.Native.Nat.{ℕ, ◌-◌, ◌≤◌, ◌<◌}
 use lib.ListN.{length, get_or, take, drop, get_or-eq_default}
 use lib.Ieee.{Float}
 use Rattle.half_band.specs.HbfTaps.{Table, stage_taps, by_five, decimation, interpolation}
@@ -31,6 +28,3 @@ turned = by_five (λ k. stage_taps decimation (5 - 1 - k) ≡ stage_taps interpo
 pub turned_past : (k : ℕ) → 5 ≤ k → [] ≡ stage_taps interpolation k
 unfolding interpolation
 turned_past k h = past interpolation k h
-
-pub fewer : (m l d : ℕ) → l ≡ m * 2 ^ d → m ≤ l
-fewer m l d e = let a : m * 1 ≤ m * 2 ^ d = mul-le-mul_left m (pow_pos d) in omega (arith, mul-one m)

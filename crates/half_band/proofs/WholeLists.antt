@@ -9,7 +9,6 @@ use native.Mathlib.Nat.{le_refl}
 use native.Mathlib.Numerals.{add-one}
 use native.Mathlib.Omega.{arith}
 use lib.ListN.{length, get_or, take, replicate}
-use lib.Seq.{length-take-le}
 use lib.Ieee.{Float, nan, binary32, add, mul}
 use Rattle.theory.specs.Lists.{listed}
 use Rattle.theory.specs.Sections.{Section, outs}
@@ -72,12 +71,6 @@ length_pairs (a ∷ b ∷ w) = ap suc (length_pairs w) ∙ more (length w)
   where
     more : (n : ℕ) → suc (n / 2) ≡ suc (suc n) / 2
     more n = omega arith
-
-pub pairs_front : (n : ℕ) (w : List Float) → 2 * n ≤ length w → length (pairs (take (2 * n) w)) ≡ n
-pairs_front n w h =
-    let l : length (take (2 * n) w) ≡ 2 * n = length-take-le (2 * n) w h in
-    let e : 2 * n / 2 ≡ n = omega arith in
-    length_pairs (take (2 * n) w) ∙ ap (λ (k : ℕ). k / 2) l ∙ e
 
 pub pair_at : (w : List Float) (i : ℕ) → 2 * i + 1 < length w → get_or (pairs w) i (nan, nan) ≡ (get_or w (2 * i) nan, get_or w (2 * i + 1) nan)
 pair_at [] i h = absurd (omega arith)

@@ -1,15 +1,15 @@
 -- A fresh decimator makes the moving sums, modulo 2^32, for every number of stages, factor and list: after k outputs and j samples more its state is known
 -- in closed form, and Hogenauer's theorem says what its combs then hand on.
-use Rattle.std.proofs.Common.{◌≡◌, ℕ, zero, suc, ◌+◌, ◌-◌, ◌*◌, ◌/◌, ◌<◌, ◌≤◌, ◌⊎◌, List, [], ◌∷◌, ◌++◌, length, get_or, replicate, ℤ, pos, sym, refl, ap, ◌∙◌, inl, inr, suc-mul, eq-or-lt_of_le, zero-add, zero-mul, add-one, arith, w32, le-ltb, lt-ltb}
+use Rattle.std.proofs.Common.{◌≡◌, ℕ, zero, suc, ◌+◌, ◌-◌, ◌*◌, ◌/◌, ◌<◌, ◌≤◌, List, ◌++◌, length, get_or, replicate, ℤ, pos, sym, refl, ap, ◌∙◌, suc-mul, zero-mul, add-one, arith, w32, le-ltb, lt-ltb}
 use mathlib.Core.Path.{fun_ext}
 use Rattle.std.specs.Prelude.{None, Some}
-use native.Mathlib.Nat.{div-eq_of_lt, add-div_left}
 use lib.ListN.{replicate-append-replicate}
 use Rattle.theory.specs.Wrap.{wrap}
-use Rattle.theory.specs.Sections.{onto, outs}
-use Rattle.theory.proofs.Listed.{ascending, ascending_listed}
+use Rattle.theory.specs.Sections.{outs}
+use Rattle.theory.specs.Lists.{listed}
+use Rattle.theory.proofs.EveryRth.{every_rth}
 use Rattle.integer.specs.Stages.{Passed, integrated, combed}
-use Rattle.integer.specs.MovingSums.{Signal, signal_of, delay, moving_sum, fold, sum_at, sums}
+use Rattle.integer.specs.MovingSums.{Signal, signal_of, delay, moving_sum, fold, sums}
 use Rattle.integer.specs.CicDecimator.{decimator_of, fresh, decimator}
 use Rattle.integer.specs.declared.cic_decimator.CicDecimator.{CicDecimator}
 use Rattle.integer.proofs.Hogenauer.{prefix, diff, decimate, hogenauer, moving_delay, fold_commutes, prefix_quiet}
@@ -41,20 +41,21 @@ module _ (m r : ℕ) (few : suc m ≤ 8) (f : Signal) (quiet : f zero ≡ pos 0)
   abbrev passing : ℕ → ℕ → Passed ℤ
   passing k j = integrated (suc m) (tower prefix (suc m) (prefix f) (k * r + j) ++ rest) (f (suc (k * r + j)))
 
-  counts_out : (k j : ℕ) → j + 1 < r → decimator.out (state_at k j) (f (suc (k * r + j))) ≡ None
+  counts_out : (k j : ℕ) → suc j < r → decimator.out (state_at k j) (f (suc (k * r + j))) ≡ None
   unfolding decimator
-  counts_out k j h = rw (lt-ltb (j + 1) r h)
+  counts_out k j h = rw (lt-ltb (j + 1) r (omega arith))
 
-  counts_next : (k j : ℕ) → j + 1 < r → decimator.next (state_at k j) (f (suc (k * r + j))) ≡ state_at k (j + 1)
+  counts_next : (k j : ℕ) → suc j < r → decimator.next (state_at k j) (f (suc (k * r + j))) ≡ state_at k (suc j)
   unfolding decimator
   counts_next k j h =
-      let e : suc (k * r + j) ≡ k * r + (j + 1) = omega arith in
-      rw (lt-ltb (j + 1) r h)
+      let e : suc (k * r + j) ≡ k * r + suc j = omega arith in
+      rw (lt-ltb (j + 1) r (omega arith))
       (ap (λ (p : Passed ℤ). counted k p (j + 1)) (integrators_raw m f (k * r + j) rest)
-      ∙ ap (λ (t : ℕ). counted k (passed_at t) (j + 1)) e)
+      ∙ ap (λ (t : ℕ). counted k (passed_at t) (j + 1)) e
+      ∙ ap (counted k (passed_at (k * r + suc j))) (add-one j))
 
   -- the combs at the sample that completes sum k
-  summed : (k j : ℕ) → j + 1 ≡ r → combed (suc m) (tower diff (suc m) low k ++ rest) (passing k j).val ≡ record { state = tower diff (suc m) low (suc k) ++ rest; val = gives k }
+  summed : (k j : ℕ) → suc j ≡ r → combed (suc m) (tower diff (suc m) low k ++ rest) (passing k j).val ≡ record { state = tower diff (suc m) low (suc k) ++ rest; val = gives k }
   summed k j h =
       let e : suc (k * r + j) ≡ suc k * r = omega (arith, suc-mul k r) in
       ap (λ (p : Passed ℤ). combed (suc m) (tower diff (suc m) low k ++ rest) p.val) (integrators_raw m f (k * r + j) rest)
@@ -62,11 +63,11 @@ module _ (m r : ℕ) (few : suc m ≤ 8) (f : Signal) (quiet : f zero ≡ pos 0)
       ∙ combs (suc m) low k rest
       ∙ ap {B = Passed ℤ} (λ (g : Signal). record { state = tower diff (suc m) low (suc k) ++ rest; val = wrap w32 (g (suc k)) }) (hogenauer (suc m) r f quiet)
 
-  sums_out : (k j : ℕ) → j + 1 ≡ r → decimator.out (state_at k j) (f (suc (k * r + j))) ≡ Some (gives k)
+  sums_out : (k j : ℕ) → suc j ≡ r → decimator.out (state_at k j) (f (suc (k * r + j))) ≡ Some (gives k)
   unfolding decimator
   sums_out k j h = rw (le-ltb (j + 1) r (omega arith)) (ap (λ (p : Passed ℤ). Some p.val) (summed k j h))
 
-  sums_next : (k j : ℕ) → j + 1 ≡ r → decimator.next (state_at k j) (f (suc (k * r + j))) ≡ state_at (suc k) 0
+  sums_next : (k j : ℕ) → suc j ≡ r → decimator.next (state_at k j) (f (suc (k * r + j))) ≡ state_at (suc k) 0
   unfolding decimator
   sums_next k j h =
       let e : suc (k * r + j) ≡ suc k * r + 0 = omega (arith, suc-mul k r) in
@@ -74,40 +75,6 @@ module _ (m r : ℕ) (few : suc m ≤ 8) (f : Signal) (quiet : f zero ≡ pos 0)
       (ap (λ (p : Passed ℤ). decimator_of (suc m) r (passing k j).state p.state 0) (summed k j h)
       ∙ ap (λ (p : Passed ℤ). decimator_of (suc m) r p.state (tower diff (suc m) low (suc k) ++ rest) 0) (integrators_raw m f (k * r + j) rest)
       ∙ ap (λ (t : ℕ). decimator_of (suc m) r (passed_at t).state (tower diff (suc m) low (suc k) ++ rest) 0) e)
-
-  -- the outputs after k outputs and j samples more, of samples that are f's
-  abbrev Follows : List ℤ → Type 0
-  Follows xs =
-      (k j : ℕ) → j < r → ((i : ℕ) → f (suc (k * r + j + i)) ≡ get_or xs i (pos 0)) → outs decimator (state_at k j) xs ≡ ascending k ((j + length xs) / r) gives
-
-  one_more : (x : ℤ) (xs : List ℤ) → Follows xs → (k j : ℕ) → ((i : ℕ) → f (suc (k * r + j + i)) ≡ get_or (x ∷ xs) i (pos 0)) → (suc j ≡ r) ⊎ (suc j < r) → outs decimator (state_at k j) (x ∷ xs) ≡ ascending k ((j + length (x ∷ xs)) / r) gives
-  one_more x xs ih k j at (inl e) =
-      let a : k * r + j ≡ k * r + j + 0 = omega arith in
-      let b : j + suc (length xs) ≡ r + length xs = omega arith in
-      let c : (j + suc (length xs)) / r ≡ suc ((0 + length xs) / r) =
-      ap (λ n. n / r) b ∙ add-div_left (length xs) (omega arith) ∙ add-one (length xs / r)
-      ∙ ap (λ n. suc (n / r)) (sym (zero-add (length xs))) in
-      let d : j + 1 ≡ r = omega arith in
-      ap (λ v. onto (decimator.out (state_at k j) v) (outs decimator (decimator.next (state_at k j) v) xs)) (sym (ap (λ t. f (suc t)) a ∙ at 0))
-      ∙ ap (λ o. onto o (outs decimator (decimator.next (state_at k j) (f (suc (k * r + j)))) xs)) (sums_out k j d)
-      ∙ ap (λ s. gives k ∷ outs decimator s xs) (sums_next k j d)
-      ∙ ap (λ l. gives k ∷ l) (ih (suc k) 0 (omega arith) (λ i. let q : suc k * r + 0 + i ≡ k * r + j + suc i = omega (arith, suc-mul k r) in ap (λ t. f (suc t)) q ∙ at (suc i)))
-      ∙ ap (λ n. ascending k n gives) (sym c)
-  one_more x xs ih k j at (inr l) =
-      let a : k * r + j ≡ k * r + j + 0 = omega arith in
-      let b : (j + 1) + length xs ≡ j + suc (length xs) = omega arith in
-      let d : j + 1 < r = omega arith in
-      ap (λ v. onto (decimator.out (state_at k j) v) (outs decimator (decimator.next (state_at k j) v) xs)) (sym (ap (λ t. f (suc t)) a ∙ at 0))
-      ∙ ap (λ o. onto o (outs decimator (decimator.next (state_at k j) (f (suc (k * r + j)))) xs)) (counts_out k j d)
-      ∙ ap (λ s. outs decimator s xs) (counts_next k j d)
-      ∙ ih k (j + 1) d (λ i. let q : k * r + (j + 1) + i ≡ k * r + j + suc i = omega arith in ap (λ t. f (suc t)) q ∙ at (suc i))
-      ∙ ap (λ n. ascending k (n / r) gives) b
-
-  outputs : (xs : List ℤ) → Follows xs
-  outputs [] k j h at =
-      let e : j + 0 < r = omega arith in
-      ap (λ n. ascending k n gives) (sym (div-eq_of_lt e))
-  outputs (x ∷ xs) k j h at = one_more x xs (outputs xs) k j at (eq-or-lt_of_le h)
 
   -- the start is a fresh decimator
   zeros : replicate (suc m) (pos 0) ++ rest ≡ replicate 8 (pos 0)
@@ -123,17 +90,18 @@ module _ (m r : ℕ) (few : suc m ≤ 8) (f : Signal) (quiet : f zero ≡ pos 0)
       ∙ ap (λ l. decimator_of (suc m) r (replicate (suc m) (pos 0) ++ rest) (l ++ rest) 0) (tower_zero diff (λ g. refl) (suc m) low (ap (fold (suc m) prefix f) (zero-mul r) ∙ prefix_quiet (suc m) f quiet))
       ∙ ap (λ l. decimator_of (suc m) r l l 0) zeros
 
+  made : 1 ≤ r → (w : List ℤ) → ((i : ℕ) → f (suc i) ≡ get_or w i (pos 0)) → outs decimator (fresh (suc m) r) w ≡ listed (length w / r) gives
+  made least w same =
+      ap (λ d. outs decimator d w) (sym starts)
+      ∙ every_rth decimator r least (λ t. f (suc t)) (pos 0) state_at gives counts_out counts_next sums_out sums_next w same
+
 pub decimates : (N r : ℕ) → 1 ≤ N → N ≤ 8 → 1 ≤ r → (w : List ℤ) → outs decimator (fresh N r) w ≡ sums N r w
 unfolding sums
 decimates zero r least few pos_r w = absurd (omega arith)
 decimates (suc m) r least few pos_r w =
     let s = signal_of w in
-    let z : 0 + length w ≡ length w = omega arith in
-    ap (λ d. outs decimator d w) (sym (starts m r few (delay s) refl))
-    ∙ outputs m r few (delay s) refl w 0 0 pos_r (λ i. let q : 0 * r + 0 + i ≡ i = omega arith in ap s q)
-    ∙ ap (λ (g : Signal). ascending 0 ((0 + length w) / r) (λ i. wrap w32 (g (suc i * r)))) (sym (fold_commutes (suc m) (moving_sum r) delay (λ g. sym (moving_delay r g)) s))
-    ∙ ap (λ (g : ℕ → ℤ). ascending 0 ((0 + length w) / r) g) (fun_ext (λ i.
+    made m r few (delay s) refl pos_r w (λ i. refl)
+    ∙ ap (λ (g : Signal). listed (length w / r) (λ i. wrap w32 (g (suc i * r)))) (sym (fold_commutes (suc m) (moving_sum r) delay (λ g. sym (moving_delay r g)) s))
+    ∙ ap (λ (g : ℕ → ℤ). listed (length w / r) g) (fun_ext (λ i.
     let q : suc i * r ≡ suc ((i + 1) * r - 1) = omega (arith, suc-mul i r) in
     ap (λ t. wrap w32 (delay (fold (suc m) (moving_sum r) s) t)) q))
-    ∙ ap (λ n. ascending 0 (n / r) (sum_at (suc m) r s)) z
-    ∙ ascending_listed (length w / r) (sum_at (suc m) r s)

@@ -3,7 +3,7 @@
 use Rattle.std.proofs.Common.{◌≡◌, ℕ, ◌+◌, ◌/◌, ◌^◌, ◌≤◌, Bool, true, false, cond, ltb, List, [], ◌∷◌, map, length, ℤ, pos, refl, ap, ◌∙◌, lt-ltb}
 use Rattle.std.specs.Prelude.{Option, None, Some}
 use Rattle.theory.specs.Floor.{floor_div}
-use Rattle.theory.specs.Sections.{onto, outs}
+use Rattle.theory.specs.Sections.{Section, onto, outs}
 use Rattle.theory.proofs.Sections.{state_keeps}
 use Rattle.theory.proofs.Machines.{all_alone, lawful_alone}
 use Rattle.theory.proofs.Feeds.{promised_by}
@@ -52,21 +52,30 @@ module _ (N r : ℕ) where
   pub settings_kept : (d : CicDecimator) (x : ℤ) → Set d → Set (decimator.next d x)
   settings_kept d x h = by_step Set d x (λ e. h) (λ i c. h)
 
-  -- a scaled sum is the floor of the sum, so the scaled list is the list of floors
-  abbrev scale : ℤ → ℤ
-  scale y = floor_div y (2 ^ gain_bits N r)
+-- a scaled sum is the floor of the sum, so the scaled list is the list of floors: of any section whose gain bits stay
+abbrev pub floored : ℕ → ℤ → ℤ
+floored g y = floor_div y (2 ^ g)
 
-  scaled_outs : (d : CicDecimator) (w : List ℤ) → Set d → outs scaled_decimator d w ≡ map scale (outs decimator d w)
-  unfolding scaled_decimator
-  scaled_outs d [] h = refl
-  scaled_outs d (x ∷ w) h =
-      ap (λ (g : ℕ). onto (scaled_by g (decimator.out d x)) (outs scaled_decimator (decimator.next d x) w)) (ap (λ (n : ℕ). gain_bits n d.r) h.0 ∙ ap (gain_bits N) h.1)
-      ∙ ap (onto (scaled_by (gain_bits N r) (decimator.out d x))) (scaled_outs (decimator.next d x) w (settings_kept d x h))
-      ∙ go (decimator.out d x) (outs decimator (decimator.next d x) w)
+module _ {S : Type 0} (f : Section S ℤ ℤ) (bits : S → ℕ) (stay : (s : S) (x : ℤ) → bits (f.next s x) ≡ bits s) where
+  abbrev pub scaled_form : Section S ℤ ℤ
+  scaled_form = record { next = f.next; out = λ s x. scaled_by (bits s) (f.out s x) }
+
+  pub scaled_outs : (s : S) (w : List ℤ) → outs scaled_form s w ≡ map (floored (bits s)) (outs f s w)
+  scaled_outs s [] = refl
+  scaled_outs s (x ∷ w) =
+      ap (onto (scaled_by (bits s) (f.out s x))) (scaled_outs (f.next s x) w ∙ ap (λ (g : ℕ). map (floored g) (outs f (f.next s x) w)) (stay s x))
+      ∙ go (f.out s x) (outs f (f.next s x) w)
     where
-      go : (o : Option ℤ) (l : List ℤ) → onto (scaled_by (gain_bits N r) o) (map scale l) ≡ map scale (onto o l)
+      go : (o : Option ℤ) (l : List ℤ) → onto (scaled_by (bits s) o) (map (floored (bits s)) l) ≡ map (floored (bits s)) (onto o l)
       go None l = refl
       go (Some y) l = refl
+
+abbrev bits_of_sums : CicDecimator → ℕ
+bits_of_sums d = gain_bits d.stages d.r
+
+scaled_sums_made : (d : CicDecimator) (w : List ℤ) → outs scaled_decimator d w ≡ map (floored (bits_of_sums d)) (outs decimator d w)
+unfolding scaled_decimator
+scaled_sums_made = scaled_outs decimator bits_of_sums (λ d x. by_step (λ e. bits_of_sums e ≡ bits_of_sums d) d x (λ e. refl) (λ i c. refl))
 
 pub streams : (N r : ℕ) → stages_ok N ≡ true → factor_ok r ≡ true → Streams N r (fresh N r)
 streams N r ok_n ok_r =
@@ -92,4 +101,6 @@ streams N r ok_n ok_r =
     made = decimates N r n.0 n.1 f.0
 
     scaled : (w : List ℤ) → outs scaled_decimator (fresh N r) w ≡ scaled_sums N r w
-    scaled w = scaled_outs N r (fresh N r) w (refl, refl) ∙ ap (map (scale N r)) (made w) ∙ unfold sums scaled_sums in map_listed (scale N r) (length w / r) (sum_at N r (signal_of w))
+    scaled w =
+        let g : ℕ = gain_bits N r in
+        scaled_sums_made (fresh N r) w ∙ ap (map (floored g)) (made w) ∙ unfold sums scaled_sums in map_listed (floored g) (length w / r) (sum_at N r (signal_of w))

@@ -4,18 +4,18 @@ use mathlib.Core.Bool.{true}
 use mathlib.Core.List.{List, [], ◌∷◌, ◌++◌, append_assoc}
 use Rattle.std.specs.Prelude.{Option, None, Some}
 use Prim.Native.Nat.{ℕ, zero, suc, ◌+◌, ◌-◌, ◌*◌, ◌≤◌}
-use native.Mathlib.Nat.{zero-add, sub-zero, mul-le-mul_right}
+use native.Mathlib.Nat.{sub-zero, mul-le-mul_right}
 use native.Mathlib.Omega.{arith}
 use lib.IntN.{ℤ, pos}
 use lib.ListN.{length, take, drop, length-append, length-drop, take-append-drop}
 use lib.Seq.{length-take-le, take-add, take-append_seam, drop-append_seam, drop-drop}
-use Rattle.theory.specs.Sections.{Section, onto, state, outs}
+use Rattle.theory.specs.Sections.{Section, state, outs}
 use Rattle.theory.specs.Machines.{Machine, alone}
 use Rattle.theory.specs.Feeds.{Fed, took_then, less, feed}
 use Rattle.theory.proofs.Sections.{state_append, outs_append, state_keeps}
 use Rattle.theory.proofs.FeedLoop.{join}
 use Rattle.theory.proofs.FeedRules.{feed_full, feed_end}
-use Rattle.theory.proofs.Batches.{feed_takes, feed_alone}
+use Rattle.theory.proofs.Batches.{feed_takes, join_none, join_took, feed_alone}
 use Rattle.integer.proofs.TakenWhole.{goes_on}
 use Rattle.nonrecursive.specs.NonrecursiveDecimator.{nonrecursive_of, valid_at, valid, nonrecursive, machine, fed_block, block, block_span}
 use Rattle.nonrecursive.specs.declared.nonrecursive_decimator.NonrecursiveDecimator.{NonrecursiveDecimator}
@@ -60,20 +60,12 @@ module _ {S : Type 0} (f : Section S ℤ ℤ) where
             ∙ ap (λ (l : List ℤ). l ++ drop (w + n) span₀) (sym both);
       }
 
-  join_none : (g : Fed S ℤ) → join 0 [] g ≡ g
-  join_none g = ap {B = Fed S ℤ} (λ (k : ℕ). record { taken = k; written = g.written; line = g.line }) (zero-add g.taken)
-
-  join_took : (o : Option ℤ) (j : ℕ) (w : List ℤ) (g : Fed S ℤ) → took_then o (join j w g) ≡ join (suc j) (onto o w) g
-  join_took None j w g = let e : suc (j + g.taken) ≡ suc j + g.taken = omega arith in ap {B = Fed S ℤ} (λ (k : ℕ). record { taken = k; written = w ++ g.written; line = g.line }) e
-  join_took (Some c) j w g =
-      let e : suc (j + g.taken) ≡ suc j + g.taken = omega arith in ap {B = Fed S ℤ} (λ (k : ℕ). record { taken = k; written = c ∷ (w ++ g.written); line = g.line }) e
-
   -- what g did of a list's front, and then a feed of what is left
   abbrev pub then : Fed S ℤ → List ℤ → ℕ → Fed S ℤ
   then g ys n = join g.taken g.written (feed m g.line (drop g.taken ys) (n - length g.written))
 
   idle_then : (s : S) (ys : List ℤ) (n : ℕ) → feed m s ys n ≡ join 0 [] (feed m s ys (n - 0))
-  idle_then s ys n = ap (feed m s ys) (sym (sub-zero n)) ∙ sym (join_none (feed m s ys (n - 0)))
+  idle_then s ys n = ap (feed m s ys) (sym (sub-zero n)) ∙ sym (join_none m (feed m s ys (n - 0)))
 
   pub feed_cut : (s : S) (xs zs : List ℤ) (n : ℕ) → feed m s (xs ++ zs) n ≡ then (feed m s xs n) (xs ++ zs) n
   feed_cut s [] zs zero = idle_then s zs 0 ∙ ap (λ (g : Fed S ℤ). then g zs 0) (sym (feed_full m s []))
@@ -98,10 +90,10 @@ module _ {S : Type 0} (f : Section S ℤ ℤ) where
           → took_then o (feed m s' (xs ++ zs) (less o (suc n))) ≡ then (took_then o (feed m s' xs (less o (suc n)))) (a ∷ (xs ++ zs)) (suc n)
       go None ih =
           let g : Fed S ℤ = feed m s' xs (suc n) in
-          ap (took_then None) (ih (suc n)) ∙ join_took None g.taken g.written (feed m g.line (drop g.taken (xs ++ zs)) (suc n - length g.written))
+          ap (took_then None) (ih (suc n)) ∙ join_took m None g.taken g.written (feed m g.line (drop g.taken (xs ++ zs)) (suc n - length g.written))
       go (Some c) ih =
           let g : Fed S ℤ = feed m s' xs n in
-          ap (took_then (Some c)) (ih n) ∙ join_took (Some c) g.taken g.written (feed m g.line (drop g.taken (xs ++ zs)) (n - length g.written)) ∙ fewer c g
+          ap (took_then (Some c)) (ih n) ∙ join_took m (Some c) g.taken g.written (feed m g.line (drop g.taken (xs ++ zs)) (n - length g.written)) ∙ fewer c g
 
 -- ---- a block, whose front is fed, and then whole frames are made of the samples behind it, and then the rest is fed
 module _ (N r p : ℕ) (s : List ℤ) (ok : valid_at N r p ≡ true) (xs span : List ℤ) where

@@ -1,5 +1,4 @@
 pub mod Nonrecursive
-pub mod EveryRth
 pub mod Halvings
 pub mod Neighbours
 pub mod ThinSteps

@@ -12,12 +12,12 @@ use borrow.Author.Tests.{lt-ltb, le-ltb, eqb-true, eq-eqb, ltb-true}
 use lib.Arith.{digits_div, digits_mod}
 use lib.Dec.{eqb, ltb}
 use lib.IntN.{ℤ, pos}
-use lib.ListN.{length, drop, replicate, replicate-append-replicate}
+use lib.ListN.{length, get_or, drop, replicate, replicate-append-replicate}
 use lib.Pow.{pow_pos}
 use lib.Seq.{drop_at}
 use mir.Syntax.{w32}
-use Rattle.theory.specs.Floor.{floor_div}
 use Rattle.theory.specs.Wrap.{wrap}
+use Rattle.theory.specs.Lists.{listed}
 use Rattle.theory.specs.Sections.{Section, onto, state, outs}
 use Rattle.theory.specs.Feeds.{head_of}
 use Rattle.theory.proofs.Sections.{state_keeps, outs_append}
@@ -29,14 +29,13 @@ use Rattle.integer.specs.Gain.{gain_bits}
 use Rattle.integer.specs.MovingSums.{Signal, signal_of, fold, sum_at, scaled_sums}
 use Rattle.integer.specs.MovingSums as M
 use Rattle.nonrecursive.specs.Nonrecursive.{halved, nonrecursive_sums}
-use Rattle.integer.specs.CicDecimator.{scaled_by}
 use Rattle.integer.specs.CicDecimator as C
 use Rattle.nonrecursive.specs.NonrecursiveDecimator.{halvings, power_of_two, nonrecursive_of, fresh, settings_number, valid_at, valid, Thinned, thinned, next_place, nonrecursive, scaled_nonrecursive, machine, Streams}
 use Rattle.nonrecursive.specs.declared.nonrecursive_decimator.NonrecursiveDecimator.{NonrecursiveDecimator}
 use Rattle.integer.proofs.Within.{stages_within, factor_within}
-use Rattle.integer.proofs.Streaming.{streams}
+use Rattle.integer.proofs.Streaming.{floored, scaled_outs, streams}
 use Rattle.nonrecursive.proofs.Nonrecursive.{nonrecursive_sums_lem}
-use Rattle.nonrecursive.proofs.EveryRth.{every_rth}
+use Rattle.theory.proofs.EveryRth.{every_rth}
 use Rattle.nonrecursive.proofs.Halvings.{power_is, few_halvings}
 use Rattle.nonrecursive.proofs.Neighbours.{neighbours_at, Thins, thins, neighbours_zero}
 
@@ -99,17 +98,27 @@ module _ (N m : ℕ) (few_stages : N ≤ 8) (few : m ≤ 12) (counted : halvings
   unfolding nonrecursive
   out_at t = ap (λ (n : ℕ). (does n t).out) counted
 
+  -- output k
+  abbrev gives : ℕ → ℤ
+  gives k = wrap w32 (fold m (halved N) f k)
+
   waits_at : (k j : ℕ) → suc j < r → nonrecursive.out (state_at (k * r + j)) (f (k * r + j)) ≡ None
   waits_at k j h =
       let e : suc (k * r + j) ≡ k * r + suc j = omega arith in
       let d : suc (k * r + j) % r ≡ suc j = ap (λ (n : ℕ). n % r) e ∙ digits_mod k h in
       out_at (k * r + j) ∙ (at (k * r + j)).waits (omega (arith, d))
 
-  sums_at : (k j : ℕ) → suc j ≡ r → nonrecursive.out (state_at (k * r + j)) (f (k * r + j)) ≡ Some (wrap w32 (fold m (halved N) f k))
+  sums_at : (k j : ℕ) → suc j ≡ r → nonrecursive.out (state_at (k * r + j)) (f (k * r + j)) ≡ Some (gives k)
   sums_at k j h =
       let e : suc (k * r + j) ≡ suc k * r + 0 = omega (arith, suc-mul k r) in
       let d : suc (k * r + j) % r ≡ 0 = ap (λ (n : ℕ). n % r) e ∙ digits_mod (suc k) (pow_pos m) in
-      out_at (k * r + j) ∙ (at (k * r + j)).made d ∙ ap (λ (n : ℕ). Some (wrap w32 (fold m (halved N) f n))) (digits_div k (omega arith))
+      out_at (k * r + j) ∙ (at (k * r + j)).made d ∙ ap (λ (n : ℕ). Some (gives n)) (digits_div k (omega arith))
+
+  waits_next : (k j : ℕ) → suc j < r → nonrecursive.next (state_at (k * r + j)) (f (k * r + j)) ≡ state_at (k * r + suc j)
+  waits_next k j h = let e : suc (k * r + j) ≡ k * r + suc j = omega arith in next_at (k * r + j) ∙ ap state_at e
+
+  sums_next : (k j : ℕ) → suc j ≡ r → nonrecursive.next (state_at (k * r + j)) (f (k * r + j)) ≡ state_at (suc k * r + 0)
+  sums_next k j h = let e : suc (k * r + j) ≡ suc k * r + 0 = omega (arith, suc-mul k r) in next_at (k * r + j) ∙ ap state_at e
 
   starts : state_at 0 ≡ fresh N r
   starts =
@@ -119,13 +128,16 @@ module _ (N m : ℕ) (few_stages : N ≤ 8) (few : m ≤ 12) (counted : halvings
       ∙ ap (λ (l : List ℤ). nonrecursive_of N r l (0 % r)) (replicate-append-replicate (m * N) (96 - m * N) (pos 0) ∙ ap (λ (n : ℕ). replicate n (pos 0)) all)
       ∙ ap (nonrecursive_of N r (replicate 96 (pos 0))) (native.Mathlib.Nat.mod-eq_of_lt (pow_pos m))
 
+  made : (w : List ℤ) → ((i : ℕ) → f i ≡ get_or w i (pos 0)) → outs nonrecursive (fresh N r) w ≡ listed (length w / r) gives
+  made w same =
+      let o : 0 ≡ 0 * r + 0 = omega arith in
+      ap (λ (d : NonrecursiveDecimator). outs nonrecursive d w) (sym starts ∙ ap state_at o)
+      ∙ every_rth nonrecursive r (pow_pos m) f (pos 0) (λ k j. state_at (k * r + j)) gives waits_at waits_next sums_at sums_next w same
+
 thinning : (N m : ℕ) → N ≤ 8 → m ≤ 12 → halvings (2 ^ m) ≡ m → (w : List ℤ) → outs nonrecursive (fresh N (2 ^ m)) w ≡ M.sums N (2 ^ m) w
 unfolding nonrecursive_sums
 thinning N m n l h w =
-    let f = signal_of w in
-    ap (λ (d : NonrecursiveDecimator). outs nonrecursive d w) (sym (starts N m n l h f))
-    ∙ every_rth nonrecursive (2 ^ m) (pow_pos m) f (pos 0) (state_at N m n l h f) (λ k. wrap w32 (fold m (halved N) f k)) (next_at N m n l h f) (waits_at N m n l h f) (sums_at N m n l h f) w (λ i. refl)
-    ∙ nonrecursive_sums_lem N m w
+    made N m n l h (signal_of w) w (λ i. refl) ∙ nonrecursive_sums_lem N m w
 
 -- what the numbers of settings that are not refused are
 pub record Sound (N r : ℕ) : Type 0 where
@@ -177,20 +189,16 @@ module _ (N r : ℕ) where
   unfolding nonrecursive
   settings_kept d x h = h
 
-  abbrev scale : ℤ → ℤ
-  scale y = floor_div y (2 ^ gain_bits N r)
+abbrev bits_of_sums : NonrecursiveDecimator → ℕ
+bits_of_sums d = gain_bits d.stages d.r
 
-  scaled_outs : (d : NonrecursiveDecimator) (w : List ℤ) → Set d → outs scaled_nonrecursive d w ≡ map scale (outs nonrecursive d w)
-  unfolding scaled_nonrecursive
-  scaled_outs d [] h = refl
-  scaled_outs d (x ∷ w) h =
-      ap (λ (g : ℕ). onto (scaled_by g (nonrecursive.out d x)) (outs scaled_nonrecursive (nonrecursive.next d x) w)) (ap (λ (n : ℕ). gain_bits n d.r) h.0 ∙ ap (gain_bits N) h.1)
-      ∙ ap (onto (scaled_by (gain_bits N r) (nonrecursive.out d x))) (scaled_outs (nonrecursive.next d x) w (settings_kept d x h))
-      ∙ go (nonrecursive.out d x) (outs nonrecursive (nonrecursive.next d x) w)
-    where
-      go : (o : Option ℤ) (l : List ℤ) → onto (scaled_by (gain_bits N r) o) (map scale l) ≡ map scale (onto o l)
-      go None l = refl
-      go (Some y) l = refl
+bits_kept : (d : NonrecursiveDecimator) (x : ℤ) → bits_of_sums (nonrecursive.next d x) ≡ bits_of_sums d
+unfolding nonrecursive
+bits_kept d x = refl
+
+scaled_sums_made : (d : NonrecursiveDecimator) (w : List ℤ) → outs scaled_nonrecursive d w ≡ map (floored (bits_of_sums d)) (outs nonrecursive d w)
+unfolding scaled_nonrecursive
+scaled_sums_made = scaled_outs nonrecursive bits_of_sums bits_kept
 
 pub nonrecursive_streams : (N r : ℕ) → settings_number N r ≡ 0 → Streams N r (fresh N r)
 nonrecursive_streams N r ok =
@@ -199,8 +207,9 @@ nonrecursive_streams N r ok =
       settings = λ w. state_keeps nonrecursive (Set N r) (settings_kept N r) (fresh N r) w (refl, refl);
       sums_made = made;
       scaled_made = λ w.
-          scaled_outs N r (fresh N r) w (refl, refl) ∙ ap (map (scale N r)) (made w)
-          ∙ unfold M.sums scaled_sums in map_listed (scale N r) (length w / r) (sum_at N r (signal_of w));
+          let g : ℕ = gain_bits N r in
+          scaled_sums_made (fresh N r) w ∙ ap (map (floored g)) (made w)
+          ∙ unfold M.sums scaled_sums in map_listed (floored g) (length w / r) (sum_at N r (signal_of w));
       blocks = promised_by machine 0 (λ d. valid d ≡ true) (lawful_alone (pos 0) nonrecursive 0 (λ d. valid d ≡ true) valid_kept) (fresh N r) (valid_from N r 0 ok f.0) (M.sums N r)
           (λ w. all_alone (pos 0) nonrecursive 0 (fresh N r) w ∙ made w);
       as_cic = same_out nonrecursive C.decimator (fresh N r) (C.fresh N r) (λ w. made w ∙ sym ((streams N r s.stages s.factor).sums_made w));

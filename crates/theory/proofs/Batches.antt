@@ -31,10 +31,10 @@ module _ {S A C : Type 0} (m : Machine S A C) where
       go None = refl
       go (Some c) = refl
 
-  join_none : (f : Fed S C) → join 0 [] f ≡ f
+  pub join_none : (f : Fed S C) → join 0 [] f ≡ f
   join_none f = ap {B = Fed S C} (λ (k : ℕ). record { taken = k; written = f.written; line = f.line }) (zero-add f.taken)
 
-  join_took : (o : Option C) (j : ℕ) (w : List C) (f : Fed S C) → took_then o (join j w f) ≡ join (suc j) (onto o w) f
+  pub join_took : (o : Option C) (j : ℕ) (w : List C) (f : Fed S C) → took_then o (join j w f) ≡ join (suc j) (onto o w) f
   join_took None j w f = let e : suc (j + f.taken) ≡ suc j + f.taken = omega arith in ap {B = Fed S C} (λ (k : ℕ). record { taken = k; written = w ++ f.written; line = f.line }) e
   join_took (Some c) j w f =
       let e : suc (j + f.taken) ≡ suc j + f.taken = omega arith in ap {B = Fed S C} (λ (k : ℕ). record { taken = k; written = c ∷ (w ++ f.written); line = f.line }) e
