@@ -7,12 +7,7 @@ ghost use Rattle.chain.specs.Batched.{Whole, Batched};
 
 use crate::fixed::Fixed;
 use float::settings::{MOST_CELLS, MOST_TAPS as MOST_PHASE_TAPS};
-use refusal::Moved;
-
-const NONE_MOVED: Moved = Moved {
-    taken: 0,
-    written: 0,
-};
+use refusal::NONE_MOVED;
 
 // Levels into the resampler, which writes from the front of the span on; where it is off they are written themselves. Answers how many places are written.
 pub(crate) fn resample(

@@ -32,7 +32,7 @@ fn cut_sums(bits: u32, sums: &[i32], dst: &mut [i16]) -> usize
 {
     let mut cuts = 0;
     for (i, sum) in sums.iter().enumerate() {
-        let made = cut_q15(scaled(*sum, bits) as i64);
+        let made = cut_q15(i64::from(scaled(*sum, bits)));
         dst[i] = made.value.0;
         cuts += usize::from(made.cut);
     }

@@ -9,5 +9,5 @@ pub fn q15_to_f32(q: Q15) -> f32
     ensures value { result ≡ level q.0 }
     ensures exact { IsLevel q.0 result }
 {
-    (q.0 as f32) / 32768.0
+    f32::from(q.0) / 32768.0
 }

@@ -17,14 +17,14 @@ pub const MAX_BITS: u32 = 31;
 pub fn stages_ok(stages: usize) -> bool
     ensures { result ≡ stages_ok stages }
 {
-    1 <= stages && stages <= MAX_STAGES
+    (1..=MAX_STAGES).contains(&stages)
 }
 
 #[tactic(auto, unfolding(crate::specs::Limits::factor_ok))]
 pub fn factor_ok(r: usize) -> bool
     ensures { result ≡ factor_ok r }
 {
-    1 <= r && r <= MAX_FACTOR
+    (1..=MAX_FACTOR).contains(&r)
 }
 
 // Rows 1 and 2, of an opening.

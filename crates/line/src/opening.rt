@@ -8,13 +8,10 @@ use chain::settings::Settings;
 use float::settings::{in_limits, step_in_line};
 use half_band::MOST_STAGES;
 use integer::gain::{bits_of, gain_of};
-use integer::limits::{factor_ok, stages_ok};
+use integer::limits::{MAX_BITS, factor_ok, stages_ok};
 use nonrecursive::Thinning;
 use nonrecursive::thinning::factor_for;
 use refusal::Refusal;
-
-// 01, section 1: "for g up to 31".
-pub const MAX_BITS: u32 = 31;
 
 #[tactic(auto, unfolding(nonrecursive::specs::EitherKind::settings_number))]
 fn thinning_answer(thinning: Thinning, stages: usize, r: usize) -> Result<(), Refusal>

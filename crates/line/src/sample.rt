@@ -124,7 +124,7 @@ pub(crate) fn sample_in(
     match made {
         None => None,
         Some(v) => {
-            let first = cut_q15(scaled(v, f.bits) as i64);
+            let first = cut_q15(i64::from(scaled(v, f.bits)));
             clock.cuts = held_sum(clock.cuts, u32::from(first.cut));
             fir_in(f, clock, lent, first.value)
         }

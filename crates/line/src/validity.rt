@@ -4,12 +4,12 @@ ghost use Rattle.line.specs.Lent as N;
 ghost use Rattle.line.specs.Together as T;
 
 use crate::lent::LineNumbers;
-use crate::opening::MAX_BITS;
 use chain::clock::Clock;
 use chain::fixed::Fixed;
 use chain::settings::Settings;
 use half_band::{MOST_STAGES, hbf_stream_refused_in_line};
 use integer::gain::{bits_of, gain_of};
+use integer::limits::MAX_BITS;
 use nonrecursive::thinning::thinning_valid;
 
 // The gain bits of a valid decimator; 64 for another, whose gain is not looked at.

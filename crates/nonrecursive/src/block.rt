@@ -10,7 +10,7 @@ ghost use Rattle.nonrecursive.specs.Tape.{pairs, lined, put};
 use crate::nonrecursive_decimator::{
     MAX_NEIGHBOURS, nonrecursive_at, state_answer, sum_neighbours,
 };
-use refusal::{Moved, Refusal};
+use refusal::{Moved, NONE_MOVED, Refusal};
 
 // The most values of a chunk.
 const TAPE: usize = 256;
@@ -206,10 +206,7 @@ fn whole_frames(
         (length sums ≡ result.written) × (dst.new ≡ sums ++ drop result.written dst.old) }
 {
     if place != 0 {
-        return Moved {
-            taken: 0,
-            written: 0,
-        };
+        return NONE_MOVED;
     }
     frames(stages, r, neighbours, src, dst)
 }

@@ -6,7 +6,7 @@ use crate::block::block_at;
 use crate::nonrecursive_decimator::{MAX_NEIGHBOURS, nonrecursive_at, power_of_two};
 use integer::cic_decimator::{block_at as cic_block_at, sample_at, valid};
 use integer::limits::MAX_STAGES;
-use refusal::Moved;
+use refusal::{Moved, NONE_MOVED};
 
 // The CIC decimator, or sums of neighbours.
 #[derive(Clone, Copy, PartialEq, Eq, Debug)]
@@ -14,11 +14,6 @@ pub enum Thinning {
     Integrators,
     Neighbours,
 }
-
-const NONE_MOVED: Moved = Moved {
-    taken: 0,
-    written: 0,
-};
 
 // Row 23, which is for neighbours only.
 #[tactic(auto, unfolding(crate::specs::EitherKind::factor_for))]

@@ -16,6 +16,12 @@ pub struct FirBlock {
     pub cuts: usize,
 }
 
+// What a block of no outputs wrote, as a refused one.
+pub const NONE_WRITTEN: FirBlock = FirBlock {
+    written: 0,
+    cuts: 0,
+};
+
 // Row 7, for n samples and a span of m places.
 #[tactic(auto, unfolding(crate::specs::Block::samples_number))]
 pub(crate) fn samples_row(n: usize, m: usize) -> Result<(), Refusal>

@@ -9,7 +9,7 @@ ghost use Rattle.q15.specs.PolyphaseDecimate.{window_sum, filtered};
 ghost use Rattle.q15.specs.FirDecimator.{most_taps, fir_state, moved};
 ghost use Rattle.q15.specs.FirBlock.{most_fir_block, block_fits, fir_block_state, fir_block_outs, fir_block_cuts, Ran, OnTape, stored_run};
 
-use crate::block::FirBlock;
+use crate::block::{FirBlock, NONE_WRITTEN};
 use crate::fir_decimator::{fir_at, move_down};
 use crate::fir_settings::{FirSettings, MOST_TAPS};
 use crate::fixed::Q15;
@@ -121,10 +121,7 @@ fn by_tape(
     if n < *wait {
         store_run(delay, t, *wait, src);
         *wait -= n;
-        return FirBlock {
-            written: 0,
-            cuts: 0,
-        };
+        return NONE_WRITTEN;
     }
     let kept = t - *wait;
     let laid = laid(delay, kept, src);
@@ -180,10 +177,7 @@ pub fn fir_block_at(
 {
     let n = src.len();
     if !block_fits(n, dst.len()) {
-        return FirBlock {
-            written: 0,
-            cuts: 0,
-        };
+        return NONE_WRITTEN;
     }
     if settings.tap_count == 0 {
         dst[..n].copy_from_slice(src);

@@ -11,7 +11,7 @@ pub mod polyphase_decimate;
 pub mod polyphase_interpolate;
 pub mod resample_linear;
 
-pub use crate::block::{FirBlock, MOST_FACTOR};
+pub use crate::block::{FirBlock, MOST_FACTOR, NONE_WRITTEN};
 pub use crate::fir_block::{MOST_FIR_BLOCK, fir_block_at};
 pub use crate::fir_decimator::{FirDecimator, fir_at};
 pub use crate::fir_settings::{FirSettings, MOST_TAPS};

@@ -41,6 +41,12 @@ pub struct Moved {
     pub written: usize,
 }
 
+// What a refused feed or block moved.
+pub const NONE_MOVED: Moved = Moved {
+    taken: 0,
+    written: 0,
+};
+
 impl Refusal {
     // 01's number, under the name that callers have for it.
     pub fn number(self) -> u8

@@ -12,13 +12,13 @@ use Rattle.chain.proofs.sums.cut_sums.Goals as goal
 use Rattle.chain.proofs.sums.cut_sums.Goals.{After-from-cuts}
 
 module _ (c : After-from-cuts) where
-  sum : to_z w64 (of_z w64 (to_z w32 (of_z w32 c.scaled.result))) ≡ floor_div (at c.args.sums.now c.loop-i.i) (2 ^ c.args.bits)
+  sum : to_z w64 (of_z w64 c.from.result) ≡ floor_div (at c.args.sums.now c.loop-i.i) (2 ^ c.args.bits)
   sum =
       let short : to_z w32 (of_z w32 c.scaled.result) ≡ c.scaled.result = search rules in
-      let long : to_z w64 (of_z w64 c.scaled.result) ≡ c.scaled.result = search rules in
+      let long : to_z w64 (of_z w64 c.from.result) ≡ c.from.result = search rules in
       let z = at c.args.sums.now c.loop-i.i in
       let same : to_z w32 (of_z w32 z) ≡ z = search rules in
-      rw short (long ∙ c.scaled.ensures) ∙ ap (λ (y : ℤ). floor_div y (2 ^ c.args.bits)) same
+      long ∙ c.from.ensures ∙ short ∙ c.scaled.ensures ∙ ap (λ (y : ℤ). floor_div y (2 ^ c.args.bits)) same
 
   value : to_z w16 (of_z w16 c.cut_q15-made.result.value.0) ≡ cut w16 (floor_div (at c.args.sums.now c.loop-i.i) (2 ^ c.args.bits))
   value =

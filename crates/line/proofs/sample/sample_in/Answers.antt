@@ -24,10 +24,11 @@ returns-in-Some-clause-takes c =
     let made = rw (x, c.requires.1) at c.thin_at-made.ensures in
     let v = c.in-Some.v in
     let same : to_z w32 (of_z w32 v) ≡ v = search rules in
-    let long : to_z w64 (of_z w64 (to_z w32 (of_z w32 c.scaled.result))) ≡ c.scaled.result = search rules in
+    let short : to_z w32 (of_z w32 c.scaled.result) ≡ c.scaled.result = search rules in
+    let long : to_z w64 (of_z w64 c.from.result) ≡ c.from.result = search rules in
     let scaled : c.scaled.result ≡ floor_div v (2 ^ gain_bits c.args.f.settings.stages c.args.f.settings.r) = rw (same, c.requires.0) at c.scaled.ensures in
-    let cut = rw long at c.cut_q15-first.ensures in
+    let cut = rw (long, c.from.ensures, short) at c.cut_q15-first.ensures in
     let on = c.fir_in.ensures in
     rw (on.stays.integrators, on.stays.combs, on.stays.neighbours)
     (line_sums _ _ _ (rw (← on.counter) at made.1) v c.scaled.result _ (sym c.in-Some.is ∙ made.0) scaled (rw cut.0 at on.takes)
-    (rw (c.held_sum-clock.ensures, c.from.ensures, flag, cut.0, cut.1) at on.cuts))
+    (rw (c.held_sum-clock.ensures, c.from-in-Some.ensures, flag, cut.0, cut.1) at on.cuts))
