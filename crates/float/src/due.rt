@@ -78,10 +78,6 @@ impl Setting {
         if !(mu < 1.0) {
             return Due { mu, written: from };
         }
-        let reading = Reading {
-            prototype,
-            setting: self,
-        };
-        reading.write_due(delay, mu, dst, from)
+        Reading::of(prototype, self).write_due(delay, mu, dst, from)
     }
 }

@@ -2,7 +2,6 @@
 use Rattle.std.proofs.Common.{sym, ◌∙◌}
 use Rattle.float.specs.PolyphaseResamp.{emitted_from}
 use Rattle.float.proofs.DueOutputs.{none_due}
-use Rattle.float.proofs.PolyphaseOutput.{limits_say}
 use Rattle.float.proofs.settings.Setting.write_due.Goals as goal
 
 pub returns-then-not-in_limits : goal.returns-then-not-in_limits
@@ -13,11 +12,6 @@ pub returns-then-not-mu : goal.returns-then-not-mu
 unfolding emitted_from
 returns-then-not-mu c = rw (sym c.in_limits.ensures ∙ c.if-not-in_limits.false) (sym (none_due _ _ _ _ _ _ _ _ _ _ c.if-not-mu.true))
 
-pub invariant_of-reading : goal.invariant_of-reading
-invariant_of-reading c =
-    let l = limits_say _ _ (sym c.in_limits.ensures ∙ c.if-not-in_limits.false) in
-    record { phases_inside = (l.some_phases, l.few_phases); taps_inside = (l.some_taps, l.few_taps) }
-
 pub returns : goal.returns
 unfolding emitted_from
-returns c = rw (sym c.in_limits.ensures ∙ c.if-not-in_limits.false) c.write_due.ensures
+returns c = rw (sym c.in_limits.ensures ∙ c.if-not-in_limits.false) (rw (c.of.ensures.1, c.of.ensures.0) at c.write_due.ensures)
