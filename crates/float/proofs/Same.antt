@@ -7,6 +7,7 @@ use Rattle.float.specs.Same.{same}
 bits_same : (x y : Float) → T (fits binary32 x) → T (fits binary32 y) → eqb (to_bits binary32 x) (to_bits binary32 y) ≡ true → x ≡ y
 bits_same x y f g e = sym (of_bits-to_bits binary32 x f) ∙ ap (of_bits binary32) (eqb-true (to_bits binary32 x) (to_bits binary32 y) e) ∙ of_bits-to_bits binary32 y g
 
+-- `same` of specs/Same is equality as data: docs/DECISIONS.md on the equality of floats and row 184 of docs/TRACE.md rest on this and on `equal_same`
 pub same_equal : (x y : Float) → T (fits binary32 x) → T (fits binary32 y) → same x y ≡ true → x ≡ y
 unfolding same is_nan
 same_equal nan nan f g h = refl
@@ -15,6 +16,7 @@ same_equal nan (fin s m e) f g h = bits_same nan (fin s m e) f g h
 same_equal (inf s) y f g h = bits_same (inf s) y f g h
 same_equal (fin s m e) y f g h = bits_same (fin s m e) y f g h
 
+-- the other way of that claim
 pub equal_same : (x y : Float) → x ≡ y → same x y ≡ true
 unfolding same
 equal_same x y e = go (is_nan x && is_nan y)

@@ -7,7 +7,7 @@ use Rattle.std.specs.Prelude.{Option, None, Some}
 use Prim.Native.Nat.{ℕ, ◌+◌, ◌^◌, ◌≤◌, ◌<◌}
 use native.Mathlib.Decide.{dec_lt}
 use native.Mathlib.Omega.{arith}
-use Rattle.std.proofs.lemmas.Bool.{and_from}
+use Rattle.std.proofs.lemmas.Bool.{and_from, and_parts}
 use borrow.Author.Tests.{lt-ltb, le-ltb}
 use lib.Dec.{eqb, ltb, leb}
 use lib.IntN.{ℤ}
@@ -26,7 +26,7 @@ use Rattle.nonrecursive.specs.EitherKind.{Thinner, beside_of, with_beside, facto
 use Rattle.integer.specs.declared.cic_decimator.CicDecimator.{CicDecimator}
 use Rattle.nonrecursive.specs.declared.thinning.Thinning.{Thinning}
 use Rattle.nonrecursive.specs.declared.thinning.Thinning.TheVariants as thinning
-use Rattle.integer.proofs.Within.{and-true, sound}
+use Rattle.integer.proofs.Within.{sound}
 use Rattle.nonrecursive.proofs.Halvings.{power_is}
 use Rattle.nonrecursive.proofs.StageByStage.{waits_out, last_out}
 use Rattle.integer.proofs.Streaming.{valid_kept, settings_kept, streams}
@@ -104,10 +104,10 @@ bits_by thinning.Neighbours c n x = let s = K.settings_kept c.stages c.r (beside
 kept_by : (k : Thinning) (c : CicDecimator) (n : List ℤ) (x : ℤ) → fine (with_parts k c n) ≡ true → fine (either.next (with_parts k c n) x) ≡ true
 unfolding fine valid_at either
 kept_by thinning.Integrators c n x e =
-    let h = and-true (C.valid c) _ e in
+    let h = and_parts (C.valid c) _ e in
     and_from _ _ (valid_kept c x h.0) (ap (λ (g : ℕ). leb g most_bits) (bits_by thinning.Integrators c n x) ∙ h.1)
 kept_by thinning.Neighbours c n x e =
-    let h = and-true (D.valid (beside_of c n)) _ e in
+    let h = and_parts (D.valid (beside_of c n)) _ e in
     and_from _ _ (K.valid_kept (beside_of c n) x h.0) (ap (λ (g : ℕ). leb g most_bits) (bits_by thinning.Neighbours c n x) ∙ h.1)
 
 pub either_kept : (t : Thinner) (x : ℤ) → fine t ≡ true → fine (either.next t x) ≡ true
@@ -128,7 +128,7 @@ settings_by thinning.Neighbours N r counter v b = let s = K.sound N r (valid_par
 pub either_settings : (t : Thinner) → fine t ≡ true → settings_number t.kind t.cic.stages t.cic.r ≡ 0
 unfolding fine
 either_settings t e =
-    let h = and-true (valid_at t.kind t.cic.stages t.cic.r t.cic.sample_counter) _ e in
+    let h = and_parts (valid_at t.kind t.cic.stages t.cic.r t.cic.sample_counter) _ e in
     settings_by t.kind t.cic.stages t.cic.r t.cic.sample_counter h.0 h.1
 
 -- a sum comes with the sample that the counter says
@@ -152,7 +152,7 @@ answers_by thinning.Neighbours c n x v =
 
 pub either_answers : (t : Thinner) (x : ℤ) → fine t ≡ true → (y : ℤ) × (out_by t.kind t x ≡ cond (waits t.cic) None (Some y))
 unfolding fine
-either_answers t x e = answers_by t.kind t.cic t.neighbours x (and-true (valid_at t.kind t.cic.stages t.cic.r t.cic.sample_counter) _ e).0
+either_answers t x e = answers_by t.kind t.cic t.neighbours x (and_parts (valid_at t.kind t.cic.stages t.cic.r t.cic.sample_counter) _ e).0
 
 -- and r stays, while the counter goes on or begins anew
 pub record Counted (c d : CicDecimator) : Type 0 where

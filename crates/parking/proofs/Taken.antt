@@ -399,6 +399,7 @@ module _ (v : Panel) (limit : most_taps ≤ v.most_taps) (both : v.thinning ≡ 
       let s = same_lines h in
       ap (λ (k : Line). taken_up v (sheet_in v k span)) s ∙ back_from (unparked h) span (ap (λ (k : Line). park_number v k (length span)) (sym s) ∙ e)
 
+  -- `AsNeverParked` of specs/Between, on which docs/parking.md and row 136 of docs/TRACE.md rest
   pub as_never_parked : (h : History) → AsNeverParked v o h
   as_never_parked h =
       let e = same_lines h in

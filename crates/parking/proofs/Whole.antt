@@ -11,6 +11,7 @@ use lib.Dec.{T, leb, ltb, eqb}
 use lib.IntN.{ℤ, pos, negsuc}
 use lib.Signed.{lt_z}
 use lib.ListN.{length, take, drop, set, replicate, length-set, length-append, length-drop, length-replicate}
+use Rattle.std.proofs.lemmas.Bool.{and_parts}
 use Rattle.std.proofs.lemmas.List.{drop-replicate}
 use lib.Seq.{length-take-le}
 use mir.Syntax.{w16, w32}
@@ -20,7 +21,7 @@ use Rattle.integer.specs.Stages.{integrated, combed}
 use Rattle.integer.specs.CicDecimator.{decimator_of, fresh, decimator, waits}
 use Rattle.integer.specs.declared.cic_decimator.CicDecimator.{CicDecimator}
 use Rattle.integer.proofs.Row.{long_kept}
-use Rattle.integer.proofs.Within.{and-true, stages_within, factor_within}
+use Rattle.integer.proofs.Within.{stages_within, factor_within}
 use Rattle.nonrecursive.specs.NonrecursiveDecimator.{halvings, thinned, nonrecursive, most_neighbours}
 use Rattle.nonrecursive.specs.EitherKind.{Thinner, either}
 use Rattle.nonrecursive.specs.EitherKind as E
@@ -129,7 +130,7 @@ thin_numbers t v =
     let a = accepted t.kind t.cic.stages t.cic.r (either_settings t v) in
     let n = stages_within t.cic.stages a.stages in
     let f = factor_within t.cic.r a.factor in
-    let b = either_below t.kind t.cic.stages t.cic.r t.cic.sample_counter (unfold E.fine in (and-true (E.valid_at t.kind t.cic.stages t.cic.r t.cic.sample_counter) _ v).0) in
+    let b = either_below t.kind t.cic.stages t.cic.r t.cic.sample_counter (unfold E.fine in (and_parts (E.valid_at t.kind t.cic.stages t.cic.r t.cic.sample_counter) _ v).0) in
     record { some = omega arith; stages = n.1; r = f.1; counter = omega arith }
 
 next_whole : (k : Thinning) (d : CicDecimator) (n : List ℤ) (x : ℤ) → ThinNumbers d → ThinWholeBy k d n → ThinWhole (either.next (record { kind = k; cic = d; neighbours = n }) x)

@@ -112,6 +112,7 @@ module _ (o : Opening) (k : Thinning) (e : (opened o).number ≡ 0) (e' : (opene
       ∙ ap (drop (length (F.written_of line (fresh p) h))) (written_same (F.fed h xs n))
       ∙ drop_at (F.written_of line (fresh p) h) (F.feed line (other h) xs n).written (length (F.written_of line (fresh p) h)) refl
 
+  -- `SameFeeds` of specs/SameFeeds, which docs/believed.md lists
   pub same_feeds : SameFeeds o p
   unfolding held_cuts cuts_of
   same_feeds =

@@ -41,6 +41,7 @@ row_of_lem Parked = refl
 row_of_lem Plan = refl
 row_of_lem PowerOfTwo = refl
 
+-- contracts name a row by its number, `number_of` of specs/Table, which docs/believed.md lists: no two rows have one
 pub number_injective : (p q : Refusal) → number_of p ≡ number_of q → p ≡ q
 number_injective p q e = sym (row_of_lem p) ∙ ap row_of e ∙ row_of_lem q
 

@@ -1,6 +1,6 @@
 -- Taking up over seven or eight entries is taking up their sheet; and entries that are fine are in 01's limits.
 use mathlib.Core.Path.{◌≡◌, refl, sym, ap, ◌∙◌}
-use mathlib.Core.Bool.{Bool, true, false, cond, ◌&&◌, true≢false}
+use mathlib.Core.Bool.{Bool, true, false, cond, ◌&&◌, and-true, true≢false}
 use mathlib.Core.List.{List, [], ◌∷◌}
 use Prim.Native.Nat.{ℕ, ◌+◌, ◌*◌, ◌≤◌, ◌<◌}
 use native.Mathlib.Omega.{arith}
@@ -29,7 +29,6 @@ use Rattle.parking.specs.Limits.{InLimits}
 use Rattle.nonrecursive.specs.declared.thinning.Thinning.{Thinning}
 use Rattle.nonrecursive.specs.declared.thinning.Thinning.TheVariants as thinning
 use Rattle.taking_up.specs.ByKind.{Parts, Long, first_by, rest_by, long_by, line_by, opened_in_by, opened_by, parts_in}
-use Rattle.taking_up.proofs.Rooms.{and-true}
 use Rattle.taking_up.specs.Taking.{in_limits, line_of, thin_line_of, written_of, floats_written, line_fine, fine_in, long_as, thin_long_as, refused_line, opened_in, opened_from, thin_opened_from, entry_in, thin_entry_in}
 use Rattle.parking.proofs.Whole.{thin_numbers}
 use Rattle.parking.proofs.WholeLine.{half_depth, resampler_taps}
