@@ -87,7 +87,7 @@ impl ParkedSettings {
             depth: line.half_band.depth,
             phases: resampler.phases,
             cells: resampler.taps,
-            straight: resampler.straight as usize,
+            straight: usize::from(resampler.straight),
             step: bits_of_f32(resampler.step),
             cuts: line.cuts,
         }
