@@ -110,6 +110,7 @@ impl Clock {
                     break;
                 }
                 taken += self.left;
+                // By hand: over `usize::from` the proof loses the branch.
                 written += if self.on { 0 } else { 1 };
                 self.arrive();
             }
