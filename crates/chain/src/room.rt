@@ -59,11 +59,18 @@ fn values_for(depth: usize, counts: [usize; MOST_STAGES], levels: usize) -> usiz
     values
 }
 
-// A FIR without taps makes a value of each. Held at MOST_SUMS.
-fn or_one(tap_count: usize, n: usize) -> usize
+// A FIR without taps makes a value of each.
+pub fn or_one(tap_count: usize, n: usize) -> usize
+    ensures { result ≡ or_one tap_count n }
+{
+    if tap_count == 0 { 1 } else { n }
+}
+
+// The same, held at MOST_SUMS.
+fn held_or_one(tap_count: usize, n: usize) -> usize
     ensures { result ≡ min (or_one tap_count n) most_sums }
 {
-    if tap_count == 0 { 1 } else { n.min(MOST_SUMS) }
+    or_one(tap_count, n).min(MOST_SUMS)
 }
 
 // So many sums, or fewer, leave a place before the last of them.
@@ -76,8 +83,8 @@ fn sums_within(f: Fixed, wait: usize, counts: [usize; MOST_STAGES], places: usiz
 {
     let levels = levels_for(places, stride(f.settings.phases, f.settings.step));
     let values = values_for(f.settings.depth, counts, levels);
-    let first = or_one(f.tap_count, wait);
-    let period = or_one(f.tap_count, f.settings.factor);
+    let first = held_or_one(f.tap_count, wait);
+    let period = held_or_one(f.tap_count, f.settings.factor);
     (first + values * period).min(MOST_SUMS)
 }
 

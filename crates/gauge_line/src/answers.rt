@@ -6,7 +6,7 @@ ghost use Rattle.line.specs.Line as L;
 ghost use Rattle.gauge_line.specs.Crossing.{made_in, moves};
 
 use line::LineStep;
-use refusal::{Moved, Refusal};
+use refusal::Refusal;
 use sheet::Place;
 
 // The number of any answer: that of its refusal, 0 where there is none.
@@ -15,7 +15,7 @@ pub(crate) fn number<T>(answer: &Result<T, Refusal>) -> usize
 {
     match answer {
         Ok(_) => 0,
-        Err(why) => why.number() as usize,
+        Err(why) => usize::from(why.number()),
     }
 }
 
@@ -32,12 +32,6 @@ pub(crate) fn made<T>(output: &Option<T>) -> usize
 {
     usize::from(output.is_some())
 }
-
-// What a refused feed or block moved.
-pub(crate) const NONE_MOVED: Moved = Moved {
-    taken: 0,
-    written: 0,
-};
 
 // Where an entry of a sheet stands: nowhere, where it is refused.
 pub(crate) fn placed(answer: Result<Place, Refusal>) -> Place

@@ -10,12 +10,13 @@ ghost use Rattle.integer.specs.CicDecimator as D;
 ghost use Rattle.gauge_line.specs.Crossing.{crossed};
 ghost use Rattle.gauge_line.specs.States.{entry, exit, decimator_at};
 
-use crate::answers::{self, NONE_MOVED, number, output};
+use crate::answers::{self, number, output};
 use crate::states::{decimator, put_decimator};
 use integer::CicDecimator;
 use integer::cic_decimator::block_at;
 use integer::exact_range::Ends;
 use integer::limits::MAX_STAGES;
+use refusal::NONE_MOVED;
 
 // The ends that a refused range tells.
 const NO_ENDS: Ends = Ends {

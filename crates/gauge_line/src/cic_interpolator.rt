@@ -6,11 +6,12 @@ ghost use Rattle.integer.specs.Gain.{gain_of, gain_bits, Least};
 ghost use Rattle.integer.specs.CicInterpolator as I;
 ghost use Rattle.gauge_line.specs.States.{entry, exit, interpolator_at};
 
-use crate::answers::{NONE_MOVED, number};
+use crate::answers::number;
 use crate::states::{interpolator, put_interpolator};
 use integer::CicInterpolator;
 use integer::cic_interpolator::{block_at, sample_at};
 use integer::limits::MAX_STAGES;
+use refusal::NONE_MOVED;
 
 #[unsafe(no_mangle)]
 pub extern "C" fn gauge_raw_cic_interpolator_new(

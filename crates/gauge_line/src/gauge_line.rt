@@ -10,7 +10,7 @@ ghost use Rattle.chain.specs.declared.settings.Settings.{Settings};
 ghost use Rattle.gauge_line.specs.Crossing.{crossed_step, is_set, kind_of};
 ghost use Rattle.gauge_line.specs.States.{entry, exit, IsFlag, line_at};
 
-use crate::answers::{NONE_MOVED, number, step_moves};
+use crate::answers::{number, step_moves};
 use crate::lines::put_numbers;
 use crate::states::{flag, is_set, kind, kind_number};
 use float::settings::{MOST_CELLS, MOST_TAPS as MOST_PHASE_TAPS};
@@ -21,6 +21,7 @@ use line::{
 };
 use nonrecursive::nonrecursive_decimator::MAX_NEIGHBOURS;
 use q15::MOST_TAPS;
+use refusal::NONE_MOVED;
 
 // What an opening writes over.
 const STOPPED: Clock = Clock {

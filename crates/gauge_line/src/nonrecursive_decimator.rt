@@ -9,11 +9,12 @@ ghost use Rattle.nonrecursive.specs.NonrecursiveDecimator as D;
 ghost use Rattle.gauge_line.specs.Crossing.{crossed};
 ghost use Rattle.gauge_line.specs.States.{entry, exit, nonrecursive_at};
 
-use crate::answers::{self, NONE_MOVED, number, output};
+use crate::answers::{self, number, output};
 use crate::states::{nonrecursive, put_nonrecursive};
 use nonrecursive::NonrecursiveDecimator;
 use nonrecursive::block::block_at;
 use nonrecursive::nonrecursive_decimator::MAX_NEIGHBOURS;
+use refusal::NONE_MOVED;
 
 #[unsafe(no_mangle)]
 pub extern "C" fn gauge_raw_nonrecursive_decimator_new(

@@ -5,9 +5,10 @@ ghost use Rattle.float.specs.PolyphaseWhole as W;
 ghost use Rattle.gauge_line.specs.Crossing.{is_set};
 ghost use Rattle.gauge_line.specs.States.{entry, exit, IsFlag, resampler_at};
 
-use crate::answers::{NONE_MOVED, number};
+use crate::answers::number;
 use crate::states::{flag, is_set};
 use float::settings::{MOST_CELLS, MOST_TAPS as MOST_PHASE_TAPS, Setting};
+use refusal::NONE_MOVED;
 
 // What an opening set, of the numbers that a caller lends.
 fn setting(phases: usize, taps: usize, straight: usize, step: f32) -> Setting

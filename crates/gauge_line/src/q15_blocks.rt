@@ -5,13 +5,7 @@ ghost use Rattle.q15.specs.Rounding.{Rounded};
 ghost use Rattle.q15.specs.PolyphaseInterpolate.{interpolate_answer, interpolate_span, interpolate_cuts};
 
 use crate::answers::number;
-use q15::{FirBlock, polyphase_decimate_q15, polyphase_interpolate_q15};
-
-// What a refused block wrote.
-const NONE_WRITTEN: FirBlock = FirBlock {
-    written: 0,
-    cuts: 0,
-};
+use q15::{NONE_WRITTEN, polyphase_decimate_q15, polyphase_interpolate_q15};
 
 #[unsafe(no_mangle)]
 pub extern "C" fn gauge_raw_polyphase_decimate_q15(

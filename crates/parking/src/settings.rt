@@ -89,7 +89,7 @@ impl ParkedSettings {
             depth: s.depth,
             phases: s.phases,
             cells: s.taps,
-            straight: s.straight as usize,
+            straight: usize::from(s.straight),
             step: bits_of_f32(s.step),
             cuts: n.clock.cuts,
         }

@@ -7,6 +7,7 @@ ghost use Rattle.float.specs.F32.{one32};
 ghost use Rattle.chain.specs.Counting.{or_one};
 ghost use Rattle.plan.specs.Ticking as K;
 
+use chain::room::or_one;
 use line::Settings;
 use refusal::Moved;
 
@@ -27,12 +28,6 @@ fn two_to(depth: usize) -> usize
     ensures { result ≡ 2 ^ depth }
 {
     1usize << depth
-}
-
-fn or_one(tap_count: usize, n: usize) -> usize
-    ensures { result ≡ or_one tap_count n }
-{
-    if tap_count == 0 { 1 } else { n }
 }
 
 impl Clock {
@@ -115,6 +110,7 @@ impl Clock {
                     break;
                 }
                 taken += self.left;
+                // By hand: over `usize::from` the proof loses the branch.
                 written += if self.on { 0 } else { 1 };
                 self.arrive();
             }

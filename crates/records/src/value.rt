@@ -8,7 +8,7 @@ ghost use Rattle.records.specs.PlaceLaws.{nowhere_moves, after_moves, long_moves
 
 use crate::element::Element;
 use crate::record::Words;
-use refusal::Moved;
+use refusal::{Moved, NONE_MOVED};
 
 pub trait Value: Drop {
     // Where a comparison of the value stands that begins at a place.
@@ -155,9 +155,6 @@ impl Value for Moved {
     }
 
     fn zeros() -> Moved {
-        Moved {
-            taken: 0,
-            written: 0,
-        }
+        NONE_MOVED
     }
 }

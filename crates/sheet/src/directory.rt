@@ -78,7 +78,7 @@ pub(crate) fn data_from(n: usize) -> usize
 fn empty_first(bytes: &[u8]) -> bool
     ensures { result ≡ S.empty_first S.Rule.present bytes.now }
 {
-    MARK <= le16_at(bytes, 0) as usize
+    MARK <= usize::from(le16_at(bytes, 0))
 }
 
 // The entry count, without the mark.
@@ -86,7 +86,7 @@ fn empty_first(bytes: &[u8]) -> bool
 pub fn count_in(bytes: &[u8]) -> usize
     ensures { result ≡ S.count_of S.Rule.present bytes.now }
 {
-    le16_at(bytes, 0) as usize % MARK
+    usize::from(le16_at(bytes, 0)) % MARK
 }
 
 // The pair of entry k.

@@ -29,14 +29,14 @@ pub(crate) fn settings_from(e: &[u8]) -> ParkedSettings
     ensures below { InWords (numbers_of result) }
 {
     ParkedSettings {
-        stages: le16_at(e, 0) as usize,
-        r: le16_at(e, 2) as usize,
-        taps: le16_at(e, 4) as usize,
-        factor: le16_at(e, 6) as usize,
-        depth: le16_at(e, 8) as usize,
-        phases: le16_at(e, 10) as usize,
-        cells: le16_at(e, 12) as usize,
-        straight: le16_at(e, 14) as usize,
+        stages: usize::from(le16_at(e, 0)),
+        r: usize::from(le16_at(e, 2)),
+        taps: usize::from(le16_at(e, 4)),
+        factor: usize::from(le16_at(e, 6)),
+        depth: usize::from(le16_at(e, 8)),
+        phases: usize::from(le16_at(e, 10)),
+        cells: usize::from(le16_at(e, 12)),
+        straight: usize::from(le16_at(e, 14)),
         step: le32_at(e, 16),
         cuts: le32_at(e, 20),
     }
@@ -65,7 +65,7 @@ pub(crate) fn place_from(q: ParkedSettings, e: &[u8]) -> CicDecimator
         r: q.r,
         integrator_state: [0; MAX_STAGES],
         comb_state: [0; MAX_STAGES],
-        sample_counter: le16_at(e, 0) as usize,
+        sample_counter: usize::from(le16_at(e, 0)),
     }
 }
 
@@ -96,7 +96,7 @@ pub(crate) fn cic_from(q: ParkedSettings, e: &[u8]) -> CicDecimator
         r: q.r,
         integrator_state: integrators,
         comb_state: combs,
-        sample_counter: le16_at(e, 0) as usize,
+        sample_counter: usize::from(le16_at(e, 0)),
     }
 }
 
@@ -115,7 +115,7 @@ pub(crate) fn fir_from(q: ParkedSettings, t: &[u8], e: &[u8]) -> FirDecimator
         tap_count: n,
         factor: q.factor,
         delay,
-        wait: le16_at(e, 0) as usize,
+        wait: usize::from(le16_at(e, 0)),
     }
 }
 
@@ -127,7 +127,7 @@ pub(crate) fn counts_from(e: &[u8], n: usize) -> [usize; MOST_STAGES]
 {
     let mut counts = [0; MOST_STAGES];
     for k in 0..n {
-        counts[k] = le16_at(e, half_band_bytes(k)) as usize;
+        counts[k] = usize::from(le16_at(e, half_band_bytes(k)));
     }
     counts
 }

@@ -12,8 +12,8 @@ returns-clause-leaves c =
       stride_is = c.stride.ensures;
       levels_fit = c.levels_for-levels.ensures.0;
       values_are = e.0;
-      first_is = c.or_one-first.ensures;
-      period_is = c.or_one-period.ensures;
+      first_is = c.held_or_one-first.ensures;
+      period_is = c.held_or_one-period.ensures;
       are = c.min.ensures;
     })
     mu taps fd delays held delay prototype
