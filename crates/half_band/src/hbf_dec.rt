@@ -5,7 +5,7 @@ ghost use Rattle.float.specs.F32.{zero32};
 ghost use Rattle.half_band.specs.HbfDec.{dec_of, dec_none, dec_opening, dec_reset, dec_step, dec_block, dec_span, DecMeets};
 
 use crate::half_band::{decimate, padded, take_pair};
-use crate::limits::{DEC_DELAYS, MOST_HALF_BAND_TAPS};
+use crate::limits::{DEC_DELAYS, MOST_HALF_BAND_TAPS, state_answer};
 use refusal::Refusal;
 use refusal::rows::{outside, samples_refused};
 
@@ -65,9 +65,7 @@ impl HbfDec {
     pub fn reset(&mut self) -> Result<(), Refusal>
         ensures answer { told_reset result self.new ≡ dec_reset self.old }
     {
-        if outside(self.m, 1, MOST_HALF_BAND_TAPS) {
-            return Err(Refusal::State);
-        }
+        state_answer(self.m, MOST_HALF_BAND_TAPS)?;
         *self = HbfDec::new(&self.coeffs[..self.m])?;
         Ok(())
     }
@@ -84,9 +82,7 @@ pub fn pair_lent(
 ) -> Result<f32, Refusal>
     ensures answer { told_on zero32 result (dec_of m coeffs.now delay.new) ≡ dec_step (dec_of m coeffs.now delay.old) a b }
 {
-    if outside(m, 1, MOST_HALF_BAND_TAPS) {
-        return Err(Refusal::State);
-    }
+    state_answer(m, MOST_HALF_BAND_TAPS)?;
     Ok(take_pair(&mut delay[..4 * m], &coeffs[..m], a, b))
 }
 
@@ -104,9 +100,7 @@ pub fn pairs_lent(
         told_on 0 result after ≡ dec_block before src.now (length dst.old) }
     ensures span { dst.new ≡ dec_span (dec_of m coeffs.now delay.old) src.now dst.old }
 {
-    if outside(m, 1, MOST_HALF_BAND_TAPS) {
-        return Err(Refusal::State);
-    }
+    state_answer(m, MOST_HALF_BAND_TAPS)?;
     if samples_refused(src.len(), dst.len()) {
         return Err(Refusal::Samples);
     }

@@ -11,7 +11,7 @@ ghost use Rattle.half_band.specs.HbfDecCascade.{cascade_of, told_cascade, dec_ca
 
 use crate::half_band::{TAPE, decimate_in_place, on_tape};
 use crate::hbf_taps::{Db98, Db140, StageTable};
-use crate::limits::{DEC_CASCADE_DELAYS, DEC_DELAYS, MOST_STAGES, rate_change};
+use crate::limits::{DEC_CASCADE_DELAYS, DEC_DELAYS, MOST_STAGES, rate_change, state_answer};
 use refusal::Refusal;
 use refusal::rows::{outside, samples_refused};
 use std::marker::PhantomData;
@@ -123,9 +123,7 @@ impl<T: StageTable> DecCascade<T> {
         ensures span { dst.new ≡ span_by (stage_taps T.table) (cascade_of self.old.depth self.old.delays) src.now dst.old }
     {
         let depth = self.depth;
-        if outside(depth, 1, MOST_STAGES) {
-            return Err(Refusal::State);
-        }
+        state_answer(depth, MOST_STAGES)?;
         if samples_refused(src.len(), dst.len()) {
             return Err(Refusal::Samples);
         }
@@ -140,9 +138,7 @@ impl<T: StageTable> DecCascade<T> {
     pub fn reset(&mut self) -> Result<(), Refusal>
         ensures answer { told_reset result (cascade_of self.new.depth self.new.delays) ≡ dec_cascade_reset (cascade_of self.old.depth self.old.delays) }
     {
-        if outside(self.depth, 1, MOST_STAGES) {
-            return Err(Refusal::State);
-        }
+        state_answer(self.depth, MOST_STAGES)?;
         self.delays = [0.0; DEC_CASCADE_DELAYS];
         Ok(())
     }

@@ -5,7 +5,7 @@ ghost use Rattle.float.specs.F32.{zero32};
 ghost use Rattle.half_band.specs.HbfInt.{int_none, int_of, int_opening, int_reset, int_step, int_block, int_span, IntMeets};
 
 use crate::half_band::{interpolate, padded, take_sample};
-use crate::limits::{INT_DELAYS, MOST_HALF_BAND_TAPS};
+use crate::limits::{INT_DELAYS, MOST_HALF_BAND_TAPS, state_answer};
 use refusal::Refusal;
 use refusal::rows::{outside, samples_refused};
 
@@ -66,9 +66,7 @@ impl HbfInt {
     pub fn reset(&mut self) -> Result<(), Refusal>
         ensures answer { told_reset result self.new ≡ int_reset self.old }
     {
-        if outside(self.m, 1, MOST_HALF_BAND_TAPS) {
-            return Err(Refusal::State);
-        }
+        state_answer(self.m, MOST_HALF_BAND_TAPS)?;
         *self = HbfInt::new(&self.coeffs[..self.m])?;
         Ok(())
     }
@@ -84,9 +82,7 @@ pub fn sample_lent(
 ) -> Result<(f32, f32), Refusal>
     ensures answer { told_on (zero32, zero32) result (int_of m coeffs.now delay.new) ≡ int_step (int_of m coeffs.now delay.old) x }
 {
-    if outside(m, 1, MOST_HALF_BAND_TAPS) {
-        return Err(Refusal::State);
-    }
+    state_answer(m, MOST_HALF_BAND_TAPS)?;
     Ok(take_sample(&mut delay[..2 * m], &coeffs[..m], x))
 }
 
@@ -104,9 +100,7 @@ pub fn interpolate_lent(
         told_on 0 result after ≡ int_block before src.now (length dst.old) }
     ensures span { dst.new ≡ int_span (int_of m coeffs.now delay.old) src.now dst.old }
 {
-    if outside(m, 1, MOST_HALF_BAND_TAPS) {
-        return Err(Refusal::State);
-    }
+    state_answer(m, MOST_HALF_BAND_TAPS)?;
     if samples_refused(src.len(), dst.len()) {
         return Err(Refusal::Samples);
     }

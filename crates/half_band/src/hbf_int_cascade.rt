@@ -10,7 +10,7 @@ ghost use Rattle.half_band.specs.HbfIntCascade.{int_stage, upsampled, int_cascad
 
 use crate::half_band::expand;
 use crate::hbf_taps::{Interpolation, StageTable};
-use crate::limits::{INT_CASCADE_DELAYS, INT_DELAYS, MOST_STAGES, rate_change};
+use crate::limits::{INT_CASCADE_DELAYS, INT_DELAYS, MOST_STAGES, rate_change, state_answer};
 use refusal::Refusal;
 use refusal::rows::{outside, samples_refused};
 
@@ -83,9 +83,7 @@ impl HbfIntCascade {
         ensures span { dst.new ≡ int_cascade_span self.old src.now dst.old }
     {
         let depth = self.depth;
-        if outside(depth, 1, MOST_STAGES) {
-            return Err(Refusal::State);
-        }
+        state_answer(depth, MOST_STAGES)?;
         if samples_refused(src.len(), dst.len()) {
             return Err(Refusal::Samples);
         }
@@ -100,9 +98,7 @@ impl HbfIntCascade {
     pub fn reset(&mut self) -> Result<(), Refusal>
         ensures answer { told_reset result self.new ≡ int_cascade_reset self.old }
     {
-        if outside(self.depth, 1, MOST_STAGES) {
-            return Err(Refusal::State);
-        }
+        state_answer(self.depth, MOST_STAGES)?;
         self.delays = [0.0; INT_CASCADE_DELAYS];
         Ok(())
     }

@@ -1,5 +1,10 @@
 // 01's limits of the half-band converters.
-ghost use Rattle.std.specs.Prelude.{◌≡◌, ◌^◌, ◌≤◌};
+ghost use Rattle.std.specs.Prelude.{◌≡◌, cond, ◌^◌, ◌≤◌, IfOk};
+ghost use Rattle.refusal.specs.Outcome.{number_in};
+ghost use Rattle.refusal.specs.Rows as R;
+
+use refusal::Refusal;
+use refusal::rows::outside;
 
 pub const MOST_HALF_BAND_TAPS: usize = 23;
 
@@ -22,4 +27,17 @@ pub(crate) fn rate_change(depth: usize) -> usize
     ensures { result ≡ 2 ^ depth }
 {
     1 << depth
+}
+
+// Row 15 of a state: taps or stages that its opening refuses, not 1 to `most`.
+#[tactic(auto, unfolding(refusal::specs::Rows::outside))]
+#[inline(always)]
+pub(crate) fn state_answer(n: usize, most: usize) -> Result<(), Refusal>
+    ensures number { number_in result ≡ cond (R.outside n 1 most) 15 0 }
+    ensures inside { IfOk result (λ _. (1 ≤ n) × (n ≤ most)) }
+{
+    if outside(n, 1, most) {
+        return Err(Refusal::State);
+    }
+    Ok(())
 }
