@@ -1,6 +1,8 @@
 // Samples through a filter inside its limits, whose taps and delay are lent: the roads that they take, by how many they are.
-ghost use Rattle.std.specs.Prelude.{◌≡◌, ◌≤◌, length, unwrap_or, option_copied};
+ghost use Rattle.std.specs.Prelude.{◌≡◌, ◌≤◌, cond, length, unwrap_or, option_copied, IfOk};
 ghost use Rattle.theory.specs.Sections.{state, outs};
+ghost use Rattle.refusal.specs.Outcome.{number_in};
+ghost use Rattle.refusal.specs.Rows as R;
 ghost use Rattle.linear_phase.specs.LinearPhaseFir as P;
 
 use crate::brief::{filter_brief, is_brief};
@@ -10,6 +12,8 @@ use crate::lanes::LANES;
 use crate::limits::{LINEAR_PHASE_DELAYS, MOST_LINEAR_PHASE_TAPS};
 use crate::one::filter_one;
 use crate::straight::{filter_straight, is_straight};
+use refusal::Refusal;
+use refusal::rows::outside;
 
 // How many taps one half has, inside the limits, and the filter's kind.
 #[derive(Clone, Copy)]
@@ -20,6 +24,18 @@ pub(crate) struct Half {
 }
 
 impl Half {
+    // What a state's own numbers give. Refusal 15.
+    #[inline(always)]
+    pub(crate) fn of(m: usize, kind: Kind) -> Result<Half, Refusal>
+        ensures number { number_in result ≡ cond (R.outside m 1 23) 15 0 }
+        ensures half { IfOk result (λ h. (h.m ≡ m) × (h.kind ≡ kind)) }
+    {
+        if outside(m, 1, MOST_LINEAR_PHASE_TAPS) {
+            return Err(Refusal::State);
+        }
+        Ok(Half { m, kind })
+    }
+
     // One sample, through the taps and the delay that lie in front of those lent. A call of its own would take a third of the time of a short filter's sample.
     #[inline(always)]
     pub(crate) fn process(

@@ -37,10 +37,7 @@ pub fn process_at(
         let after = P.phase_of m kind.odd kind.antisymmetric taps.now delay.new in
         told_on zero32 result after ≡ P.phase_step before x }
 {
-    if outside(m, 1, MOST_LINEAR_PHASE_TAPS) {
-        return Err(Refusal::State);
-    }
-    let half = Half { m, kind };
+    let half = Half::of(m, kind)?;
     Ok(half.process(taps, delay, x))
 }
 
@@ -58,10 +55,7 @@ pub fn inplace_at(
     ensures span { let before = P.phase_of m kind.odd kind.antisymmetric taps.now delay.old in
         span.new ≡ P.phase_inplace_span before span.old }
 {
-    if outside(m, 1, MOST_LINEAR_PHASE_TAPS) {
-        return Err(Refusal::State);
-    }
-    let half = Half { m, kind };
+    let half = Half::of(m, kind)?;
     half.inplace(taps, delay, span);
     Ok(span.len())
 }
@@ -82,13 +76,10 @@ pub fn block_at(
     ensures span { let before = P.phase_of m kind.odd kind.antisymmetric taps.now delay.old in
         span.new ≡ P.phase_span before src.now span.old }
 {
-    if outside(m, 1, MOST_LINEAR_PHASE_TAPS) {
-        return Err(Refusal::State);
-    }
+    let half = Half::of(m, kind)?;
     if src.len() != span.len() {
         return Err(Refusal::Lengths);
     }
-    let half = Half { m, kind };
     half.block(taps, delay, src, span);
     Ok(span.len())
 }
@@ -169,12 +160,8 @@ impl LinearPhaseFir {
     pub fn response_length(&self) -> Result<usize, Refusal>
         ensures answer { told 0 result ≡ P.phase_response_length self.now }
     {
-        let m = self.m;
-        if outside(m, 1, MOST_LINEAR_PHASE_TAPS) {
-            Err(Refusal::State)
-        } else {
-            Ok(self.kind().reach(m))
-        }
+        let half = Half::of(self.m, self.kind())?;
+        Ok(half.kind.reach(half.m))
     }
 
     // One sample. Refusal 15.
@@ -207,9 +194,7 @@ impl LinearPhaseFir {
     pub fn reset(&mut self) -> Result<(), Refusal>
         ensures answer { told_reset result self.new ≡ P.phase_reset self.old }
     {
-        if outside(self.m, 1, MOST_LINEAR_PHASE_TAPS) {
-            return Err(Refusal::State);
-        }
+        Half::of(self.m, self.kind())?;
         let taps = padded(&self.taps[..self.m]);
         self.taps = taps;
         self.delay = [0.0f32; LINEAR_PHASE_DELAYS];
