@@ -7,7 +7,7 @@ use crate::lanes::{outputs_at, put_group};
 use crate::one::sum_with;
 
 fn group_of<const N: usize>(tape: &[f32], fir: Folded<'_>, span: &mut [f32])
-    requires { (length fir.taps.now ≤ fir.long) × (fir.long + length span.old ≤ length tape.now) × (length span.old ≡ N) }
+    requires { (fir.long + length span.old ≤ length tape.now) × (length span.old ≡ N) }
     ensures { span.new ≡ W.window_values fir.entry.centre fir.entry.minus fir.entry.taps.now fir.entry.long tape.now (length span.old) }
 {
     let mut y = [0.0f32; N];
@@ -18,7 +18,7 @@ fn group_of<const N: usize>(tape: &[f32], fir: Folded<'_>, span: &mut [f32])
 // The output at the window in front of a line; the centre is added last.
 #[inline(always)]
 fn value_at(line: &[f32], fir: Folded<'_>) -> f32
-    requires { (1 ≤ length fir.taps.now) × (length fir.taps.now ≤ fir.long) × (fir.long + 1 ≤ length line.now) }
+    requires { fir.long + 1 ≤ length line.now }
     ensures { result ≡ W.centred_value fir.entry.centre fir.entry.minus fir.entry.taps.now (take (fir.entry.long + 1) line.now) }
 {
     let acc = sum_with(&line[..fir.long], fir.taps, fir.minus, line[fir.long]);
@@ -32,7 +32,7 @@ fn value_at(line: &[f32], fir: Folded<'_>) -> f32
 // Outputs at the windows from the front of the tape on, one by one.
 #[inline(always)]
 pub(crate) fn singles(tape: &[f32], fir: Folded<'_>, span: &mut [f32])
-    requires { (1 ≤ length fir.taps.now) × (length fir.taps.now ≤ fir.long) × (fir.long + length span.old ≤ length tape.now) }
+    requires { fir.long + length span.old ≤ length tape.now }
     ensures { span.new ≡ W.window_values fir.entry.centre fir.entry.minus fir.entry.taps.now fir.entry.long tape.now (length span.old) }
 {
     for i in 0..span.len() {
@@ -42,7 +42,7 @@ pub(crate) fn singles(tape: &[f32], fir: Folded<'_>, span: &mut [f32])
 
 // Fewer than a group.
 pub(crate) fn few_outputs(tape: &[f32], fir: Folded<'_>, span: &mut [f32])
-    requires { (1 ≤ length fir.taps.now) × (length fir.taps.now ≤ fir.long) × (fir.long + length span.old ≤ length tape.now) × (length span.old ≤ 15) }
+    requires { (fir.long + length span.old ≤ length tape.now) × (length span.old ≤ 15) }
     ensures { span.new ≡ W.window_values fir.entry.centre fir.entry.minus fir.entry.taps.now fir.entry.long tape.now (length span.old) }
 {
     match span.len() {
@@ -65,7 +65,7 @@ pub(crate) fn few_outputs(tape: &[f32], fir: Folded<'_>, span: &mut [f32])
 
 // About a group, and some more: what is more does not wait for the sums of a group.
 pub(crate) fn more_outputs(tape: &[f32], fir: Folded<'_>, span: &mut [f32])
-    requires { (1 ≤ length fir.taps.now) × (length fir.taps.now ≤ fir.long) × (fir.long + length span.old ≤ length tape.now) × (length span.old ≤ 28) }
+    requires { (fir.long + length span.old ≤ length tape.now) × (length span.old ≤ 28) }
     ensures { span.new ≡ W.window_values fir.entry.centre fir.entry.minus fir.entry.taps.now fir.entry.long tape.now (length span.old) }
 {
     match span.len() {

@@ -50,17 +50,11 @@ pub(crate) fn filter(
 {
     let long = delay.len();
     let head = span.len().min(long + LANES);
-    let centre = kind.has_centre();
     let samples = samples_of(src, span);
     let mut tape = [0.0f32; TAPE];
     lay(&mut tape, delay, &samples[..head]);
     last_in(delay, &tape, samples);
-    let fir = Folded {
-        taps,
-        long,
-        minus: kind.antisymmetric,
-        centre,
-    };
+    let fir = Folded::of(taps, long, kind);
     outputs_back(&tape, src, fir, span);
 }
 
@@ -109,17 +103,11 @@ pub(crate) fn filter_short(
     ensures span { let samples = unwrap_or (option_copied src.entry) span.old in
         span.new ≡ outs (W.linear_phase kind.odd kind.antisymmetric taps.now) (take long delay.old) samples }
 {
-    let centre = kind.has_centre();
     let line = samples_of(src, span);
     let mut tape = [0.0f32; SHORT_TAPE];
     lay_groups(&mut tape, delay, long, line);
     last_in(&mut delay[..long], &tape, line);
-    let fir = Folded {
-        taps,
-        long,
-        minus: kind.antisymmetric,
-        centre,
-    };
+    let fir = Folded::of(taps, long, kind);
     outputs_back(&tape, src, fir, span);
 }
 
@@ -166,19 +154,13 @@ pub(crate) fn filter_few<const T: usize>(
         span.new ≡ outs (W.linear_phase kind.odd kind.antisymmetric taps.now) (take long delay.old) samples }
 {
     let past = long + span.len();
-    let centre = kind.has_centre();
     let lent = samples_of(src, span);
     let mut places = [0.0f32; T];
     let tape = &mut places[..];
     lay_delay(tape, delay, long);
     copy_few(&mut tape[long..past], lent);
     move_past(&mut delay[..long], lent);
-    let fir = Folded {
-        taps,
-        long,
-        minus: kind.antisymmetric,
-        centre,
-    };
+    let fir = Folded::of(taps, long, kind);
     few_outputs(tape, fir, span);
 }
 

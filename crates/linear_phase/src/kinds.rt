@@ -1,5 +1,5 @@
 // The four kinds of filters, how far a delay reaches back, and a pair of samples as far from a window's two ends.
-ghost use Rattle.std.specs.Prelude.{◌≡◌, ◌*◌, ◌≤◌};
+ghost use Rattle.std.specs.Prelude.{◌≡◌, ◌*◌, ◌≤◌, length};
 ghost use Rattle.linear_phase.specs.LinearPhase as P;
 ghost use Rattle.linear_phase.specs.Windows.{has_centre};
 
@@ -37,6 +37,24 @@ pub(crate) struct Folded<'a> {
     pub long: usize,
     pub minus: bool,
     pub centre: bool,
+    ghost inside: { (1 ≤ length taps.now) × (length taps.now ≤ long) },
+}
+
+impl<'a> Folded<'a> {
+    // Of a filter inside its limits.
+    #[tactic(auto, unfolding(crate::specs::LinearPhase::reach))]
+    #[inline(always)]
+    pub(crate) fn of(taps: &'a [f32], long: usize, kind: Kind) -> Folded<'a>
+        requires { (1 ≤ length taps.now) × (length taps.now ≤ 23) × (long ≡ P.reach kind.odd (length taps.now)) }
+        ensures { (result.taps.now ≡ taps.now) × (result.long ≡ long) × (result.minus ≡ kind.antisymmetric) × (result.centre ≡ has_centre kind.odd kind.antisymmetric) }
+    {
+        Folded {
+            taps,
+            long,
+            minus: kind.antisymmetric,
+            centre: kind.has_centre(),
+        }
+    }
 }
 
 // new ± old

@@ -33,7 +33,7 @@ fn add_centres(acc: &mut [f32], centres: &[f32])
 
 // The sums of pairs at the windows that begin at the first places of the line, as many as there are zeros to begin with, t ascending.
 fn sums_at(acc: &mut [f32], line: &[f32], fir: Folded<'_>)
-    requires { (length fir.taps.now ≤ fir.long) × (fir.long + length acc.old ≤ length line.now) × (acc.old ≡ W.no_sums (length acc.old)) }
+    requires { (fir.long + length acc.old ≤ length line.now) × (acc.old ≡ W.no_sums (length acc.old)) }
     ensures { acc.new ≡ W.window_sums fir.entry.minus fir.entry.taps.now fir.entry.long line.now (length acc.old) (length fir.entry.taps.now) }
 {
     let taps = fir.taps;
@@ -46,7 +46,7 @@ fn sums_at(acc: &mut [f32], line: &[f32], fir: Folded<'_>)
 // The outputs at these windows; the centre is added last. How many there are is known where the array of them is made: so one body serves groups of any size, and the compiler keeps each in
 // registers.
 pub(crate) fn outputs_at(acc: &mut [f32], line: &[f32], fir: Folded<'_>)
-    requires { (length fir.taps.now ≤ fir.long) × (fir.long + length acc.old ≤ length line.now) × (acc.old ≡ W.no_sums (length acc.old)) }
+    requires { (fir.long + length acc.old ≤ length line.now) × (acc.old ≡ W.no_sums (length acc.old)) }
     ensures { acc.new ≡ W.window_values fir.entry.centre fir.entry.minus fir.entry.taps.now fir.entry.long line.now (length acc.old) }
 {
     sums_at(acc, line, fir);
@@ -57,7 +57,7 @@ pub(crate) fn outputs_at(acc: &mut [f32], line: &[f32], fir: Folded<'_>)
 
 // A whole group of them, at the windows from a place of the line on.
 fn group_at(line: &[f32], from: usize, fir: Folded<'_>) -> [f32; LANES]
-    requires { (length fir.taps.now ≤ fir.long) × (from + (fir.long + 16) ≤ length line.now) }
+    requires { from + (fir.long + 16) ≤ length line.now }
     ensures { result ≡ W.window_values fir.entry.centre fir.entry.minus fir.entry.taps.now fir.entry.long (drop from line.now) 16 }
 {
     let mut y = [0.0f32; LANES];
@@ -119,7 +119,7 @@ pub(crate) fn outputs_back<'a>(
     fir: Folded<'_>,
     span: &mut [f32],
 )
-    requires in_bounds { (1 ≤ length fir.taps.now) × (length fir.taps.now ≤ fir.long) × (fir.long + min (length span.old) (fir.long + 16) ≤ length tape.now) × (fir.long + 32 ≤ length tape.now) × (16 ≤ length span.old) }
+    requires in_bounds { (fir.long + min (length span.old) (fir.long + 16) ≤ length tape.now) × (fir.long + 32 ≤ length tape.now) × (16 ≤ length span.old) }
     requires ahead { let samples = unwrap_or (option_copied src) span.old in
         let n = min (length span.old) 32 in
         take n (drop fir.long tape.now) ≡ take n samples }

@@ -22,7 +22,7 @@ pub(crate) fn is_straight(m: usize, long: usize, n: usize) -> bool
 
 // Outputs at the first windows of the tape. With `group_of`, which does the same, each group there has two callers, and the compiler no longer keeps its sums in registers.
 fn first_outputs<const N: usize>(tape: &[f32], fir: Folded<'_>, span: &mut [f32])
-    requires { (length fir.taps.now ≤ fir.long) × (fir.long + length span.old ≤ length tape.now) × (length span.old ≡ N) }
+    requires { (fir.long + length span.old ≤ length tape.now) × (length span.old ≡ N) }
     ensures { span.new ≡ W.window_values fir.entry.centre fir.entry.minus fir.entry.taps.now fir.entry.long tape.now (length span.old) }
 {
     let mut y = [0.0f32; N];

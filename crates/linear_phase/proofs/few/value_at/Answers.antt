@@ -6,9 +6,9 @@ use Rattle.linear_phase.proofs.few.value_at.Goals as goal
 pub returns-then-fir : goal.returns-then-fir
 returns-then-fir c =
     let a = c.args in
-    front_centred a.fir.minus a.fir.taps.now a.line.now a.fir.long (omega (arith, c.requires)) _ c.sum_with-acc.ensures a.fir.centre c.if-fir.true c.requires.1
+    front_centred a.fir.minus a.fir.taps.now a.line.now a.fir.long (omega (arith, c.requires, c.args.fir.inside)) _ c.sum_with-acc.ensures a.fir.centre c.if-fir.true c.args.fir.inside.1
 
 pub returns-else-fir : goal.returns-else-fir
 returns-else-fir c =
     let a = c.args in
-    front_plain a.fir.minus a.fir.taps.now a.line.now a.fir.long (omega (arith, c.requires)) _ c.sum_with-acc.ensures a.fir.centre c.if-fir.false
+    front_plain a.fir.minus a.fir.taps.now a.line.now a.fir.long (omega (arith, c.requires, c.args.fir.inside)) _ c.sum_with-acc.ensures a.fir.centre c.if-fir.false

@@ -23,7 +23,7 @@ last_in-requires c =
 pub outputs_back-requires-clause-in_bounds : goal.outputs_back-requires-clause-in_bounds
 outputs_back-requires-clause-in_bounds c =
     let b = within _ c.requires.in_bounds in
-    (c.requires.in_bounds.0, b.least, omega (arith, b, c.lay.auto.tape), omega (arith, b, c.lay.auto.tape), c.requires.many.1)
+    (omega (arith, b, c.lay.auto.tape, c.of-fir.ensures), omega (arith, b, c.lay.auto.tape, c.of-fir.ensures), c.requires.many.1)
 
 pub outputs_back-requires-clause-ahead : goal.outputs_back-requires-clause-ahead
 outputs_back-requires-clause-ahead c =
@@ -33,13 +33,13 @@ outputs_back-requires-clause-ahead c =
     let on = (renamed c.samples_of-samples.ensures c.requires.src_len refl row.on).same in
     let n = length a.span.now in
     let few : min (length c.args.span.now) 32 ≤ min (length c.args.span.now) (length c.args.delay.now + 16) = omega (arith, c.requires.many) in
-    laid_less _ _ (min n 32) (min n (length a.delay.now + 16)) few on
+    rw c.of-fir.ensures.1 (laid_less _ _ (min n 32) (min n (length a.delay.now + 16)) few on)
 
 pub outputs_back-requires-clause-on_tape : goal.outputs_back-requires-clause-on_tape
 outputs_back-requires-clause-on_tape c =
     let b = within _ c.requires.in_bounds in
     let row = laid b.most c.samples_of-samples.ensures c.requires.src_len c.min-head.ensures c.lay.ensures in
-    renamed c.samples_of-samples.ensures c.requires.src_len refl row.on
+    rw c.of-fir.ensures.1 (renamed c.samples_of-samples.ensures c.requires.src_len refl row.on)
 
 pub returns-clause-delay : goal.returns-clause-delay
 returns-clause-delay c =
@@ -50,4 +50,4 @@ pub returns-clause-span : goal.returns-clause-span
 returns-clause-span c =
     let b = within _ c.requires.in_bounds in
     let row = laid b.most c.samples_of-samples.ensures c.requires.src_len c.min-head.ensures c.lay.ensures in
-    outs_of _ _ _ _ _ c.has_centre-centre.ensures refl c.requires.src_len b.some row.front c.outputs_back.ensures
+    outs_of _ _ _ _ _ refl refl c.requires.src_len b.some row.front (rw (c.of-fir.ensures.0, c.of-fir.ensures.1, c.of-fir.ensures.2, c.of-fir.ensures.3) at c.outputs_back.ensures)

@@ -1,5 +1,5 @@
 -- `linear_phase::filter::filter_few` meets its contract: delay and samples stand on the tape, and the outputs are those at the windows.
-use Rattle.std.proofs.Common.{◌≡◌, ◌+◌, ◌-◌, ◌≤◌, List, ◌++◌, length, take, drop, sym, ap, ◌∙◌, option_copied, arith, length-take-le}
+use Rattle.std.proofs.Common.{◌≡◌, ◌+◌, ◌-◌, ◌≤◌, List, ◌++◌, length, take, drop, refl, sym, ap, ◌∙◌, option_copied, arith, length-take-le}
 use Rattle.std.specs.Prelude.{unwrap_or}
 use lib.ListN.{length-replicate}
 use lib.Ieee.{Float}
@@ -30,7 +30,7 @@ few_outputs-requires g c =
     let room : c.args.long + 16 ≤ length c.lay_delay.new.tape = omega (arith, c.lay_delay.ensures.1, many, c.requires.places) in
     let put : length c.copy_few.new.span ≡ c.args.long + length c.args.span.now - c.args.long = omega (arith, ap length c.copy_few.ensures, ap length c.samples_of-lent.ensures, c.requires.src_len) in
     let same = long_behind c.lay_delay.new.tape c.copy_few.new.span c.args.long (c.args.long + length c.args.span.now - c.args.long) (omega (arith, room, c.requires.src_len)) put in
-    (c.requires.in_bounds.0, b.least, omega (arith, same, room, c.requires.src_len), omega (arith, c.requires.src_len))
+    (omega (arith, same, room, c.requires.src_len, c.of-fir.ensures), omega (arith, c.requires.src_len))
 
 pub returns-clause-delay : goal.returns-clause-delay
 returns-clause-delay g c =
@@ -52,7 +52,7 @@ returns-clause-span g c =
     let room : c.args.long + 16 ≤ length c.lay_delay.new.tape = omega (arith, c.lay_delay.ensures.1, many, c.requires.places) in
     let put : length c.copy_few.new.span ≡ c.args.long + length c.args.span.now - c.args.long = omega (arith, ap length c.copy_few.ensures, ap length c.samples_of-lent.ensures, c.requires.src_len) in
     let same = long_behind c.lay_delay.new.tape c.copy_few.new.span c.args.long (c.args.long + length c.args.span.now - c.args.long) (omega (arith, room, c.requires.src_len)) put in
-    few_of _ _ _ d v (take a.long t ++ (p ++ drop n (drop a.long t))) c.has_centre-centre.ensures (sym is) c.requires.src_len.0 (omega (arith, is, b)) (omega (arith, is, same, room, c.requires.src_len))
+    few_of _ _ _ d v (take a.long t ++ (p ++ drop n (drop a.long t))) refl (sym is) c.requires.src_len.0 (omega (arith, is, b)) (omega (arith, is, same, room, c.requires.src_len))
     (ap (λ (l : List Float). take (length d + length v) (l ++ (p ++ drop n (drop a.long t)))) c.lay_delay.ensures.0
     ∙ put_behind d v p (drop n (drop a.long t)) (c.copy_few.ensures ∙ c.samples_of-lent.ensures))
-    c.few_outputs.ensures
+    (rw (c.of-fir.ensures.0, c.of-fir.ensures.1, c.of-fir.ensures.2, c.of-fir.ensures.3) at c.few_outputs.ensures)

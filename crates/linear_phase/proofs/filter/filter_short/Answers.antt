@@ -1,5 +1,5 @@
 -- `linear_phase::filter::filter_short` meets its contract: delay and first samples stand on the tape, so the last of all are the next delay, and the outputs are those at the windows.
-use Rattle.std.proofs.Common.{◌≡◌, ℕ, ◌+◌, ◌≤◌, min, List, ◌++◌, length, take, drop, sym, ap, ap₂, ◌∙◌, arith, length-take-le}
+use Rattle.std.proofs.Common.{◌≡◌, ℕ, ◌+◌, ◌≤◌, min, List, ◌++◌, length, take, drop, refl, sym, ap, ap₂, ◌∙◌, arith, length-take-le}
 use lib.Ieee.{Float}
 use Rattle.float.proofs.Laid.{samples_behind}
 use Rattle.linear_phase.specs.Windows.{InRow}
@@ -43,17 +43,16 @@ last_in-requires c =
 
 pub outputs_back-requires-clause-in_bounds : goal.outputs_back-requires-clause-in_bounds
 outputs_back-requires-clause-in_bounds c =
-    let b = within _ c.requires.in_bounds in
-    (c.requires.in_bounds.0, b.least, omega (arith, c.requires.long_bound, c.lay_groups.auto.tape), omega (arith, c.requires.long_bound, c.lay_groups.auto.tape), c.requires.src_len.1)
+    (omega (arith, c.requires.long_bound, c.lay_groups.auto.tape, c.of-fir.ensures), omega (arith, c.requires.long_bound, c.lay_groups.auto.tape, c.of-fir.ensures), c.requires.src_len.1)
 
 pub outputs_back-requires-clause-ahead : goal.outputs_back-requires-clause-ahead
 outputs_back-requires-clause-ahead c =
-    first_of c.args.long _ c.args.delay.now c.requires.long_bound c.samples_of-line.ensures c.requires.src_len.0 c.lay_groups.ensures
+    rw c.of-fir.ensures.1 (first_of c.args.long _ c.args.delay.now c.requires.long_bound c.samples_of-line.ensures c.requires.src_len.0 c.lay_groups.ensures)
 
 pub outputs_back-requires-clause-on_tape : goal.outputs_back-requires-clause-on_tape
 outputs_back-requires-clause-on_tape c =
     let row = laid _ c.requires.long_bound c.samples_of-line.ensures c.requires.src_len c.lay_groups.ensures in
-    renamed c.samples_of-line.ensures c.requires.src_len.0 (long_is _ c.requires.long_bound) row.on
+    rw c.of-fir.ensures.1 (renamed c.samples_of-line.ensures c.requires.src_len.0 (long_is _ c.requires.long_bound) row.on)
 
 pub returns-clause-delay : goal.returns-clause-delay
 returns-clause-delay c =
@@ -66,4 +65,4 @@ returns-clause-span c =
     let b = within _ c.requires.in_bounds in
     let is = long_is _ c.requires.long_bound in
     let row = laid _ c.requires.long_bound c.samples_of-line.ensures c.requires.src_len c.lay_groups.ensures in
-    outs_of _ _ _ _ _ c.has_centre-centre.ensures (sym is) c.requires.src_len.0 (omega (arith, is, b)) row.front c.outputs_back.ensures
+    outs_of _ _ _ _ _ refl (sym is) c.requires.src_len.0 (omega (arith, is, b)) row.front (rw (c.of-fir.ensures.0, c.of-fir.ensures.1, c.of-fir.ensures.2, c.of-fir.ensures.3) at c.outputs_back.ensures)

@@ -13,12 +13,12 @@ returns-then-fir c =
     c.add_centres.ensures
     ∙ ap (λ (l : List Float). centres_added l c.sums_at.new.acc) (rest d m)
     ∙ ap (centres_added (drop m d)) c.sums_at.ensures
-    ∙ values_centred a.fir.long d (length a.acc.now) c.requires.1 a.fir.minus a.fir.taps.now c.requires.0
+    ∙ values_centred a.fir.long d (length a.acc.now) c.requires.0 a.fir.minus a.fir.taps.now c.args.fir.inside.1
     ∙ ap (λ (b : Bool). window_values b a.fir.minus a.fir.taps.now a.fir.long d (length a.acc.now)) (sym c.if-fir.true)
 
 pub returns-else-fir : goal.returns-else-fir
 returns-else-fir c =
     let a = c.args in
     c.sums_at.ensures
-    ∙ values_plain a.fir.long a.line.now (length a.acc.now) c.requires.1 a.fir.minus a.fir.taps.now
+    ∙ values_plain a.fir.long a.line.now (length a.acc.now) c.requires.0 a.fir.minus a.fir.taps.now
     ∙ ap (λ (b : Bool). window_values b a.fir.minus a.fir.taps.now a.fir.long a.line.now (length a.acc.now)) (sym c.if-fir.false)

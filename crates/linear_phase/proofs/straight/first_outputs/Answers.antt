@@ -8,7 +8,7 @@ use Rattle.linear_phase.proofs.Putting.{put_exact}
 use Rattle.linear_phase.proofs.straight.first_outputs.Goals as goal
 
 pub outputs_at-requires : goal.outputs_at-requires
-outputs_at-requires g c = (c.requires.0, omega (arith, length-replicate g.row.N zero32, c.requires), zero_sums g.row.N)
+outputs_at-requires g c = (omega (arith, length-replicate g.row.N zero32, c.requires), zero_sums g.row.N)
 
 pub returns : goal.returns
 returns g c =
@@ -16,6 +16,6 @@ returns g c =
     let w = g.row.N in
     let o = c.outputs_at in
     let many = length-replicate w zero32 in
-    put_exact w o.new.acc a.span.now _ (ap length o.ensures ∙ values_long a.fir.centre a.fir.minus a.fir.taps.now a.fir.long a.tape.now _ ∙ many) c.requires.2 c.put_group.ensures
+    put_exact w o.new.acc a.span.now _ (ap length o.ensures ∙ values_long a.fir.centre a.fir.minus a.fir.taps.now a.fir.long a.tape.now _ ∙ many) c.requires.1 c.put_group.ensures
     ∙ o.ensures
-    ∙ ap (window_values a.fir.centre a.fir.minus a.fir.taps.now a.fir.long a.tape.now) (many ∙ sym c.requires.2)
+    ∙ ap (window_values a.fir.centre a.fir.minus a.fir.taps.now a.fir.long a.tape.now) (many ∙ sym c.requires.1)
