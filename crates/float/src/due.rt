@@ -74,10 +74,6 @@ impl Setting {
         if !in_limits(self.phases, self.taps) {
             return Due { mu, written: from };
         }
-        let reading = Reading {
-            prototype,
-            setting: self,
-        };
-        reading.write_due(delay, mu, dst, from)
+        Reading::of(prototype, self).write_due(delay, mu, dst, from)
     }
 }

@@ -55,6 +55,17 @@ fn cell_at(prototype: &[f32; MOST_CELLS], cells: usize, i: usize) -> f32
     if i < cells { prototype[i] } else { 0.0 }
 }
 
+impl<'a> Reading<'a> {
+    // For a caller that has tested the setting: what each answers to one outside the limits is its own.
+    #[inline(always)]
+    pub(crate) fn of(prototype: &'a [f32; MOST_CELLS], setting: Setting) -> Reading<'a>
+        requires { R.in_limits setting.phases setting.taps ≡ true }
+        ensures { (result.prototype.now ≡ prototype.now) × (result.setting ≡ setting) }
+    {
+        Reading { prototype, setting }
+    }
+}
+
 impl Reading<'_> {
     // The sums over the first `count` taps of the cells from p0 and from p1 on, P apart.
     #[tactic(auto, unfolding(crate::specs::PolyphaseOutput::phase_sum, crate::specs::PolyphaseOutput::tap, crate::specs::PolyphaseResamp::Inside))]
@@ -149,10 +160,6 @@ impl Setting {
         if !in_limits(self.phases, self.taps) {
             return 0.0;
         }
-        let reading = Reading {
-            prototype,
-            setting: self,
-        };
-        reading.interpolate(delay, mu.clamp(0.0, 1.0))
+        Reading::of(prototype, self).interpolate(delay, mu.clamp(0.0, 1.0))
     }
 }

@@ -79,11 +79,7 @@ impl Setting {
         if !self.is_valid(*mu) {
             return Err(Refusal::State);
         }
-        let reading = Reading {
-            prototype,
-            setting: self,
-        };
-        Ok(reading.run(mu, delay, src, dst))
+        Ok(Reading::of(prototype, self).run(mu, delay, src, dst))
     }
 
     // A pushed sample. Refused by 15.

@@ -1,18 +1,12 @@
 -- `write_due` meets its contract: inside the limits it is that of the reading, and 16 places have room for T taps.
 use Rattle.std.proofs.Common.{sym, ◌∙◌}
 use Rattle.float.specs.PolyphaseResamp.{emitted_from}
-use Rattle.float.proofs.PolyphaseOutput.{limits_say}
 use Rattle.float.proofs.settings.Setting.write_due.Goals as goal
 
 pub returns-then-not-in_limits : goal.returns-then-not-in_limits
 unfolding emitted_from
 returns-then-not-in_limits c = rw (sym c.in_limits.ensures ∙ c.if-not-in_limits.true)
 
-pub invariant_of-reading : goal.invariant_of-reading
-invariant_of-reading c =
-    let l = limits_say _ _ (sym c.in_limits.ensures ∙ c.if-not-in_limits.false) in
-    record { phases_inside = (l.some_phases, l.few_phases); taps_inside = (l.some_taps, l.few_taps) }
-
 pub returns : goal.returns
 unfolding emitted_from
-returns c = rw (sym c.in_limits.ensures ∙ c.if-not-in_limits.false) c.write_due.ensures
+returns c = rw (sym c.in_limits.ensures ∙ c.if-not-in_limits.false) (rw (c.of.ensures.1, c.of.ensures.0) at c.write_due.ensures)
