@@ -20,6 +20,7 @@ fn gain(tap: f32, left: f32, right: f32) -> f32
 }
 
 // From start, tap × (sum of two places as far from the window's two ends), tap 0 first.
+// Window and taps stay two parameters here and below: a window is lent shared or mutable, and has four places a tap or two, so that a struct with an invariant would be four.
 #[tactic(auto, unfolding(crate::specs::Windows::folded))]
 fn folded_sum(window: &[f32], taps: &[f32], step: usize, start: f32) -> f32
     requires { (1 ≤ step) × (length window.now ≡ 2 * step * length taps.now) }
