@@ -38,9 +38,6 @@ fresh_usable N c b =
     full n h = omega arith
 
 module _ (W N m : ℕ) (coeffs delay : List Float) (u : Usable N m coeffs delay) (room : W ≤ N) where
-  pub taps_long : length (take m coeffs) ≡ m
-  taps_long = length-take-le m coeffs (omega (arith, u.most, u.coeffs_long))
-
   pub window_long : length (take W delay) ≡ W
   window_long = length-take-le W delay (omega (arith, room, u.delay_long))
 

@@ -45,10 +45,3 @@ two_parts {A} l n w h g =
     ap (λ (f : List A). f ++ take w (drop (n - w) l)) (take-take (n - w) w l (omega arith))
     ∙ sym (take-add (n - w) w l)
     ∙ ap (λ (k : ℕ). take k l) e
-
-pub two_groups : (centre minus : Bool) (c : List Float) (long : ℕ) (line : List Float) (n w : ℕ) → w ≤ n → n ≤ w + w
-    → take (n - w) (window_values centre minus c long line w) ++ window_values centre minus c long (drop (n - w) line) w ≡ window_values centre minus c long line n
-two_groups centre minus c long line n w h g =
-    ap₂ {C = List Float} (λ (a b : List Float). take (n - w) a ++ b) (values_front centre minus c long line n w h) (values_part centre minus c long line n (n - w) w (omega arith))
-    ∙ two_parts (window_values centre minus c long line n) n w h g
-    ∙ take_all n (window_values centre minus c long line n) (omega (arith, values_long centre minus c long line n))

@@ -55,10 +55,6 @@ window_values centre antisymmetric c long line n = listed n (λ i. centred_value
 unfoldable pub put_in_front : List Float → List Float → List Float
 put_in_front y span = listed (min (length y) (length span)) (λ i. get_or y i nan) ++ drop (min (length y) (length span)) span
 
--- a list in which so many places from `to` on have what stood one place on
-abbrev pub group_moved : List Float → ℕ → List Float
-group_moved d to = take to d ++ (take 16 (drop (to + 1) d) ++ drop (to + 16) d)
-
 -- one of two lists
 unfoldable pub picked : {A : Type 0} → Bool → List A → List A → List A
 picked first a b = cond first a b
