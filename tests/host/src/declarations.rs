@@ -231,12 +231,12 @@ fn a_length_by_name_moves_with_its_constant() {
     let named = of_length(&read(line), "MOST_TAPS");
     fs::write(
         tree.join(line),
-        format!("use q15::fir_decimator::MOST_TAPS;\n{named}"),
+        format!("use q15::fir_settings::MOST_TAPS;\n{named}"),
     )
     .unwrap();
     bindings::check(&tree).unwrap();
     let moved = (
-        "crates/q15/src/fir_decimator.rt",
+        "crates/q15/src/fir_settings.rt",
         "MOST_TAPS: usize = ",
         "MOST_TAPS: usize = 2 * ",
     );
