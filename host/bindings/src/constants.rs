@@ -180,7 +180,7 @@ fn declaration(statement: &str) -> Option<(&str, &str, &str)> {
     text::is_name(name.trim()).then_some((name.trim(), number.trim(), value.trim()))
 }
 
-// `use q15::fir_decimator::MOST_TAPS`, the same with `as`, and several in braces.
+// `use q15::fir_settings::MOST_TAPS`, the same with `as`, and several in braces.
 fn file_of(crate_name: &str, code: &str) -> File {
     let mut file = File {
         crate_name: crate_name.to_string(),
