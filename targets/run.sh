@@ -1,6 +1,6 @@
 #!/usr/bin/env bash
 # Recompiles the proved module for other machines, runs the test program on each and compares what it prints with what it prints on x86-64. Arguments: names of machines; without any, all.
-# A machine whose tools are missing is skipped, with the names of their Debian packages; that fails nothing, a difference does. With cortex_m4 go the firmware of examples/cortex-m4 and what docs/c.md says of the stack.
+# A machine whose tools are missing is skipped, with the names of their Debian packages; that fails nothing, a difference does. With cortex_m4 go the firmware of examples/cortex-m4, plain C of the same formulas and what docs/c.md says of the stack.
 set -euo pipefail
 . "$(dirname "$0")/../host/common.sh"
 to=$target/targets
@@ -34,5 +34,6 @@ echo "targets: $same same, $different different, $skipped skipped"
 [[ $different -eq 0 ]]
 if [[ " $* " == *" cortex_m4 "* ]]; then
     examples/cortex-m4/run.sh
+    targets/beside_plain.sh
     awk -f targets/stack.awk "$target/firmware/table.md" docs/c.md
 fi

@@ -10,15 +10,15 @@ use native.Mathlib.Omega.{arith}
 use borrow.Author.Tests.{le-leb}
 use lib.IntN.{ℤ, pos}
 use lib.Ieee.{Float}
-use lib.ListN.{length, get_or, take, drop, length-append, length-map}
-use lib.Seq.{length-take-le, take_at, take_all}
+use lib.ListN.{length, take, drop, length-append, length-map}
+use lib.Seq.{length-take-le, take_at}
 use mir.Syntax.{w16}
 use Rattle.refusal.specs.Outcome.{Outcome, told_on, value_in, none_moved}
 use Rattle.refusal.specs.declared.Refusal.{Refusal}
 use Rattle.refusal.specs.declared.Moved.{Moved}
 use Rattle.theory.specs.Floor.{floor_div}
 use Rattle.theory.specs.Lists.{but_last}
-use Rattle.theory.specs.Sections.{Section, onto, state, outs}
+use Rattle.theory.specs.Sections.{onto, state, outs}
 use Rattle.theory.specs.Tally.{held_sum}
 use Rattle.theory.specs.Machines.{Machine, alone}
 use Rattle.theory.specs.Feeds.{Fed, idle, less, feed}
@@ -27,6 +27,7 @@ use Rattle.theory.proofs.Tally.{held_more}
 use Rattle.theory.proofs.Feeds.{feed_right}
 use Rattle.theory.proofs.FeedRules.{feed_full, feed_due, feed_end}
 use Rattle.theory.proofs.Batches.{feed_takes, feed_alone, alone_before_last, whole_but_last}
+use Rattle.theory.proofs.Sections.{outs_few}
 use Rattle.integer.specs.Gain.{gain_bits}
 use Rattle.nonrecursive.specs.EitherKind.{Thinner, either, thin, thin_fed, valid_at}
 use Rattle.nonrecursive.proofs.EitherKind.{outs_scaled, state_scaled}
@@ -34,8 +35,7 @@ use Rattle.q15.specs.Fixed.{cut, cut_count}
 use Rattle.q15.specs.FirDecimator.{fir, summing}
 use Rattle.q15.specs.FirBlock.{block_fits, fir_block_state, fir_block_outs, fir_block_cuts}
 use Rattle.q15.specs.declared.fir_decimator.FirDecimator.{FirDecimator}
-use Rattle.q15.proofs.CutFilling.{listed_few}
-use Rattle.q15.proofs.Filling.{listed_take}
+use Rattle.q15.proofs.CutFilling.{count_few}
 use Rattle.q15.proofs.FirBlocks.{block_fits_lem}
 use Rattle.half_band.specs.HbfStream.{hbf_stream}
 use Rattle.half_band.specs.HbfStreamBlock.{stream_block_fits, stream_block_state, stream_block_outs}
@@ -45,7 +45,8 @@ use Rattle.float.specs.PolyphaseResamp.{is_on, in_line, resampler, valid, valid_
 use Rattle.float.specs.declared.polyphase_resamp.PolyphaseResampF32.{PolyphaseResampF32}
 use Rattle.float.proofs.PolyphaseRange as Res
 use Rattle.chain.specs.Chain.{Parts2, from2, from3, from4, from5, from_levels, chain}
-use Rattle.chain.specs.Parts.{most_count, levels_on, fir_on, cut_on}
+use Rattle.chain.specs.Parts.{levels_on, fir_on, cut_on}
+use Rattle.chain.specs.Cuts.{most_cuts}
 use Rattle.chain.specs.Batched.{Whole, Leaves, Batched}
 use Rattle.chain.proofs.Batching.{whole_behind, batched_before, batched_each, whole_each, is_off, is_on_lem, batched_off, off_room, fed_on_lem}
 
@@ -74,15 +75,6 @@ module _ {S A C : Type 0} (m : Machine S A C) where
 
   feed_room : (s : S) (xs : List A) (n : ℕ) → length (feed m s xs n).written ≤ n
   feed_room s xs n = room (length xs + n) s xs n (omega arith)
-
--- ---- a section makes no more than it takes
-outs_few : {S A B : Type 0} (f : Section S A B) (s : S) (xs : List A) → length (outs f s xs) ≤ length xs
-outs_few f s [] = omega arith
-outs_few {B = B} f s (a ∷ xs) = of (f.out s a) (outs_few f (f.next s a) xs)
-  where
-    of : (o : Option B) → length (outs f (f.next s a) xs) ≤ length xs → length (onto o (outs f (f.next s a) xs)) ≤ suc (length xs)
-    of None h = omega arith
-    of (Some b) h = suc-le-suc h
 
 -- ---- section 5
 -- off: levels in front of the span
@@ -160,11 +152,6 @@ module _ (h h' : HbfStream) (r r' : PolyphaseResampF32) (values : List ℤ) (tap
       batched_each level from4 (h, r) values (map level values) o o' (h', r') w refl whole (batched_before hbf_stream from5 h r (map level values) o o' h' r' w whole4 next behind)
 
 -- ---- section 3
--- no more are cut than there are
-count_few : (l : List ℤ) → cut_count w16 l ≤ length l
-count_few l =
-    subst (λ (v : List ℤ). cut_count w16 v ≤ length l) (listed_take (pos 0) (length l) l (omega arith) ∙ take_all (length l) l (omega arith)) (listed_few (length l) (λ k. get_or l k (pos 0)))
-
 module _ (s : FirDecimator) (values : List ℤ) (places : ℕ) (few : length values ≤ 128) (long : places ≡ 128) where
   fir_fits : block_fits (length values) places ≡ true
   fir_fits = block_fits_lem (length values) places few (omega (arith, few, long))
@@ -281,12 +268,12 @@ module _ (t t' : Thinner) (s s' : FirDecimator) (h h' : HbfStream) (r r' : Polyp
   abbrev Took : Type 0
   Took =
       (1 ≤ taken) × Whole chain (t, cut_on s h r) zs (length o) × Batched chain (t, cut_on s h r) zs o o' (t', cut_on s' h' r') w
-      × (after ≡ held_sum most_count before (cut_count w16 (outs either t zs) + cut_count w16 (outs summing s (map (cut w16) (outs either t zs)))))
+      × (after ≡ held_sum most_cuts before (cut_count w16 (outs either t zs) + cut_count w16 (outs summing s (map (cut w16) (outs either t zs)))))
 
   took :
       bits ≡ gain_bits t.cic.stages t.cic.r → valid_at t.kind t.cic.stages t.cic.r t.cic.sample_counter ≡ true → taken ≡ (thin_fed t xs count).taken
       → t' ≡ (thin_fed t xs count).line → take made sums ≡ (thin_fed t xs count).written → take made vals ≡ map (cut w16) (map (scaled_at bits) (take made sums))
-      → first ≡ cut_count w16 (map (scaled_at bits) (take made sums)) → after ≡ held_sum most_count (held_sum most_count before first) (cut_count w16 (outs summing s (take made vals)))
+      → first ≡ cut_count w16 (map (scaled_at bits) (take made sums)) → after ≡ held_sum most_cuts (held_sum most_cuts before first) (cut_count w16 (outs summing s (take made vals)))
       → (valid_in_line r ≡ true → Whole from3 (fir_on s h r) (take made vals) (length o) → Batched from3 (fir_on s h r) (take made vals) o o' (fir_on s' h' r') w)
       → valid_in_line r ≡ true → 1 ≤ count → 1 ≤ length xs → Leaves from2 (cut_on s h r) count (length o)
       → Took
@@ -301,8 +288,8 @@ module _ (t t' : Thinner) (s s' : FirDecimator) (h h' : HbfStream) (r r' : Polyp
         chain_batched t t' (cut_on s h r) (cut_on s' h' r') xs sums taken made bits count w o o' eb fine et el whole
             (λ whole2. batched_each (cut w16) from3 (fir_on s h r) (outs either t zs) (take made vals) o o' (fir_on s' h' r') w values whole2
             (on v (subst⁻¹ (λ (l : List ℤ). Whole from3 (fir_on s h r) l (length o)) values (whole_each (cut w16) from3 (fir_on s h r) (outs either t zs) (length o) whole2)))),
-        e2 ∙ held_more most_count before first (cut_count w16 (outs summing s (take made vals)))
-            ∙ ap₂ {C = ℕ} (λ (a b : ℕ). held_sum most_count before (a + b)) (ec ∙ ap (cut_count w16) scaled) (ap (λ (l : List ℤ). cut_count w16 (outs summing s l)) values),
+        e2 ∙ held_more most_cuts before first (cut_count w16 (outs summing s (take made vals)))
+            ∙ ap₂ {C = ℕ} (λ (a b : ℕ). held_sum most_cuts before (a + b)) (ec ∙ ap (cut_count w16) scaled) (ap (λ (l : List ℤ). cut_count w16 (outs summing s l)) values),
       )
 
 -- the same by what the calls of a batch ensure: of `zeros` the first `most` places were lent, and `got` stands in them
@@ -317,7 +304,7 @@ module _ (t t' : Thinner) (s s' : FirDecimator) (h h' : HbfStream) (r r' : Polyp
   pub took_batch :
       most ≡ min count 128 → length zeros ≡ 128 → (taken ≡ thinned.taken) × (made ≡ length thinned.written) → t' ≡ thinned.line
       → got ≡ thinned.written ++ drop (length thinned.written) (take most zeros) → vals ≡ map (cut w16) (map (scaled_at bits) lent_sums) ++ drop (length lent_sums) spare
-      → first ≡ cut_count w16 (map (scaled_at bits) lent_sums) → after ≡ held_sum most_count (held_sum most_count before first) (cut_count w16 (outs summing s (take made vals)))
+      → first ≡ cut_count w16 (map (scaled_at bits) lent_sums) → after ≡ held_sum most_cuts (held_sum most_cuts before first) (cut_count w16 (outs summing s (take made vals)))
       → (valid_in_line r ≡ true → Whole from3 (fir_on s h r) (take made vals) (length o) → Batched from3 (fir_on s h r) (take made vals) o o' (fir_on s' h' r') w)
       → bits ≡ gain_bits t.cic.stages t.cic.r → valid_at t.kind t.cic.stages t.cic.r t.cic.sample_counter ≡ true → valid_in_line r ≡ true → 1 ≤ count → count ≤ 128
       → 1 ≤ length xs → Leaves from2 (cut_on s h r) count (length o)

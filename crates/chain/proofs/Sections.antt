@@ -23,9 +23,10 @@ use Rattle.q15.specs.FirDecimator.{fir, fir_next, fir_out, most_taps}
 use Rattle.q15.specs.declared.fir_decimator.FirDecimator.{FirDecimator}
 use Rattle.half_band.specs.HbfStream.{Half, Passed, half, stage_in, with_stage, through, stream, hbf_stream}
 use Rattle.half_band.specs.HbfTaps.{stage_taps, decimation}
-use Rattle.half_band.specs.Limits.{most_stages}
+use Rattle.half_band.specs.Limits.{most_depth}
 use Rattle.half_band.specs.declared.hbf_stream.HbfStream.{HbfStream}
 use Rattle.half_band.specs.HbfTaps.{decimation_five}
+use Rattle.half_band.proofs.Passing.{none_through}
 use Rattle.half_band.proofs.Streaming.{depth_next}
 use Rattle.std.proofs.lemmas.Bool.{and_parts}
 use Rattle.chain.specs.Counting.{or_one, stages_left}
@@ -180,11 +181,6 @@ stages_other (suc n) k j c v h =
     ap₂ {C = ℕ} (λ (a b : ℕ). cond (eqb a 0) 2 1 + (b - 1) * 2) (get_or-set_other c j k v 0 (λ e. omega arith)) (stages_other n (suc k) j c v (omega arith))
 
 module _ (taps : ℕ → List Float) where
-  through_none : (n k : ℕ) (s : HbfStream) → through taps n k None s ≡ record { out = None; state = s }
-  unfolding through
-  through_none zero k s = refl
-  through_none (suc n) k s = refl
-
   -- what n stages from stage k on do
   pub record Down (n k : ℕ) (s : HbfStream) (p : Passed) : Type 0 where
     pub long : length p.state.counts ≡ length s.counts
@@ -199,7 +195,7 @@ module _ (taps : ℕ → List Float) where
       → Down (suc n) k s (through taps n (suc k) (cond b None (Some v)) (with_stage taps k (cond b kept made) s))
   unfolding with_stage
   stage_by n k s h true e v kept made ek em ih =
-      rw (through_none n (suc k) (with_stage taps k kept s), ek)
+      rw (none_through taps n (suc k) (with_stage taps k kept s), ek)
       (record {
         long = length-set s.counts k 1;
         below = λ j l. get_or-set_other s.counts k j 1 0 (λ q. omega arith);
@@ -254,10 +250,10 @@ module _ (taps : ℕ → List Float) where
       stage_by n k s (omega arith) (eqb (get_or s.counts k 0) 0) refl _ _ _ refl refl (λ v s' e. through_down n (suc k) v s' (omega arith))
 
 abbrev pub HalfGood : HbfStream → Type 0
-HalfGood s = length s.counts ≡ most_stages
+HalfGood s = length s.counts ≡ most_depth
 
 abbrev pub stages : HbfStream → ℕ
-stages s = min s.depth most_stages
+stages s = min s.depth most_depth
 
 abbrev pub half_left : HbfStream → ℕ
 half_left s = stages_left (stages s) 0 s.counts
@@ -278,8 +274,8 @@ half_down =
       good_next = λ s x g. long_next s x g;
       some_left = λ s g. some_stages (stages s) 0 s.counts;
       some_period = λ s g. pow_pos (stages s);
-      period_kept = λ s x g. ap (λ (d : ℕ). 2 ^ min d most_stages) (half_depth s x);
-      left_next = λ s x g. ap (λ (d : ℕ). stages_left (min d most_stages) 0 (hbf_stream.next s x).counts) (half_depth s x) ∙ next s x g;
+      period_kept = λ s x g. ap (λ (d : ℕ). 2 ^ min d most_depth) (half_depth s x);
+      left_next = λ s x g. ap (λ (d : ℕ). stages_left (min d most_depth) 0 (hbf_stream.next s x).counts) (half_depth s x) ∙ next s x g;
       out_same = λ s x g. out s x g;
     }
   where

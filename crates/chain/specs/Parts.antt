@@ -21,10 +21,6 @@ fir_settings_of s tap_count = record { tap_count = tap_count; factor = s.factor 
 abbrev pub setting_of : Settings → Setting
 setting_of s = record { phases = s.phases; taps = s.taps; straight = s.straight; step = s.step }
 
--- where the count of cut values holds
-abbrev pub most_count : ℕ
-most_count = 4294967295
-
 abbrev pub thinner_of : Fixed → ℕ → List ℤ → List ℤ → List ℤ → E.Thinner
 thinner_of f counter integrators combs neighbours = E.thinner_of f.settings.thinning f.settings.stages f.settings.r integrators combs neighbours counter
 

@@ -1,7 +1,7 @@
 // What a feed of a line changes beside its arrays.
 ghost use Rattle.std.specs.Prelude.{◌≡◌};
 ghost use Rattle.theory.specs.Tally.{held_sum};
-ghost use Rattle.chain.specs.Parts.{most_count};
+ghost use Rattle.chain.specs.Cuts.{most_cuts};
 
 // Where section 1 stands in its period, how many samples the FIR waits for, where the resampler's next output lies, and how many values were cut to 16 bits.
 #[derive(Clone, Copy)]
@@ -14,7 +14,7 @@ pub struct Clock {
 
 // The count of cut values, with so many more; it holds at its end.
 pub fn held_sum(cuts: u32, more: u32) -> u32
-    ensures { result ≡ held_sum most_count cuts more }
+    ensures { result ≡ held_sum most_cuts cuts more }
 {
     cuts.saturating_add(more)
 }

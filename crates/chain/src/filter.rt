@@ -7,7 +7,7 @@ ghost use Rattle.q15.specs.Fixed.{cut_count};
 ghost use Rattle.q15.specs.FirDecimator.{summing};
 ghost use Rattle.float.specs.PolyphaseResamp.{valid_in_line};
 ghost use Rattle.chain.specs.Chain.{from3};
-ghost use Rattle.chain.specs.Parts.{most_count};
+ghost use Rattle.chain.specs.Cuts.{most_cuts};
 ghost use Rattle.chain.specs.Lending.{fir_in, resampler_in, from_fir_in, Same, ThinnerStays};
 ghost use Rattle.chain.specs.Batched.{most_sums, Whole, Batched};
 
@@ -33,7 +33,7 @@ pub(crate) fn filter(
         valid_in_line (resampler_in f clock.old.mu lent.old) ≡ true → Whole from3 before values.now (length out.old)
         → Batched from3 before values.now out.old out.new (from_fir_in f clock.new lent.new) result }
     ensures cuts { let sums = outs summing (fir_in f clock.old.wait lent.old) values.now in
-        clock.new.cuts ≡ held_sum most_count clock.old.cuts (cut_count w16 sums) }
+        clock.new.cuts ≡ held_sum most_cuts clock.old.cuts (cut_count w16 sums) }
     ensures counter { clock.new.sample_counter ≡ clock.old.sample_counter }
 {
     let mut filtered = [0i16; MOST_SUMS];

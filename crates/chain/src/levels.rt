@@ -19,6 +19,7 @@ fn put_levels(span: &mut [f32], values: &[i16])
     requires { length values.now ≤ length span.old }
     ensures { span.new ≡ map level values.now ++ drop (length values.now) span.old }
 {
+    // By the place's number, since of what stands behind `iter_mut` in a zip a proof knows the lengths alone.
     for (i, value) in values.iter().enumerate() {
         span[i] = q15_to_f32(Q15(*value));
     }

@@ -6,7 +6,7 @@ ghost use Rattle.chain.specs.Parts.{resampler_of};
 ghost use Rattle.chain.specs.Batched.{Whole, Batched};
 
 use crate::fixed::Fixed;
-use float::settings::{MOST_CELLS, MOST_TAPS as MOST_PHASE_TAPS};
+use float::settings::{MOST_CELLS, MOST_PHASE_TAPS};
 use refusal::NONE_MOVED;
 
 // Levels into the resampler, which writes from the front of the span on; where it is off they are written themselves. Answers how many places are written.

@@ -12,7 +12,7 @@ ghost use Rattle.chain.specs.Batched.{most_sums, Leaves};
 
 use crate::fixed::{FEW_SUMS, Fixed, MOST_SUMS};
 use float::f32_to_usize_saturating;
-use half_band::MOST_STAGES;
+use half_band::MOST_DEPTH;
 use nonrecursive::Thinning;
 
 // A level in the parts that a stride is counted in.
@@ -48,12 +48,13 @@ fn before_pair(held: usize) -> usize
 }
 
 // So many values make no more than so many levels.
-fn values_for(depth: usize, counts: [usize; MOST_STAGES], levels: usize) -> usize
+fn values_for(depth: usize, counts: [usize; MOST_DEPTH], levels: usize) -> usize
     requires { levels ≤ most_sums }
     ensures { (result ≡ stages_left (min depth 5) 0 counts - 1 + levels * 2 ^ min depth 5) × (result ≤ 4127) }
 {
     let mut values = levels;
-    for k in (0..depth.min(MOST_STAGES)).rev() {
+    // By number, which the count goes by (`stages_left`): of an iterator in reverse it would have to be told as the length of what is left.
+    for k in (0..depth.min(MOST_DEPTH)).rev() {
         values = before_pair(counts[k]) + values * 2;
     }
     values
@@ -74,7 +75,7 @@ fn held_or_one(tap_count: usize, n: usize) -> usize
 }
 
 // So many sums, or fewer, leave a place before the last of them.
-fn sums_within(f: Fixed, wait: usize, counts: [usize; MOST_STAGES], places: usize) -> usize
+fn sums_within(f: Fixed, wait: usize, counts: [usize; MOST_DEPTH], places: usize) -> usize
     ensures within { result ≤ most_sums }
     ensures leaves { (mu : Float) (taps fir_delay : List ℤ) (delays held delay prototype : List Float) →
         let resampler = resampler_of f mu delay prototype in
@@ -99,7 +100,7 @@ fn few_sums(thinning: Thinning) -> usize
 }
 
 // How many sums a block may have where no output is due and so many places are left; 0 where it would have so few that they go faster one by one.
-pub fn sums_for(f: Fixed, wait: usize, counts: [usize; MOST_STAGES], places: usize) -> usize
+pub fn sums_for(f: Fixed, wait: usize, counts: [usize; MOST_DEPTH], places: usize) -> usize
     ensures within { (result ≤ most_sums) × (1 ≤ result → 1 ≤ places) }
     ensures leaves { (mu : Float) (taps fir_delay : List ℤ) (delays held delay prototype : List Float) →
         let resampler = resampler_of f mu delay prototype in

@@ -10,7 +10,7 @@ ghost use Rattle.q15.specs.Fixed.{cut, cut_count};
 ghost use Rattle.q15.specs.FirDecimator.{summing};
 ghost use Rattle.float.specs.PolyphaseResamp.{valid_in_line};
 ghost use Rattle.chain.specs.Chain.{from2, chain};
-ghost use Rattle.chain.specs.Parts.{most_count};
+ghost use Rattle.chain.specs.Cuts.{most_cuts};
 ghost use Rattle.chain.specs.Lending.{resampler_in, parts_in, Same};
 ghost use Rattle.chain.specs.Batched.{most_sums, Whole, Leaves, Batched};
 
@@ -24,17 +24,17 @@ use q15::cut_q15;
 use refusal::Moved;
 
 // The sums, scaled and cut, in front of a span. Answers how many were cut.
-fn cut_sums(bits: u32, sums: &[i32], dst: &mut [i16]) -> usize
+fn cut_sums(bits: u32, sums: &[i32], dst: &mut [i16]) -> u32
     requires { (length sums.now ≤ length dst.old) × (length sums.now ≤ most_sums) }
     ensures span { dst.new ≡ map (cut w16) (map (λ y. floor_div y (2 ^ bits)) sums.now) ++ drop (length sums.now) dst.old }
     ensures cuts { result ≡ cut_count w16 (map (λ y. floor_div y (2 ^ bits)) sums.now) }
-    ensures few { result ≤ most_sums }
 {
     let mut cuts = 0;
+    // By the place's number, since of what stands behind `iter_mut` in a zip a proof knows the lengths alone.
     for (i, sum) in sums.iter().enumerate() {
         let made = cut_q15(i64::from(scaled(*sum, bits)));
         dst[i] = made.value.0;
-        cuts += usize::from(made.cut);
+        cuts += u32::from(made.cut);
     }
     cuts
 }
@@ -62,7 +62,7 @@ pub fn take_batch(
         → 1 ≤ count → count ≤ most_sums → 1 ≤ length samples.now → Leaves from2 before.1 count places
         → (1 ≤ result.taken) × Whole chain before xs places
         × Batched chain before xs out.old out.new (parts_in f clock.new lent.new) result.written
-        × (clock.new.cuts ≡ held_sum most_count clock.old.cuts cuts) }
+        × (clock.new.cuts ≡ held_sum most_cuts clock.old.cuts cuts) }
 {
     let s = f.settings;
     let most = count.min(MOST_SUMS);
@@ -81,7 +81,7 @@ pub fn take_batch(
     let made = moved.written;
     let mut values = [0i16; MOST_SUMS];
     let cuts = cut_sums(f.bits, &sums[..made], &mut values);
-    clock.cuts = held_sum(clock.cuts, cuts as u32);
+    clock.cuts = held_sum(clock.cuts, cuts);
     let written = filter(f, clock, lent, &values[..made], out);
     Moved {
         taken: moved.taken,

@@ -20,6 +20,7 @@ use Rattle.line.specs.Outputs.{Opening}
 use Rattle.line.specs.Line.{feed_span, opened, zeros}
 use Rattle.line.specs.Demand3.{History, none_yet, line_of, taken_of, written_of, Kept, Demand3}
 use Rattle.line.specs.declared.gauge_line.Line.{Line}
+use Rattle.line.proofs.Left as W
 use Rattle.client.specs.FeedAll.{one, Left, left, all_left, fed_on, AllKept}
 
 -- what is done in front of what is left
@@ -135,9 +136,9 @@ module _ (o : Opening) (xs : List ℤ) (out₀ : List Float) (pieces₀ spans₀
 
     -- one feed more
     module _ {p s : ℕ} (some_piece : k < length pieces) (some_span : k < length spans) (p_is : p ≡ get_or pieces k 0) (s_is : s ≡ get_or spans k 0)
-        {told : Outcome Moved Line} (told_is : told ≡ one line (drop at xs) (drop from out) p s)
-        (demand : Demand3 line (take p (drop at xs)) (take s (drop from out)) (feed_span line (take p (drop at xs)) (take s (drop from out))) told)
-        (long : length (feed_span line (take p (drop at xs)) (take s (drop from out))) ≡ length (take s (drop from out))) where
+        {told : Outcome Moved Line} (told_lent : told ≡ one line (W.left at xs) (W.left from out) p s)
+        (demand_lent : Demand3 line (take p (W.left at xs)) (take s (W.left from out)) (feed_span line (take p (W.left at xs)) (take s (W.left from out))) told)
+        (long_lent : length (feed_span line (take p (W.left at xs)) (take s (W.left from out))) ≡ length (take s (W.left from out))) where
       abbrev X : List ℤ
       X = drop at xs
 
@@ -155,6 +156,15 @@ module _ (o : Opening) (xs : List ℤ) (out₀ : List Float) (pieces₀ spans₀
 
       abbrev after : List Float
       after = take from out ++ (F ++ drop s O)
+
+      told_is : told ≡ one line X O p s
+      told_is = rw (W.left_are at xs, W.left_are from out) at told_lent
+
+      demand : Demand3 line (take p X) (take s O) F told
+      demand = rw (W.left_are at xs, W.left_are from out) at demand_lent
+
+      long : length F ≡ length (take s O)
+      long = rw (W.left_are at xs, W.left_are from out) at long_lent
 
       promised : Kept o (take p X) (take s O) (feed_span (line_of o w.history) (take p X) (take s O)) (one (line_of o w.history) X O p s) (taken_of o (fed_on w.history X O p s)) (written_of o (fed_on w.history X O p s))
       promised = kept_next o w.ok w.history line w.is X O p s told told_is demand
@@ -233,9 +243,12 @@ module _ (o : Opening) (xs : List ℤ) (out₀ : List Float) (pieces₀ spans₀
 
       -- the same, of a number and places that the loop has under names of its own
       pub onward_as :
-          {m : ℕ} {after' : List Float} → after' ≡ after → m ≡ min s (length after' - from)
+          {m : ℕ} {part after' : List Float} → part ≡ feed_span line (take p (W.left at xs)) (take s (W.left from out)) ++ drop s (W.left from out)
+          → after' ≡ take from out ++ (part ++ drop (length out - from) (drop from out)) → m ≡ min s (length after' - from)
           → Onward told.state (at + t) (from + m) (k + 1) after' (set pieces k t) (set spans k v)
-      onward_as {m} {after'} ea em =
+      onward_as {m} {part} {after'} ep ew em =
+          let same : part ≡ F ++ drop s O = rw (W.left_are at xs, W.left_are from out) at ep in
+          let ea : after' ≡ after = ew ∙ ap (λ (v : List Float). take from out ++ v) (W.none_behind from out part ∙ same) in
           let ek : k + 1 ≡ suc k = omega arith in
           let en : m ≡ min s (length out - from) = em ∙ ap (λ (n : ℕ). min s (n - from)) (ap length ea ∙ after_long_lem) in
           rw (en, ea, ek) onward

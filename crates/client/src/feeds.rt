@@ -1,5 +1,5 @@
 // A line is opened and fed again and again: what demand 3 says of every list of feeds, as the caller of a loop has it.
-ghost use Rattle.std.specs.Prelude.{◌≡◌, ◌++◌, ◌≤◌, length, take, drop};
+ghost use Rattle.std.specs.Prelude.{◌≡◌, ◌++◌, length, take, drop};
 ghost use Rattle.refusal.specs.Outcome.{number_in, value_in, told_on, none_moved};
 ghost use Rattle.line.specs.Line.{feed_outcome, feed_span, opened, zeros};
 ghost use Rattle.line.specs.Demand3.{Demand3, none_yet};
@@ -8,30 +8,28 @@ ghost use Rattle.client.specs.FeedAll.{all_left, AllKept};
 use line::{Line, Settings};
 use refusal::{Moved, Refusal};
 
-// One feed: it lends so many samples from `at` on and so many places from `from` on, or as many as are left.
+// One feed, of the samples and places that are left: it lends so many of each from the front on, or as many as there are.
 fn feed_part(
     line: &mut Line,
     samples: &[i32],
-    at: usize,
     piece: usize,
     out: &mut [f32],
-    from: usize,
     span: usize,
 ) -> Result<Moved, Refusal>
-    requires { (at ≤ length samples.now) × (from ≤ length out.old) }
-    ensures answer { told_on none_moved result line.new ≡ feed_outcome line.old (take piece (drop at samples.now)) (length (take span (drop from out.old))) }
-    ensures places { out.new ≡ take from out.old ++ (feed_span line.old (take piece (drop at samples.now)) (take span (drop from out.old)) ++ drop span (drop from out.old)) }
-    ensures long { length (feed_span line.old (take piece (drop at samples.now)) (take span (drop from out.old))) ≡ length (take span (drop from out.old)) }
-    ensures demand3 { Demand3 line.old (take piece (drop at samples.now)) (take span (drop from out.old)) (feed_span line.old (take piece (drop at samples.now)) (take span (drop from out.old))) (told_on none_moved result line.new) }
+    ensures answer { told_on none_moved result line.new ≡ feed_outcome line.old (take piece samples.now) (length (take span out.old)) }
+    ensures places { out.new ≡ feed_span line.old (take piece samples.now) (take span out.old) ++ drop span out.old }
+    ensures long { length (feed_span line.old (take piece samples.now) (take span out.old)) ≡ length (take span out.old) }
+    ensures demand3 { Demand3 line.old (take piece samples.now) (take span out.old) (feed_span line.old (take piece samples.now) (take span out.old)) (told_on none_moved result line.new) }
 {
-    let past = at + piece.min(samples.len() - at);
-    let end = from + span.min(out.len() - from);
-    line.feed(&samples[at..past], &mut out[from..end])
+    let past = piece.min(samples.len());
+    let end = span.min(out.len());
+    line.feed(&samples[..past], &mut out[..end])
 }
 
 // Opens a line and feeds it as often as both `pieces` and `spans` have a number: pieces[k] is how many samples feed k lends, and afterwards how many it took;
 // spans[k] how many places, and afterwards how many outputs stand in front of them. Samples that a feed leaves the next one lends first; the spans lie one
-// behind the other in `out`. A refused opening leaves everything as it is.
+// behind the other in `out`. A refused opening leaves everything as it is. Two lists and not one of structs, since either may be the longer one. Settings, taps
+// and prototype stay three, as `Line::open` takes them: a struct would be made for this call, and taken apart in its first line.
 pub fn feed_all(
     settings: Settings,
     taps: &[i16],
@@ -51,7 +49,7 @@ pub fn feed_all(
     // By number, since of what is written through two zipped `iter_mut` a proof knows the lengths alone.
     for k in 0..pieces.len().min(spans.len()) {
         let (piece, span) = (pieces[k], spans[k]);
-        let moved = feed_part(&mut line, samples, at, piece, out, from, span)?;
+        let moved = feed_part(&mut line, &samples[at..], piece, &mut out[from..], span)?;
         pieces[k] = moved.taken;
         spans[k] = moved.written;
         at += moved.taken;

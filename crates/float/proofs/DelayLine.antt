@@ -1,7 +1,9 @@
 -- A delay line as its loop moves it: after t turns the new value and the first t − 1 old ones stand in front, and the value for place t is held.
-use Rattle.std.proofs.Common.{◌≡◌, ℕ, ◌+◌, ◌<◌, ◌≤◌, List, ◌∷◌, ◌++◌, length, get_or, take, drop, set, sym, ap, ◌∙◌, subst, add-zero, zero-add, add-one, arith, length-take-le, get_or-drop, get_or-append-add}
+use Rattle.std.proofs.Common.{◌≡◌, ℕ, ◌+◌, ◌<◌, ◌≤◌, List, [], ◌∷◌, ◌++◌, length, get_or, take, drop, set, sym, ap, ◌∙◌, subst, add-zero, zero-add, add-one, arith, append-nil, take-take, drop_of_length-le, le-leb, length-take-le, get_or-drop, get_or-append-add}
 use lib.Seq.{paste, paste-suc}
 use lib.Ieee.{Float, nan}
+use Rattle.float.specs.PolyphaseResamp.{most_taps, shifted_in}
+use Rattle.float.proofs.Tape.{one_more}
 
 abbrev pub slid : List Float → Float → ℕ → List Float
 slid d x t = paste d 0 (x ∷ d) t
@@ -24,3 +26,12 @@ slide d x t h =
 
 pub held_next : (d : List Float) (x : Float) (t : ℕ) → t ≤ length d → get_or (slid d x t) t nan ≡ get_or (x ∷ d) (t + 1) nan
 held_next d x t h = at_turn d x t h ∙ ap (λ (z : ℕ). get_or (x ∷ d) z nan) (sym (add-one t))
+
+-- a whole row of T, the places behind it as they were
+pub slid_row :
+    (T n : ℕ) (x : Float) (d : List Float) → n ≡ length (take T d) → T ≤ most_taps → most_taps ≤ length d → slid (take T d) x n ++ drop T d ≡ shifted_in T x d
+unfolding shifted_in
+slid_row T n x d e few long =
+    let all : length (take T d) ≡ T = length-take-le T d (omega (arith, few, long)) in
+    let none : drop (0 + T) (take T d) ≡ [] = drop_of_length-le (take T d) (omega (arith, all)) in
+    rw (e, all, none, append-nil (take T (x ∷ take T d)), one_more T x (take T d) d (take-take T T d (omega arith)), le-leb T 16 few)

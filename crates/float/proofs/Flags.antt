@@ -1,7 +1,6 @@
 -- A flag as a proposition, both ways.
-use Rattle.std.proofs.Common.{◌≡◌, Bool, true, false, not, ◌&&◌, ◌||◌, T, refl}
+use Rattle.std.proofs.Common.{◌≡◌, Bool, true, false, not, T, refl}
 use mathlib.Core.Path.{subst⁻¹}
-use mathlib.Core.Bool.{false≢true}
 
 pub is : (b : Bool) → b ≡ true → T b
 is b e = subst⁻¹ T e tt

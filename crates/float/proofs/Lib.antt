@@ -11,6 +11,7 @@ pub mod LinePace
 pub mod PolyphaseWhole
 pub mod DueOutputs
 pub mod PolyphaseCalls
+pub mod FloatRange
 pub mod ResampleLinear
 pub mod Levels
 pub mod Same

@@ -1,17 +1,16 @@
--- A list in front of zeros: copied to the front of an array of zeros, as many places as both have, or kept in its own array, of which the rest is written over.
-use Rattle.std.proofs.Common.{◌≡◌, ℕ, zero, suc, ◌<◌, ◌-◌, min, Bool, true, false, ltb, List, ◌++◌, ◌≤◌, length, take, drop, replicate, sym, refl, ap, ◌∙◌, ap₂, arith, take_all, ltb-true, ltb-false, append-nil, length-take, take-take}
+-- A list in front of zeros, as many of it as there are places: laid into an array of its own, or kept in the array that it stands in, of which the rest is written over.
+use Rattle.std.proofs.Common.{◌≡◌, ℕ, ◌<◌, ◌-◌, min, Bool, true, false, ltb, List, ◌++◌, ◌≤◌, length, take, drop, replicate, sym, refl, ap, ◌∙◌, ap₂, arith, take_all, ltb-true, ltb-false, append-nil, length-take, take-take}
 use borrow.Rule.Slice.PartMut.{mid_of, put_mid}
 use lib.ListN.{length-drop, drop_of_length-le}
-use Rattle.std.proofs.lemmas.List.{drop-replicate}
 use lib.Ieee.{Float}
 use Rattle.float.specs.F32.{zero32}
 use Rattle.float.specs.PolyphaseResamp.{packed}
 
-pub packed_front : (h front : List Float) (n : ℕ) → n ≡ min (length h) 1024 → front ≡ take n h → front ++ drop n (replicate 1024 zero32) ≡ packed h
+pub packed_front : (h front : List Float) (n : ℕ) → n ≡ min (length h) 1024 → front ≡ take n h → front ++ replicate (1024 - n) zero32 ≡ packed h
 unfolding packed
 packed_front h front n e f =
     let left : 1024 - n ≡ 1024 - length h = omega (arith, e) in
-    ap₂ {C = List Float} (λ a b. a ++ b) (f ∙ same (ltb 1024 (length h)) refl) (drop-replicate n 1024 zero32 ∙ ap (λ (k : ℕ). replicate k zero32) left)
+    ap₂ {C = List Float} (λ a b. a ++ b) (f ∙ same (ltb 1024 (length h)) refl) (ap (λ (k : ℕ). replicate k zero32) left)
   where
     same : (b : Bool) → ltb 1024 (length h) ≡ b → take n h ≡ take 1024 h
     same true g = let all : n ≡ 1024 = omega (arith, e, ltb-true _ _ g) in ap (λ (k : ℕ). take k h) all
@@ -25,8 +24,8 @@ kept d zs n k e long z =
     let behind : length (drop n d) ≤ 1024 - n = omega (arith, length-drop n d, long) in
     let at : n ≡ min (length (take k d)) 1024 = omega (arith, count, long, e) in
     let front : take n d ≡ take n (take k d) = sym (take-take n k d (omega (arith, e))) in
-    ap₂ {C = List Float} (λ (a b : List Float). take n d ++ (a ++ b)) (z ∙ ap (λ (m : ℕ). replicate m zero32) places ∙ sym (drop-replicate n 1024 zero32)) (drop_of_length-le (drop n d) behind)
-    ∙ ap (λ (a : List Float). take n d ++ a) (append-nil (drop n (replicate 1024 zero32)))
+    ap₂ {C = List Float} (λ (a b : List Float). take n d ++ (a ++ b)) (z ∙ ap (λ (m : ℕ). replicate m zero32) places) (drop_of_length-le (drop n d) behind)
+    ∙ ap (λ (a : List Float). take n d ++ a) (append-nil (replicate (1024 - n) zero32))
     ∙ packed_front (take k d) (take n d) n at front
 
 -- as many as a product held at the greatest usize says

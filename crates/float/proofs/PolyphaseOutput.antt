@@ -1,8 +1,10 @@
 -- The resampler's output from its parts: what the limits of P and T say, that each index lies in the prototype and each phase is a float exactly.
-use Rattle.std.proofs.Common.{◌≡◌, ℕ, zero, suc, ◌+◌, ◌*◌, ◌%◌, ◌<◌, ◌≤◌, Bool, true, false, cond, T, ltb, leb, List, get_or, pos, sym, refl, ap, ◌∙◌, ap₂, le_trans, le_of_lt, mul-le-mul_right, mod-lt, mod-eq_of_lt, suc-mul, mul_comm, mul-le-mul, add-one, arith, lit≤, le→leb, leb→le, ltb-true, lt-ltb, leb-true}
+use Rattle.std.proofs.Common.{◌≡◌, ℕ, zero, suc, ◌+◌, ◌*◌, ◌%◌, ◌<◌, ◌≤◌, Bool, true, false, cond, T, ltb, leb, List, length, take, get_or, pos, sym, refl, ap, ◌∙◌, ap₂, le_trans, le_of_lt, mul-le-mul_right, mod-lt, mod-eq_of_lt, suc-mul, mul_comm, mul-le-mul, add-one, arith, get_or-take, lit≤, le→leb, leb→le, ltb-true, ltb-false, lt-ltb, leb-true}
 use native.Mathlib.Nat.{mod_self}
 use lib.Ieee.{Float, nan, binary32, of_int, in_float, to_unsigned, add, sub, mul}
 use Rattle.std.proofs.lemmas.Nat.{mul-add-lt}
+use Rattle.std.proofs.lemmas.List.{get_or_default}
+use Rattle.std.proofs.Math.ListN.{get_or-eq_default}
 use Rattle.float.specs.F32.{one32, zero32, blend}
 use Rattle.float.specs.PolyphaseOutput.{tap, straight_tap, reading, cut_unit, place, phase0, phase1, first_place, second_place, fraction, phase_sum, output}
 use Rattle.float.specs.PolyphaseResamp.{within, in_limits, Inside}
@@ -79,6 +81,10 @@ unfolding phase_sum
 sums_alike taps other d e T alike delays zero a = refl
 sums_alike taps other d e T alike delays (suc t) a = rw (sums_alike taps other d e T alike delays t (omega arith), alike t a, delays t a)
 
+-- a front has the sums of its list, as far as it goes
+pub sum_front : (taps : ℕ → Float) (d : List Float) (n m : ℕ) → m ≡ n → phase_sum taps (take n d) m ≡ phase_sum taps d n
+sum_front taps d n m e = rw e (sums_alike taps taps (take n d) d n (λ t a. refl) (λ t a. get_or-take n d t nan a) n (omega arith))
+
 -- before the prototype's end the two readings are one
 pub read_before : (h : List Float) (P T p t : ℕ) → t * P + p < P * T → tap h P p t ≡ straight_tap h P T p t
 unfolding tap straight_tap
@@ -86,6 +92,14 @@ read_before h P T p t l = rw (lt-ltb (t * P + p) (P * T) l)
 
 pub sums_before : (h d : List Float) (P T p : ℕ) → p < P → phase_sum (tap h P p) d T ≡ phase_sum (straight_tap h P T p) d T
 sums_before h d P T p m = sums_alike (tap h P p) (straight_tap h P T p) d d T (λ t a. read_before h P T p t (mul-add-lt t P p T a m)) (λ t a. refl) T (omega arith)
+
+-- a cell of the n in front, or zero past them
+pub cell_front : (w h : List Float) (n i : ℕ) → (w ≡ take n h) × (length w ≡ n) → get_or w i zero32 ≡ cond (ltb i n) (get_or h i nan) zero32
+cell_front w h n i e = go (ltb i n) refl
+  where
+    go : (b : Bool) → ltb i n ≡ b → get_or w i zero32 ≡ cond b (get_or h i nan) zero32
+    go true q = let l = ltb-true i n q in get_or_default w i zero32 nan (omega (arith, l, e.1)) ∙ rw e.0 (get_or-take n h i nan l)
+    go false q = get_or-eq_default w zero32 (omega (arith, ltb-false i n q, e.1))
 
 -- in straight phase, the last tap's cell i added to the sum of all others
 pub last_straight :

@@ -16,7 +16,7 @@ unfolding ending_in
 ends_in w span h = rw (le-ltb (length span) (length w) h)
 
 -- of the samples behind x only T − 1 stay
-one_more : (T : ℕ) (x : Float) (l a : List Float) → take T l ≡ take T a → take T (x ∷ l) ≡ take T (x ∷ a)
+pub one_more : (T : ℕ) (x : Float) (l a : List Float) → take T l ≡ take T a → take T (x ∷ l) ≡ take T (x ∷ a)
 one_more zero x l a e = refl
 one_more (suc n) x l a e = ap (λ (t : List Float). x ∷ t) (sym (take-take n (suc n) l (omega arith)) ∙ ap (take n) e ∙ take-take n (suc n) a (omega arith))
 

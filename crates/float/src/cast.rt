@@ -31,7 +31,7 @@ pub fn f32_to_usize_saturating(x: f32) -> usize
         if x < 18446744073709551616.0 {
             return std::num::truncating_f32_to_u64(x) as usize;
         }
-        return 18446744073709551615;
+        return usize::MAX;
     }
     whole_part(x)
 }

@@ -6,7 +6,7 @@ ghost use Rattle.float.specs.PolyphaseOutput.{cut_unit};
 ghost use Rattle.float.specs.PolyphaseResamp as R;
 
 use crate::interpolation::Reading;
-use crate::settings::{MOST_CELLS, MOST_TAPS, Setting, in_limits};
+use crate::settings::{MOST_CELLS, MOST_PHASE_TAPS, Setting, in_limits};
 
 // Where the next output lies after those that were due, and how many places of the span are written.
 #[derive(Drop)]
@@ -26,15 +26,16 @@ fn cut_below(x: f32) -> f32
 
 // The sample x goes in at the front of the delay's first T places. Where there are no T places, nothing moves.
 #[tactic(auto, unfolding(crate::specs::PolyphaseResamp::shifted_in))]
-pub fn shift_in(delay: &mut [f32; MOST_TAPS], taps: usize, x: f32)
+pub fn shift_in(delay: &mut [f32; MOST_PHASE_TAPS], taps: usize, x: f32)
     ensures { delay.new ≡ R.shifted_in taps x delay.old }
 {
-    if MOST_TAPS < taps {
+    if MOST_PHASE_TAPS < taps {
         return;
     }
+    // Place by place: by `copy_within` a push takes 2 to 8 % longer, since a call moves so few places.
     let mut held = x;
-    for t in 0..taps {
-        held = std::mem::replace(&mut delay[t], held);
+    for place in &mut delay[..taps] {
+        held = std::mem::replace(place, held);
     }
 }
 
@@ -60,11 +61,12 @@ impl Reading<'_> {
 
 impl Setting {
     // What is due from mu on is written from the place `from` of dst on, as long as it has a place. Where P or T is outside its limits, nothing. A leaf for `push`
-    // and the line, which have looked at the numbers: it refuses nothing.
+    // and the line, which have looked at the numbers: it refuses nothing. With the part of dst from there on lent in place of dst and `from` a block of a resampler
+    // costs up to a sixteenth more.
     pub fn write_due(
         self,
         prototype: &[f32; MOST_CELLS],
-        delay: &[f32; MOST_TAPS],
+        delay: &[f32; MOST_PHASE_TAPS],
         mu: f32,
         dst: &mut [f32],
         from: usize,

@@ -1,5 +1,5 @@
 // 01, section 5: one output of the polyphase resampler.
-ghost use Rattle.std.specs.Prelude.{◌≡◌, ◌+◌, ◌<◌, ◌≤◌, true, false, length, if◌then◌else◌, from_bits, nat_lt, slice_index_or};
+ghost use Rattle.std.specs.Prelude.{◌≡◌, ◌+◌, ◌*◌, ◌<◌, ◌≤◌, true, false, length, take, if◌then◌else◌, from_bits, slice_index_or};
 ghost use Rattle.std.specs.Float.{nan, binary32};
 ghost use Rattle.std.specs.Float.Ieee.{le, to_unsigned};
 ghost use Rattle.float.specs.F32.{zero32, blend};
@@ -7,7 +7,7 @@ ghost use Rattle.float.specs.PolyphaseOutput.{tap, straight_tap, cut_unit, first
 ghost use Rattle.float.specs.PolyphaseResamp as R;
 
 use crate::cast::whole_part;
-use crate::settings::{MOST_CELLS, MOST_TAPS, Setting, in_limits};
+use crate::settings::{MOST_CELLS, MOST_PHASE_TAPS, Setting, in_limits};
 
 // A prototype, and a setting inside the limits by which it is read.
 #[derive(Clone, Copy)]
@@ -40,19 +40,19 @@ fn first_place(straight: bool, q: f32, phases: usize) -> usize
     }
 }
 
-// f of the way from y0 to y1.
-fn blend_of(y0: f32, y1: f32, f: f32) -> f32
-    ensures { result ≡ blend y0 y1 f }
+// f of the way from the first sum to the second.
+fn blend_of(sums: (f32, f32), f: f32) -> f32
+    ensures { result ≡ blend sums.0 sums.1 f }
 {
+    let (y0, y1) = sums;
     y0 * (1.0 - f) + y1 * f
 }
 
-// The cell at i of the prototype's first so many, and 0.0 past them.
-fn cell_at(prototype: &[f32; MOST_CELLS], cells: usize, i: usize) -> f32
-    requires { cells ≤ R.most_cells }
-    ensures { result ≡ (if nat_lt i cells then slice_index_or prototype.now i nan else zero32) }
+// The cell at i, and 0.0 past the last.
+fn cell_at(cells: &[f32], i: usize) -> f32
+    ensures { result ≡ slice_index_or cells.now i zero32 }
 {
-    if i < cells { prototype[i] } else { 0.0 }
+    cells.get(i).copied().unwrap_or(0.0)
 }
 
 impl<'a> Reading<'a> {
@@ -64,49 +64,45 @@ impl<'a> Reading<'a> {
     {
         Reading { prototype, setting }
     }
+
+    // The P × T cells.
+    fn cells(self) -> &'a [f32]
+        ensures { let r = self.entry in
+            let n = r.setting.phases * r.setting.taps in
+            (result.now ≡ take n r.prototype.now) × (length result.now ≡ n) }
+    {
+        let prototype = self.prototype;
+        &prototype[..self.setting.phases * self.setting.taps]
+    }
 }
 
 impl Reading<'_> {
-    // The sums over the first `count` taps of the cells from p0 and from p1 on, P apart.
+    // The sums over the delay's places, a tap for each, of the cells from p0 and from p1 on, P apart.
     #[tactic(auto, unfolding(crate::specs::PolyphaseOutput::phase_sum, crate::specs::PolyphaseOutput::tap, crate::specs::PolyphaseResamp::Inside))]
-    fn summed(self, delay: &[f32], count: usize, p0: usize, p1: usize) -> (f32, f32)
-        requires { (count ≤ R.most_taps) × (count ≤ length delay.now) × R.Inside self.setting.phases count p0 × R.Inside self.setting.phases count p1 }
+    fn summed(self, delay: &[f32], p0: usize, p1: usize) -> (f32, f32)
+        requires { let n = length delay.now in
+            (n ≤ R.most_taps) × R.Inside self.setting.phases n p0 × R.Inside self.setting.phases n p1 }
         ensures { let r = self.entry in
             let h = r.prototype.now in
             let d = delay.now in
             let P = r.setting.phases in
-            (result.0 ≡ phase_sum (tap h P p0) d count) × (result.1 ≡ phase_sum (tap h P p1) d count) }
+            (result.0 ≡ phase_sum (tap h P p0) d (length d)) × (result.1 ≡ phase_sum (tap h P p1) d (length d)) }
     {
         let prototype = self.prototype;
         let phases = self.setting.phases;
         let mut y0 = 0.0f32;
         let mut y1 = 0.0f32;
-        for t in 0..count {
-            let x = delay[t];
+        for (t, &x) in delay.iter().enumerate() {
             y0 += prototype[t * phases + p0] * x;
             y1 += prototype[t * phases + p1] * x;
         }
         (y0, y1)
     }
 
-    // The sums of phases p0 and p1 over the taps, f of the way from the one to the other.
-    fn blended(self, delay: &[f32], p0: usize, p1: usize, f: f32) -> f32
-        requires { (self.setting.taps ≤ length delay.now) × (p0 < self.setting.phases) × (p1 < self.setting.phases) }
-        ensures { let r = self.entry in
-            let h = r.prototype.now in
-            let d = delay.now in
-            let P = r.setting.phases in
-            let T = r.setting.taps in
-            result ≡ blend (phase_sum (tap h P p0) d T) (phase_sum (tap h P p1) d T) f }
-    {
-        let (y0, y1) = self.summed(delay, self.setting.taps, p0, p1);
-        blend_of(y0, y1, f)
-    }
-
     // In straight phase, the sums from place p, at the prototype's end, and from the next place on, f of the way from the one to the other. But for the last tap
     // both places lie before the end; past it a tap is 0.0.
     fn blended_at_the_end(self, delay: &[f32], p: usize, f: f32) -> f32
-        requires { (self.setting.taps ≤ length delay.now) × (p ≤ self.setting.phases) }
+        requires { (length delay.now ≡ self.setting.taps) × (p ≤ self.setting.phases) }
         ensures { let r = self.entry in
             let h = r.prototype.now in
             let d = delay.now in
@@ -115,13 +111,13 @@ impl Reading<'_> {
             result ≡ blend (phase_sum (straight_tap h P T p) d T) (phase_sum (straight_tap h P T (p + 1)) d T) f }
     {
         let last = self.setting.taps - 1;
-        let (y0, y1) = self.summed(delay, last, p, p + 1);
-        let cells = self.setting.phases * self.setting.taps;
+        let (y0, y1) = self.summed(&delay[..last], p, p + 1);
+        let cells = self.cells();
         let from = last * self.setting.phases;
         let x = delay[last];
-        let c0 = cell_at(self.prototype, cells, from + p);
-        let c1 = cell_at(self.prototype, cells, from + p + 1);
-        blend_of(y0 + c0 * x, y1 + c1 * x, f)
+        let c0 = cell_at(cells, from + p);
+        let c1 = cell_at(cells, from + p + 1);
+        blend_of((y0 + c0 * x, y1 + c1 * x), f)
     }
 
     // One output at a mu that is cut, by the setting. Below the last phase both settings read the same cells. There and at the end in straight phase the two places
@@ -133,16 +129,17 @@ impl Reading<'_> {
     {
         let phases = self.setting.phases;
         let straight = self.setting.straight;
+        let window = &delay[..self.setting.taps];
         let q = (1.0 - mu) * (phases as f32);
         let p = first_place(straight, q, phases);
         let f = q - (p as f32);
         if p + 1 < phases {
-            return self.blended(delay, p, p + 1, f);
+            return blend_of(self.summed(window, p, p + 1), f);
         }
         if straight {
-            return self.blended_at_the_end(delay, p, f);
+            return self.blended_at_the_end(window, p, f);
         }
-        self.blended(delay, p, 0, f)
+        blend_of(self.summed(window, p, 0), f)
     }
 }
 
@@ -152,7 +149,7 @@ impl Setting {
     pub fn interpolate(
         self,
         prototype: &[f32; MOST_CELLS],
-        delay: &[f32; MOST_TAPS],
+        delay: &[f32; MOST_PHASE_TAPS],
         mu: f32,
     ) -> f32
         ensures { result ≡ (if R.in_limits self.phases self.taps then output self.straight self.phases self.taps mu delay.now prototype.now else zero32) }

@@ -4,7 +4,7 @@ ghost use Rattle.refusal.specs.Outcome.{number_in, told_reset};
 ghost use Rattle.float.specs.PolyphaseResamp as R;
 ghost use Rattle.float.specs.PolyphaseWhole as W;
 
-use crate::settings::{MOST_CELLS, MOST_TAPS, Setting, above_zero, in_limits};
+use crate::settings::{MOST_CELLS, MOST_PHASE_TAPS, Setting, above_zero, in_limits};
 use refusal::Refusal;
 
 // Of the cells so many are kept, and zeros stand behind them.
@@ -17,7 +17,7 @@ fn keep(cells: &mut [f32; MOST_CELLS], count: usize)
 impl Setting {
     // Rows 12, 13 and 14.
     #[tactic(auto, unfolding(crate::specs::PolyphaseResamp::opening))]
-    pub(crate) fn answer(self, prototype: &[f32]) -> Result<(), Refusal>
+    fn answer(self, prototype: &[f32]) -> Result<(), Refusal>
         ensures { number_in result ≡ (R.opening self.straight self.phases self.taps prototype.now self.step).number }
     {
         if !in_limits(self.phases, self.taps) {
@@ -35,7 +35,12 @@ impl Setting {
     // The fresh state of the prototype that stands in front of the cells. A leaf for the openings and resets here and the line's, which have looked at the settings: it
     // refuses nothing.
     #[tactic(auto, unfolding(crate::specs::PolyphaseResamp::fresh, crate::specs::PolyphaseResamp::own_taps))]
-    pub fn begin(self, mu: &mut f32, delay: &mut [f32; MOST_TAPS], cells: &mut [f32; MOST_CELLS])
+    pub fn begin(
+        self,
+        mu: &mut f32,
+        delay: &mut [f32; MOST_PHASE_TAPS],
+        cells: &mut [f32; MOST_CELLS],
+    )
         ensures { let own = R.own_taps (R.state_of self mu.old delay.old cells.old) in
             R.state_of self mu.new delay.new cells.new ≡ R.fresh self.straight self.phases self.taps own self.step }
     {
@@ -48,7 +53,7 @@ impl Setting {
     #[tactic(auto, unfolding(crate::specs::PolyphaseResamp::zeros))]
     pub fn clear(
         mu: &mut f32,
-        delay: &mut [f32; MOST_TAPS],
+        delay: &mut [f32; MOST_PHASE_TAPS],
         cells: &mut [f32; MOST_CELLS],
     ) -> Setting
         ensures { R.state_of result mu.new delay.new cells.new ≡ R.zeros }
@@ -69,7 +74,7 @@ impl Setting {
         &mut self,
         prototype: &[f32],
         mu: &mut f32,
-        delay: &mut [f32; MOST_TAPS],
+        delay: &mut [f32; MOST_PHASE_TAPS],
         cells: &mut [f32; MOST_CELLS],
     ) -> Result<(), Refusal>
         ensures answer { told_reset result (R.state_of self.new mu.new delay.new cells.new)
@@ -95,7 +100,7 @@ impl Setting {
     pub fn reset(
         self,
         mu: &mut f32,
-        delay: &mut [f32; MOST_TAPS],
+        delay: &mut [f32; MOST_PHASE_TAPS],
         cells: &mut [f32; MOST_CELLS],
     ) -> Result<(), Refusal>
         ensures answer { told_reset result (R.state_of self mu.new delay.new cells.new) ≡ R.reset (R.state_of self mu.old delay.old cells.old) }

@@ -4,11 +4,12 @@ ghost use Rattle.refusal.specs.Outcome.{told_opened, told_on, told_reset, none_m
 ghost use Rattle.float.specs.PolyphaseResamp as R;
 ghost use Rattle.float.specs.PolyphaseWhole as W;
 
-use crate::settings::{MOST_CELLS, MOST_TAPS, Setting};
+use crate::settings::{MOST_CELLS, MOST_PHASE_TAPS, Setting};
+use q15::padding::padded;
 use refusal::{Moved, Refusal};
 
 // P and T, how the prototype is read, where the next output lies between two samples, how far it goes on with each output, the last T samples with the
-// newest first, and the prototype with tap t of phase p at t × P + p.
+// newest first, and the prototype with tap t of phase p at t × P + p. The numbers stand one by one and not as a `Setting`, as C holds them and callers name them.
 #[derive(Clone, Copy)]
 pub struct PolyphaseResampF32 {
     pub phases: usize,
@@ -16,44 +17,27 @@ pub struct PolyphaseResampF32 {
     pub straight: bool,
     pub mu: f32,
     pub step: f32,
-    pub delay: [f32; MOST_TAPS],
+    pub delay: [f32; MOST_PHASE_TAPS],
     pub prototype: [f32; MOST_CELLS],
 }
 
-// The prototype in front, zeros behind; what is past the last place is not read.
-fn packed(prototype: &[f32]) -> [f32; MOST_CELLS]
-    ensures { result ≡ R.packed prototype.now }
+// An opening by the state's own setting, where its arrays lie; what else the state holds is not read. Refused by 12, 13, 14.
+fn opened(mut state: PolyphaseResampF32, prototype: &[f32]) -> Result<PolyphaseResampF32, Refusal>
+    ensures answer { told_opened R.zeros result ≡ R.opening state.straight state.phases state.taps prototype.now state.step }
+    ensures whole { W.Opens state.straight state.phases state.taps prototype.now state.step (told_opened R.zeros result) }
 {
-    let mut cells = [0.0f32; MOST_CELLS];
-    let count = prototype.len().min(MOST_CELLS);
-    cells[..count].copy_from_slice(&prototype[..count]);
-    cells
-}
-
-// An opening by the setting. Refused by 12, 13, 14.
-#[tactic(auto, unfolding(crate::specs::PolyphaseResamp::opening))]
-fn opened(
-    straight: bool,
-    phases: usize,
-    taps: usize,
-    prototype: &[f32],
-    step: f32,
-) -> Result<PolyphaseResampF32, Refusal>
-    ensures answer { told_opened R.zeros result ≡ R.opening straight phases taps prototype.now step }
-    ensures whole { W.Opens straight phases taps prototype.now step (told_opened R.zeros result) }
-{
-    let setting = Setting {
-        phases,
-        taps,
-        straight,
-        step,
-    };
-    setting.answer(prototype)?;
-    Ok(PolyphaseResampF32::fresh(setting, prototype))
+    let mut setting = state.setting();
+    setting.open(
+        prototype,
+        &mut state.mu,
+        &mut state.delay,
+        &mut state.prototype,
+    )?;
+    Ok(state)
 }
 
 impl PolyphaseResampF32 {
-    // The state that C is given of a refused opening, and in the line of a resampler that is off.
+    // The state that C is given of a refused opening, and in the line of a resampler that is off. `Setting::clear` clears a state that there is, and this makes one.
     #[tactic(auto, unfolding(crate::specs::PolyphaseResamp::zeros))]
     pub fn zeros() -> Self
         ensures { result ≡ R.zeros }
@@ -64,24 +48,26 @@ impl PolyphaseResampF32 {
             straight: false,
             mu: 0.0,
             step: 0.0,
-            delay: [0.0f32; MOST_TAPS],
+            delay: [0.0f32; MOST_PHASE_TAPS],
             prototype: [0.0f32; MOST_CELLS],
         }
     }
 
-    // The state of an opening: mu is 1.0 and every delay zero. A leaf for the openings here and the line's, which have looked at the settings: it refuses nothing.
+    // The state of an opening: mu is 1.0, every delay zero, the prototype in front and zeros behind. A leaf for the line's openings, which have looked at the settings:
+    // it refuses nothing. `Setting::begin` would not do, since it keeps P × T places of a prototype, and this keeps all that there are places for.
     #[tactic(auto, unfolding(crate::specs::PolyphaseResamp::fresh))]
     pub fn fresh(setting: Setting, prototype: &[f32]) -> Self
         ensures { result ≡ R.fresh setting.straight setting.phases setting.taps prototype.now setting.step }
     {
+        let count = prototype.len().min(MOST_CELLS);
         PolyphaseResampF32 {
             phases: setting.phases,
             taps: setting.taps,
             straight: setting.straight,
             mu: 1.0,
             step: setting.step,
-            delay: [0.0f32; MOST_TAPS],
-            prototype: packed(prototype),
+            delay: [0.0f32; MOST_PHASE_TAPS],
+            prototype: padded(&prototype[..count], 0.0),
         }
     }
 
@@ -108,7 +94,16 @@ impl PolyphaseResampF32 {
         ensures answer { told_opened R.zeros result ≡ R.opening false phases taps prototype.now step }
         ensures whole { W.Opens false phases taps prototype.now step (told_opened R.zeros result) }
     {
-        opened(false, phases, taps, prototype, step)
+        opened(
+            PolyphaseResampF32 {
+                phases,
+                taps,
+                straight: false,
+                step,
+                ..PolyphaseResampF32::zeros()
+            },
+            prototype,
+        )
     }
 
     // `from_taps` in straight phase: the prototype is one row of P × T places, read at t × P + p and the next, and zero past its end.
@@ -121,7 +116,16 @@ impl PolyphaseResampF32 {
         ensures answer { told_opened R.zeros result ≡ R.opening true phases taps prototype.now step }
         ensures whole { W.Opens true phases taps prototype.now step (told_opened R.zeros result) }
     {
-        opened(true, phases, taps, prototype, step)
+        opened(
+            PolyphaseResampF32 {
+                phases,
+                taps,
+                straight: true,
+                step,
+                ..PolyphaseResampF32::zeros()
+            },
+            prototype,
+        )
     }
 
     // Samples of src become outputs in dst, as long as dst has a place. Refused by 15.

@@ -6,13 +6,13 @@ ghost use Rattle.float.specs.PolyphaseResamp as R;
 
 use crate::due::shift_in;
 use crate::interpolation::Reading;
-use crate::settings::{MOST_CELLS, MOST_TAPS, Setting};
+use crate::settings::{MOST_CELLS, MOST_PHASE_TAPS, Setting};
 use crate::span::put_at_end;
 use refusal::{Moved, Refusal};
 
 // A run writes the samples it consumes one before the other on a tape, so that the delay need not be moved for each; what is on it goes back to its end
 // where no place is left before it.
-const TAPE: usize = 64 + MOST_TAPS;
+const TAPE: usize = 64 + MOST_PHASE_TAPS;
 
 // The sample x goes in before the newest on the tape; what it returns is x's place.
 fn take_in(tape: &mut [f32; TAPE], newest: usize, taps: usize, x: f32) -> usize
@@ -33,7 +33,13 @@ fn take_in(tape: &mut [f32; TAPE], newest: usize, taps: usize, x: f32) -> usize
 impl Reading<'_> {
     // Outputs that are due are written, then a sample is consumed, until dst is full or a sample is wanted and none is left. No range: mu says what a turn does. The
     // outputs stand in a loop of their own so that the compiler inlines each into it.
-    fn run(self, mu: &mut f32, delay: &mut [f32; MOST_TAPS], src: &[f32], dst: &mut [f32]) -> Moved
+    fn run(
+        self,
+        mu: &mut f32,
+        delay: &mut [f32; MOST_PHASE_TAPS],
+        src: &[f32],
+        dst: &mut [f32],
+    ) -> Moved
         ensures { R.RanTo self.entry.setting mu.old self.entry.prototype.now delay.old src.now dst.old result mu.new delay.new dst.new }
     {
         let taps = self.setting.taps;
@@ -49,10 +55,10 @@ impl Reading<'_> {
                 at = due.mu;
                 written = due.written;
             } else {
-                if src.len() <= taken {
+                let Some(&x) = src.get(taken) else {
                     break;
-                }
-                newest = take_in(&mut tape, newest, taps, src[taken]);
+                };
+                newest = take_in(&mut tape, newest, taps, x);
                 taken += 1;
                 at -= 1.0;
             }
@@ -68,7 +74,7 @@ impl Setting {
     pub fn block(
         self,
         mu: &mut f32,
-        delay: &mut [f32; MOST_TAPS],
+        delay: &mut [f32; MOST_PHASE_TAPS],
         prototype: &[f32; MOST_CELLS],
         src: &[f32],
         dst: &mut [f32],
@@ -86,7 +92,7 @@ impl Setting {
     pub fn push(
         self,
         mu: &mut f32,
-        delay: &mut [f32; MOST_TAPS],
+        delay: &mut [f32; MOST_PHASE_TAPS],
         prototype: &[f32; MOST_CELLS],
         x: f32,
         out: &mut [f32],

@@ -9,9 +9,9 @@ pub const MOST_PHASES: usize = 64;
 
 pub const LEAST_TAPS: usize = 1;
 
-pub const MOST_TAPS: usize = 16;
+pub const MOST_PHASE_TAPS: usize = 16;
 
-pub const MOST_CELLS: usize = MOST_PHASES * MOST_TAPS;
+pub const MOST_CELLS: usize = MOST_PHASES * MOST_PHASE_TAPS;
 
 const LOWEST_MU: f32 = -16777216.0;
 
@@ -41,23 +41,23 @@ pub fn above_zero(x: f32) -> bool
 pub fn in_limits(phases: usize, taps: usize) -> bool
     ensures { result ≡ R.in_limits phases taps }
 {
-    (LEAST_PHASES..=MOST_PHASES).contains(&phases) && (LEAST_TAPS..=MOST_TAPS).contains(&taps)
+    (LEAST_PHASES..=MOST_PHASES).contains(&phases) && (LEAST_TAPS..=MOST_PHASE_TAPS).contains(&taps)
 }
 
 // Whether mu is from low to 1.0 + step as rounded.
-#[tactic(auto, unfolding(crate::specs::PolyphaseResamp::mu_from))]
+#[tactic(auto, unfolding(crate::specs::PolyphaseResamp::mu_from), using(crate::proofs::FloatRange::at_most))]
 fn mu_from(low: f32, step: f32, mu: f32) -> bool
     ensures { result ≡ R.mu_from low step mu }
 {
-    low <= mu && mu <= 1.0 + step
+    (low..=1.0 + step).contains(&mu)
 }
 
 // Whether a step is one that the line takes.
-#[tactic(auto, unfolding(crate::specs::PolyphaseResamp::step_in_line))]
+#[tactic(auto, unfolding(crate::specs::PolyphaseResamp::step_in_line), using(crate::proofs::FloatRange::at_most))]
 pub fn step_in_line(step: f32) -> bool
     ensures { result ≡ R.step_in_line step }
 {
-    LEAST_LINE_STEP <= step && step <= MOST_LINE_STEP
+    (LEAST_LINE_STEP..=MOST_LINE_STEP).contains(&step)
 }
 
 impl Setting {

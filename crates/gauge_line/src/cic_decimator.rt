@@ -13,9 +13,9 @@ ghost use Rattle.gauge_line.specs.States.{entry, exit, decimator_at};
 use crate::answers::{self, number, output};
 use crate::states::{decimator, put_decimator};
 use integer::CicDecimator;
-use integer::cic_decimator::block_at;
+use integer::cic_decimator::{block_at, sample_lent, scaled_sample_lent};
 use integer::exact_range::Ends;
-use integer::limits::MAX_STAGES;
+use integer::limits::MOST_STAGES;
 use refusal::NONE_MOVED;
 
 // The ends that a refused range tells.
@@ -30,8 +30,8 @@ pub extern "C" fn gauge_raw_cic_decimator_new(
     wanted_r: usize,
     stages: &mut usize,
     r: &mut usize,
-    integrators: &mut [i32; MAX_STAGES],
-    combs: &mut [i32; MAX_STAGES],
+    integrators: &mut [i32; MOST_STAGES],
+    combs: &mut [i32; MOST_STAGES],
     sample_counter: &mut usize,
 ) -> usize
     ensures answer { record { number = result; state = decimator_at exit stages r integrators combs sample_counter } ≡ opening D.fresh wanted_stages wanted_r }
@@ -51,8 +51,8 @@ pub extern "C" fn gauge_raw_cic_decimator_new(
 pub extern "C" fn gauge_raw_cic_decimator_gain(
     stages: usize,
     r: usize,
-    integrators: &[i32; MAX_STAGES],
-    combs: &[i32; MAX_STAGES],
+    integrators: &[i32; MOST_STAGES],
+    combs: &[i32; MOST_STAGES],
     sample_counter: usize,
     gain: &mut u64,
 ) -> usize
@@ -68,8 +68,8 @@ pub extern "C" fn gauge_raw_cic_decimator_gain(
 pub extern "C" fn gauge_raw_cic_decimator_gain_bits(
     stages: usize,
     r: usize,
-    integrators: &[i32; MAX_STAGES],
-    combs: &[i32; MAX_STAGES],
+    integrators: &[i32; MOST_STAGES],
+    combs: &[i32; MOST_STAGES],
     sample_counter: usize,
     bits: &mut u32,
 ) -> usize
@@ -87,8 +87,8 @@ pub extern "C" fn gauge_raw_cic_decimator_gain_bits(
 pub extern "C" fn gauge_raw_cic_decimator_exact_range(
     stages: usize,
     r: usize,
-    integrators: &[i32; MAX_STAGES],
-    combs: &[i32; MAX_STAGES],
+    integrators: &[i32; MOST_STAGES],
+    combs: &[i32; MOST_STAGES],
     sample_counter: usize,
     least: &mut i32,
     greatest: &mut i32,
@@ -112,8 +112,8 @@ pub extern "C" fn gauge_raw_cic_decimator_exact_range(
 pub extern "C" fn gauge_raw_cic_decimator_process_sample(
     stages: &mut usize,
     r: &mut usize,
-    integrators: &mut [i32; MAX_STAGES],
-    combs: &mut [i32; MAX_STAGES],
+    integrators: &mut [i32; MOST_STAGES],
+    combs: &mut [i32; MOST_STAGES],
     sample_counter: &mut usize,
     input: i32,
     made: &mut usize,
@@ -123,9 +123,7 @@ pub extern "C" fn gauge_raw_cic_decimator_process_sample(
         let after = decimator_at exit stages r integrators combs sample_counter in
         record { number = result; value = (made.new, sum.new); state = after } ≡ crossed (pos 0) (D.step before input) }
 {
-    let mut state = decimator(*stages, *r, *integrators, *combs, *sample_counter);
-    let answer = state.process_sample(input);
-    put_decimator(&state, stages, r, integrators, combs, sample_counter);
+    let answer = sample_lent(*stages, *r, sample_counter, integrators, combs, input);
     let told = number(&answer);
     let next_sum = output(answer);
     *made = answers::made(&next_sum);
@@ -137,8 +135,8 @@ pub extern "C" fn gauge_raw_cic_decimator_process_sample(
 pub extern "C" fn gauge_raw_cic_decimator_process_sample_scaled(
     stages: &mut usize,
     r: &mut usize,
-    integrators: &mut [i32; MAX_STAGES],
-    combs: &mut [i32; MAX_STAGES],
+    integrators: &mut [i32; MOST_STAGES],
+    combs: &mut [i32; MOST_STAGES],
     sample_counter: &mut usize,
     input: i32,
     made: &mut usize,
@@ -148,9 +146,7 @@ pub extern "C" fn gauge_raw_cic_decimator_process_sample_scaled(
         let after = decimator_at exit stages r integrators combs sample_counter in
         record { number = result; value = (made.new, sum.new); state = after } ≡ crossed (pos 0) (D.scaled_step before input) }
 {
-    let mut state = decimator(*stages, *r, *integrators, *combs, *sample_counter);
-    let answer = state.process_sample_scaled(input);
-    put_decimator(&state, stages, r, integrators, combs, sample_counter);
+    let answer = scaled_sample_lent(*stages, *r, sample_counter, integrators, combs, input);
     let told = number(&answer);
     let next_sum = output(answer);
     *made = answers::made(&next_sum);
@@ -162,8 +158,8 @@ pub extern "C" fn gauge_raw_cic_decimator_process_sample_scaled(
 pub extern "C" fn gauge_raw_cic_decimator_process_block(
     stages: &mut usize,
     r: &mut usize,
-    integrators: &mut [i32; MAX_STAGES],
-    combs: &mut [i32; MAX_STAGES],
+    integrators: &mut [i32; MOST_STAGES],
+    combs: &mut [i32; MOST_STAGES],
     sample_counter: &mut usize,
     src: &[i32],
     dst: &mut [i32],

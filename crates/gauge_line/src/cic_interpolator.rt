@@ -10,7 +10,7 @@ use crate::answers::number;
 use crate::states::{interpolator, put_interpolator};
 use integer::CicInterpolator;
 use integer::cic_interpolator::{block_at, sample_at};
-use integer::limits::MAX_STAGES;
+use integer::limits::MOST_STAGES;
 use refusal::NONE_MOVED;
 
 #[unsafe(no_mangle)]
@@ -19,8 +19,8 @@ pub extern "C" fn gauge_raw_cic_interpolator_new(
     wanted_r: usize,
     stages: &mut usize,
     r: &mut usize,
-    combs: &mut [i32; MAX_STAGES],
-    integrators: &mut [i32; MAX_STAGES],
+    combs: &mut [i32; MOST_STAGES],
+    integrators: &mut [i32; MOST_STAGES],
 ) -> usize
     ensures answer { record { number = result; state = interpolator_at exit stages r combs integrators } ≡ opening I.fresh wanted_stages wanted_r }
     ensures stream { result ≡ 0 → I.Streams wanted_stages wanted_r (interpolator_at exit stages r combs integrators) }
@@ -36,8 +36,8 @@ pub extern "C" fn gauge_raw_cic_interpolator_new(
 pub extern "C" fn gauge_raw_cic_interpolator_gain(
     stages: usize,
     r: usize,
-    combs: &[i32; MAX_STAGES],
-    integrators: &[i32; MAX_STAGES],
+    combs: &[i32; MOST_STAGES],
+    integrators: &[i32; MOST_STAGES],
     gain: &mut u64,
 ) -> usize
     ensures answer { record { number = result; value = gain.new } ≡ on_state (I.valid_at stages r) (gain_of (stages - 1) r) }
@@ -52,8 +52,8 @@ pub extern "C" fn gauge_raw_cic_interpolator_gain(
 pub extern "C" fn gauge_raw_cic_interpolator_gain_bits(
     stages: usize,
     r: usize,
-    combs: &[i32; MAX_STAGES],
-    integrators: &[i32; MAX_STAGES],
+    combs: &[i32; MOST_STAGES],
+    integrators: &[i32; MOST_STAGES],
     bits: &mut u32,
 ) -> usize
     ensures answer { record { number = result; value = bits.new } ≡ on_state (I.valid_at stages r) (gain_bits (stages - 1) r) }
@@ -69,8 +69,8 @@ pub extern "C" fn gauge_raw_cic_interpolator_gain_bits(
 pub extern "C" fn gauge_raw_cic_interpolator_process_sample(
     stages: &mut usize,
     r: &mut usize,
-    combs: &mut [i32; MAX_STAGES],
-    integrators: &mut [i32; MAX_STAGES],
+    combs: &mut [i32; MOST_STAGES],
+    integrators: &mut [i32; MOST_STAGES],
     input: i32,
     out_buf: &mut [i32],
     written: &mut usize,
@@ -89,8 +89,8 @@ pub extern "C" fn gauge_raw_cic_interpolator_process_sample(
 pub extern "C" fn gauge_raw_cic_interpolator_process_block(
     stages: &mut usize,
     r: &mut usize,
-    combs: &mut [i32; MAX_STAGES],
-    integrators: &mut [i32; MAX_STAGES],
+    combs: &mut [i32; MOST_STAGES],
+    integrators: &mut [i32; MOST_STAGES],
     src: &[i32],
     dst: &mut [i32],
     taken: &mut usize,

@@ -6,7 +6,8 @@ ghost use Rattle.gauge_line.specs.States.{entry, exit, fir_at};
 
 use crate::answers::{self, number, output};
 use crate::states::{fir, flag, put_fir};
-use q15::{Cut, FirDecimator, MOST_TAPS, Q15};
+use q15::fir_decimator::sample_lent;
+use q15::{Cut, FirDecimator, FirSettings, MOST_TAPS, Q15};
 
 // What stands in the places of an output where there is none.
 const NO_OUTPUT: Cut = Cut {
@@ -69,9 +70,11 @@ pub extern "C" fn gauge_raw_fir_decimator_process_sample(
         let after = fir_at exit taps tap_count factor delay wait in
         record { number = result; value = (made.new, (value.new, cut.new)); state = after } ≡ crossed_fir (fir_step before sample) }
 {
-    let mut state = fir(*taps, *tap_count, *factor, *delay, *wait);
-    let answer = state.process_sample(Q15(sample));
-    put_fir(&state, taps, tap_count, factor, delay, wait);
+    let settings = FirSettings {
+        tap_count: *tap_count,
+        factor: *factor,
+    };
+    let answer = sample_lent(delay, taps, settings, wait, Q15(sample));
     let told = number(&answer);
     let filtered = output(answer);
     *made = answers::made(&filtered);

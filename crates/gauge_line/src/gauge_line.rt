@@ -11,15 +11,15 @@ ghost use Rattle.gauge_line.specs.Crossing.{crossed_step, is_set, kind_of};
 ghost use Rattle.gauge_line.specs.States.{entry, exit, IsFlag, line_at};
 
 use crate::answers::{number, step_moves};
-use crate::lines::put_numbers;
-use crate::states::{flag, is_set, kind, kind_number};
-use float::settings::{MOST_CELLS, MOST_TAPS as MOST_PHASE_TAPS};
-use half_band::{DEC_CASCADE_DELAYS, MOST_STAGES};
-use integer::limits::MAX_STAGES;
+use crate::lines::{numbers, put_clock, put_numbers};
+use crate::states::{is_set, kind};
+use float::settings::{MOST_CELLS, MOST_PHASE_TAPS};
+use half_band::{DEC_CASCADE_DELAYS, MOST_DEPTH};
+use integer::limits::MOST_STAGES;
 use line::{
     Arrays, Clock, LineNumbers, Places, Settings, feed_lent, open_lent, reset_lent, step_lent,
 };
-use nonrecursive::nonrecursive_decimator::MAX_NEIGHBOURS;
+use nonrecursive::nonrecursive_decimator::MOST_NEIGHBOURS;
 use q15::MOST_TAPS;
 use refusal::NONE_MOVED;
 
@@ -47,8 +47,8 @@ pub extern "C" fn gauge_raw_line_open_3(
     wanted_prototype: &[f32],
     stages: &mut usize,
     r: &mut usize,
-    integrators: &mut [i32; MAX_STAGES],
-    combs: &mut [i32; MAX_STAGES],
+    integrators: &mut [i32; MOST_STAGES],
+    combs: &mut [i32; MOST_STAGES],
     sample_counter: &mut usize,
     taps: &mut [i16; MOST_TAPS],
     tap_count: &mut usize,
@@ -57,8 +57,8 @@ pub extern "C" fn gauge_raw_line_open_3(
     wait: &mut usize,
     depth: &mut usize,
     delays: &mut [f32; DEC_CASCADE_DELAYS],
-    held: &mut [f32; MOST_STAGES],
-    counts: &mut [usize; MOST_STAGES],
+    held: &mut [f32; MOST_DEPTH],
+    counts: &mut [usize; MOST_DEPTH],
     phases: &mut usize,
     phase_taps: &mut usize,
     straight: &mut usize,
@@ -68,7 +68,7 @@ pub extern "C" fn gauge_raw_line_open_3(
     prototype: &mut [f32; MOST_CELLS],
     cuts: &mut u32,
     thinning: &mut usize,
-    neighbours: &mut [i32; MAX_NEIGHBOURS],
+    neighbours: &mut [i32; MOST_NEIGHBOURS],
 ) -> usize
     ensures setting { IsFlag straight.new × IsFlag thinning.new }
     ensures answer { (
@@ -104,6 +104,7 @@ pub extern "C" fn gauge_raw_line_open_3(
         tap_count: 0,
         clock: STOPPED,
     };
+    // Here and below the arrays by the names that they are lent under: a function that puts them together would be called with the same ten.
     let mut lent = Places {
         integrators,
         combs,
@@ -141,8 +142,8 @@ pub extern "C" fn gauge_raw_line_open_3(
 pub extern "C" fn gauge_raw_line_reset(
     stages: &mut usize,
     r: &mut usize,
-    integrators: &mut [i32; MAX_STAGES],
-    combs: &mut [i32; MAX_STAGES],
+    integrators: &mut [i32; MOST_STAGES],
+    combs: &mut [i32; MOST_STAGES],
     sample_counter: &mut usize,
     taps: &mut [i16; MOST_TAPS],
     tap_count: &mut usize,
@@ -151,8 +152,8 @@ pub extern "C" fn gauge_raw_line_reset(
     wait: &mut usize,
     depth: &mut usize,
     delays: &mut [f32; DEC_CASCADE_DELAYS],
-    held: &mut [f32; MOST_STAGES],
-    counts: &mut [usize; MOST_STAGES],
+    held: &mut [f32; MOST_DEPTH],
+    counts: &mut [usize; MOST_DEPTH],
     phases: &mut usize,
     phase_taps: &mut usize,
     straight: &mut usize,
@@ -162,7 +163,7 @@ pub extern "C" fn gauge_raw_line_reset(
     prototype: &mut [f32; MOST_CELLS],
     cuts: &mut u32,
     thinning: &mut usize,
-    neighbours: &mut [i32; MAX_NEIGHBOURS],
+    neighbours: &mut [i32; MOST_NEIGHBOURS],
 ) -> usize
     ensures setting { IsFlag straight.new × IsFlag thinning.new }
     ensures answer { let before = line_at entry stages r integrators combs sample_counter taps tap_count factor fir_delay wait
@@ -174,28 +175,22 @@ pub extern "C" fn gauge_raw_line_reset(
         depth delays held counts phases phase_taps straight mu step delay prototype cuts thinning neighbours in
         L.valid before ≡ true → result ≡ 0 }
 {
-    let settings = Settings {
-        stages: *stages,
-        r: *r,
-        factor: *factor,
-        depth: *depth,
-        phases: *phases,
-        taps: *phase_taps,
-        straight: is_set(*straight),
-        step: *step,
-        thinning: kind(*thinning),
-    };
-    let clock = Clock {
-        sample_counter: *sample_counter,
-        wait: *wait,
-        mu: *mu,
-        cuts: *cuts,
-    };
-    let mut n = LineNumbers {
-        settings,
-        tap_count: *tap_count,
-        clock,
-    };
+    let mut n = numbers(
+        *stages,
+        *r,
+        *sample_counter,
+        *tap_count,
+        *factor,
+        *wait,
+        *depth,
+        *phases,
+        *phase_taps,
+        *straight,
+        *mu,
+        *step,
+        *cuts,
+        *thinning,
+    );
     let mut lent = Places {
         integrators,
         combs,
@@ -234,8 +229,8 @@ pub extern "C" fn gauge_raw_line_reset(
 pub extern "C" fn gauge_raw_line_step(
     stages: &mut usize,
     r: &mut usize,
-    integrators: &mut [i32; MAX_STAGES],
-    combs: &mut [i32; MAX_STAGES],
+    integrators: &mut [i32; MOST_STAGES],
+    combs: &mut [i32; MOST_STAGES],
     sample_counter: &mut usize,
     taps: &mut [i16; MOST_TAPS],
     tap_count: &mut usize,
@@ -244,8 +239,8 @@ pub extern "C" fn gauge_raw_line_step(
     wait: &mut usize,
     depth: &mut usize,
     delays: &mut [f32; DEC_CASCADE_DELAYS],
-    held: &mut [f32; MOST_STAGES],
-    counts: &mut [usize; MOST_STAGES],
+    held: &mut [f32; MOST_DEPTH],
+    counts: &mut [usize; MOST_DEPTH],
     phases: &mut usize,
     phase_taps: &mut usize,
     straight: &mut usize,
@@ -255,7 +250,7 @@ pub extern "C" fn gauge_raw_line_step(
     prototype: &mut [f32; MOST_CELLS],
     cuts: &mut u32,
     thinning: &mut usize,
-    neighbours: &mut [i32; MAX_NEIGHBOURS],
+    neighbours: &mut [i32; MOST_NEIGHBOURS],
     samples: &[i32],
     at: usize,
     places: usize,
@@ -271,28 +266,22 @@ pub extern "C" fn gauge_raw_line_step(
         record { number = result; value = (taken.new, (written.new, value.new)); state = after }
         ≡ crossed_step (L.step_outcome before (ltb 0 places) (head_of (drop at samples.now))) }
 {
-    let settings = Settings {
-        stages: *stages,
-        r: *r,
-        factor: *factor,
-        depth: *depth,
-        phases: *phases,
-        taps: *phase_taps,
-        straight: is_set(*straight),
-        step: *step,
-        thinning: kind(*thinning),
-    };
-    let clock = Clock {
-        sample_counter: *sample_counter,
-        wait: *wait,
-        mu: *mu,
-        cuts: *cuts,
-    };
-    let mut n = LineNumbers {
-        settings,
-        tap_count: *tap_count,
-        clock,
-    };
+    let mut n = numbers(
+        *stages,
+        *r,
+        *sample_counter,
+        *tap_count,
+        *factor,
+        *wait,
+        *depth,
+        *phases,
+        *phase_taps,
+        *straight,
+        *mu,
+        *step,
+        *cuts,
+        *thinning,
+    );
     let mut lent = Arrays {
         integrators,
         combs,
@@ -306,12 +295,7 @@ pub extern "C" fn gauge_raw_line_step(
         prototype,
     };
     let done = step_lent(&mut n, &mut lent, samples, at, 0 < places);
-    *sample_counter = n.clock.sample_counter;
-    *wait = n.clock.wait;
-    *mu = n.clock.mu;
-    *cuts = n.clock.cuts;
-    *straight = flag(settings.straight);
-    *thinning = kind_number(settings.thinning);
+    put_clock(n, sample_counter, wait, straight, mu, cuts, thinning);
     let moves = step_moves(done);
     *taken = moves.0;
     *written = moves.1;
@@ -324,8 +308,8 @@ pub extern "C" fn gauge_raw_line_step(
 pub extern "C" fn gauge_raw_line_feed(
     stages: &mut usize,
     r: &mut usize,
-    integrators: &mut [i32; MAX_STAGES],
-    combs: &mut [i32; MAX_STAGES],
+    integrators: &mut [i32; MOST_STAGES],
+    combs: &mut [i32; MOST_STAGES],
     sample_counter: &mut usize,
     taps: &mut [i16; MOST_TAPS],
     tap_count: &mut usize,
@@ -334,8 +318,8 @@ pub extern "C" fn gauge_raw_line_feed(
     wait: &mut usize,
     depth: &mut usize,
     delays: &mut [f32; DEC_CASCADE_DELAYS],
-    held: &mut [f32; MOST_STAGES],
-    counts: &mut [usize; MOST_STAGES],
+    held: &mut [f32; MOST_DEPTH],
+    counts: &mut [usize; MOST_DEPTH],
     phases: &mut usize,
     phase_taps: &mut usize,
     straight: &mut usize,
@@ -345,7 +329,7 @@ pub extern "C" fn gauge_raw_line_feed(
     prototype: &mut [f32; MOST_CELLS],
     cuts: &mut u32,
     thinning: &mut usize,
-    neighbours: &mut [i32; MAX_NEIGHBOURS],
+    neighbours: &mut [i32; MOST_NEIGHBOURS],
     samples: &[i32],
     out: &mut [f32],
     taken: &mut usize,
@@ -370,28 +354,22 @@ pub extern "C" fn gauge_raw_line_feed(
         let moved : Moved = record { taken = taken.exit.now; written = written.new } in
         Demand3 before samples.now out.old out.new (record { number = result; value = moved; state = after })) }
 {
-    let settings = Settings {
-        stages: *stages,
-        r: *r,
-        factor: *factor,
-        depth: *depth,
-        phases: *phases,
-        taps: *phase_taps,
-        straight: is_set(*straight),
-        step: *step,
-        thinning: kind(*thinning),
-    };
-    let clock = Clock {
-        sample_counter: *sample_counter,
-        wait: *wait,
-        mu: *mu,
-        cuts: *cuts,
-    };
-    let mut n = LineNumbers {
-        settings,
-        tap_count: *tap_count,
-        clock,
-    };
+    let mut n = numbers(
+        *stages,
+        *r,
+        *sample_counter,
+        *tap_count,
+        *factor,
+        *wait,
+        *depth,
+        *phases,
+        *phase_taps,
+        *straight,
+        *mu,
+        *step,
+        *cuts,
+        *thinning,
+    );
     let mut lent = Arrays {
         integrators,
         combs,
@@ -405,12 +383,7 @@ pub extern "C" fn gauge_raw_line_feed(
         prototype,
     };
     let done = feed_lent(&mut n, &mut lent, samples, out);
-    *sample_counter = n.clock.sample_counter;
-    *wait = n.clock.wait;
-    *mu = n.clock.mu;
-    *cuts = n.clock.cuts;
-    *straight = flag(settings.straight);
-    *thinning = kind_number(settings.thinning);
+    put_clock(n, sample_counter, wait, straight, mu, cuts, thinning);
     let moved = done.unwrap_or(NONE_MOVED);
     *taken = moved.taken;
     *written = moved.written;

@@ -4,8 +4,9 @@ ghost use Rattle.half_band.specs.HbfDecCascade.{dec_cascade_opening, dec_cascade
 ghost use Rattle.gauge_line.specs.States.{entry, exit, dec_cascade_at};
 
 use crate::answers::number;
-use crate::states::{dec_cascade, put_dec_cascade};
-use half_band::{DEC_CASCADE_DELAYS, HbfDecCascade};
+use crate::states::{dec_cascade, put_cascade};
+use half_band::hbf_dec_cascade::frames_lent;
+use half_band::{DEC_CASCADE_DELAYS, Db140, HbfDecCascade};
 
 #[unsafe(no_mangle)]
 pub extern "C" fn gauge_raw_hbf_dec_cascade_new(
@@ -19,7 +20,7 @@ pub extern "C" fn gauge_raw_hbf_dec_cascade_new(
     let opened = HbfDecCascade::new(wanted_depth);
     let told = number(&opened);
     let state = opened.unwrap_or(HbfDecCascade::zeros());
-    put_dec_cascade(&state, depth, delays);
+    put_cascade(state.depth, &state.delays, depth, delays);
     told
 }
 
@@ -32,7 +33,7 @@ pub extern "C" fn gauge_raw_hbf_dec_cascade_reset(
 {
     let mut state: HbfDecCascade = dec_cascade(*depth, *delays);
     let answer = state.reset();
-    put_dec_cascade(&state, depth, delays);
+    put_cascade(state.depth, &state.delays, depth, delays);
     number(&answer)
 }
 
@@ -49,9 +50,7 @@ pub extern "C" fn gauge_raw_hbf_dec_cascade_process(
         record { number = result; value = written.new; state = after } ≡ dec_cascade_block before src.now (length dst.old) }
     ensures span { dst.new ≡ dec_cascade_span (dec_cascade_at entry depth delays) src.now dst.old }
 {
-    let mut state: HbfDecCascade = dec_cascade(*depth, *delays);
-    let answer = state.process(src, dst);
-    put_dec_cascade(&state, depth, delays);
+    let answer = frames_lent::<Db140>(*depth, delays, src, dst);
     *written = answer.unwrap_or(0);
     number(&answer)
 }

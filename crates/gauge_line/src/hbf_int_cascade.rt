@@ -4,7 +4,8 @@ ghost use Rattle.half_band.specs.HbfIntCascade.{int_cascade_opening, int_cascade
 ghost use Rattle.gauge_line.specs.States.{entry, exit, int_cascade_at};
 
 use crate::answers::number;
-use crate::states::{int_cascade, put_int_cascade};
+use crate::states::{int_cascade, put_cascade};
+use half_band::hbf_int_cascade::samples_lent;
 use half_band::{HbfIntCascade, INT_CASCADE_DELAYS};
 
 #[unsafe(no_mangle)]
@@ -19,7 +20,7 @@ pub extern "C" fn gauge_raw_hbf_int_cascade_new(
     let opened = HbfIntCascade::new(wanted_depth);
     let told = number(&opened);
     let state = opened.unwrap_or(HbfIntCascade::zeros());
-    put_int_cascade(&state, depth, delays);
+    put_cascade(state.depth, &state.delays, depth, delays);
     told
 }
 
@@ -32,7 +33,7 @@ pub extern "C" fn gauge_raw_hbf_int_cascade_reset(
 {
     let mut state = int_cascade(*depth, *delays);
     let answer = state.reset();
-    put_int_cascade(&state, depth, delays);
+    put_cascade(state.depth, &state.delays, depth, delays);
     number(&answer)
 }
 
@@ -49,9 +50,7 @@ pub extern "C" fn gauge_raw_hbf_int_cascade_process(
         record { number = result; value = written.new; state = after } ≡ int_cascade_block before src.now (length dst.old) }
     ensures span { dst.new ≡ int_cascade_span (int_cascade_at entry depth delays) src.now dst.old }
 {
-    let mut state = int_cascade(*depth, *delays);
-    let answer = state.process(src, dst);
-    put_int_cascade(&state, depth, delays);
+    let answer = samples_lent(*depth, delays, src, dst);
     *written = answer.unwrap_or(0);
     number(&answer)
 }

@@ -7,15 +7,16 @@ ghost use Rattle.gauge_line.specs.States.{entry, exit, stream_at};
 
 use crate::answers::{self, number, output};
 use crate::states::{put_stream, stream};
-use half_band::{DEC_CASCADE_DELAYS, HbfStream, MOST_STAGES};
+use half_band::hbf_stream::sample_lent;
+use half_band::{DEC_CASCADE_DELAYS, HbfStream, MOST_DEPTH};
 
 #[unsafe(no_mangle)]
 pub extern "C" fn gauge_raw_hbf_stream_new(
     wanted_depth: usize,
     depth: &mut usize,
     delays: &mut [f32; DEC_CASCADE_DELAYS],
-    held: &mut [f32; MOST_STAGES],
-    counts: &mut [usize; MOST_STAGES],
+    held: &mut [f32; MOST_DEPTH],
+    counts: &mut [usize; MOST_DEPTH],
 ) -> usize
     ensures answer { record { number = result; state = stream_at exit depth delays held counts } ≡ stream_opening wanted_depth }
     ensures meets { result ≡ 0 → StreamMeets wanted_depth (stream_at exit depth delays held counts) }
@@ -31,8 +32,8 @@ pub extern "C" fn gauge_raw_hbf_stream_new(
 pub extern "C" fn gauge_raw_hbf_stream_reset(
     depth: &mut usize,
     delays: &mut [f32; DEC_CASCADE_DELAYS],
-    held: &mut [f32; MOST_STAGES],
-    counts: &mut [usize; MOST_STAGES],
+    held: &mut [f32; MOST_DEPTH],
+    counts: &mut [usize; MOST_DEPTH],
 ) -> usize
     ensures answer { record { number = result; state = stream_at exit depth delays held counts } ≡ stream_reset (stream_at entry depth delays held counts) }
 {
@@ -46,8 +47,8 @@ pub extern "C" fn gauge_raw_hbf_stream_reset(
 pub extern "C" fn gauge_raw_hbf_stream_process_sample(
     depth: &mut usize,
     delays: &mut [f32; DEC_CASCADE_DELAYS],
-    held: &mut [f32; MOST_STAGES],
-    counts: &mut [usize; MOST_STAGES],
+    held: &mut [f32; MOST_DEPTH],
+    counts: &mut [usize; MOST_DEPTH],
     x: f32,
     made: &mut usize,
     value: &mut f32,
@@ -56,9 +57,7 @@ pub extern "C" fn gauge_raw_hbf_stream_process_sample(
         let after = stream_at exit depth delays held counts in
         record { number = result; value = (made.new, value.new); state = after } ≡ crossed zero32 (stream_step before x) }
 {
-    let mut state = stream(*depth, *delays, *held, *counts);
-    let answer = state.process_sample(x);
-    put_stream(&state, depth, delays, held, counts);
+    let answer = sample_lent(*depth, delays, held, counts, x);
     let told = number(&answer);
     let out = output(answer);
     *made = answers::made(&out);

@@ -1,16 +1,17 @@
 // The line as a caller in C keeps it, field by field: put together from the fields that were lent, and put back into them.
 ghost use Rattle.std.specs.Prelude.{◌≡◌};
+ghost use Rattle.gauge_line.specs.Crossing.{is_set, kind_of};
 ghost use Rattle.gauge_line.specs.States.{exit, IsFlag, line_at, numbers_at, numbers_by};
 
 use crate::states::{
     flag, is_set, kind, kind_number, put_decimator, put_fir, put_resampler, put_stream,
     put_thinning,
 };
-use float::settings::{MOST_CELLS, MOST_TAPS as MOST_PHASE_TAPS};
-use half_band::{DEC_CASCADE_DELAYS, MOST_STAGES};
-use integer::limits::MAX_STAGES;
+use float::settings::{MOST_CELLS, MOST_PHASE_TAPS};
+use half_band::{DEC_CASCADE_DELAYS, MOST_DEPTH};
+use integer::limits::MOST_STAGES;
 use line::{Clock, Line, LineNumbers, Settings};
-use nonrecursive::nonrecursive_decimator::MAX_NEIGHBOURS;
+use nonrecursive::nonrecursive_decimator::MOST_NEIGHBOURS;
 use q15::MOST_TAPS;
 
 // The numbers of a line whose fields were lent.
@@ -59,8 +60,8 @@ pub(crate) fn put_line(
     next: &Line,
     stages: &mut usize,
     r: &mut usize,
-    integrators: &mut [i32; MAX_STAGES],
-    combs: &mut [i32; MAX_STAGES],
+    integrators: &mut [i32; MOST_STAGES],
+    combs: &mut [i32; MOST_STAGES],
     sample_counter: &mut usize,
     taps: &mut [i16; MOST_TAPS],
     tap_count: &mut usize,
@@ -69,8 +70,8 @@ pub(crate) fn put_line(
     wait: &mut usize,
     depth: &mut usize,
     delays: &mut [f32; DEC_CASCADE_DELAYS],
-    held: &mut [f32; MOST_STAGES],
-    counts: &mut [usize; MOST_STAGES],
+    held: &mut [f32; MOST_DEPTH],
+    counts: &mut [usize; MOST_DEPTH],
     phases: &mut usize,
     phase_taps: &mut usize,
     straight: &mut usize,
@@ -80,7 +81,7 @@ pub(crate) fn put_line(
     prototype: &mut [f32; MOST_CELLS],
     cuts: &mut u32,
     thinning: &mut usize,
-    neighbours: &mut [i32; MAX_NEIGHBOURS],
+    neighbours: &mut [i32; MOST_NEIGHBOURS],
 )
     ensures state { line_at exit stages r integrators combs sample_counter taps tap_count factor fir_delay wait
         depth delays held counts phases phase_taps straight mu step delay prototype cuts thinning neighbours ≡ next.now }
@@ -127,16 +128,33 @@ pub(crate) fn put_numbers(
     let s = next.settings;
     *stages = s.stages;
     *r = s.r;
-    *sample_counter = next.clock.sample_counter;
     *tap_count = next.tap_count;
     *factor = s.factor;
-    *wait = next.clock.wait;
     *depth = s.depth;
     *phases = s.phases;
     *phase_taps = s.taps;
-    *straight = flag(s.straight);
-    *mu = next.clock.mu;
     *step = s.step;
+    put_clock(next, sample_counter, wait, straight, mu, cuts, thinning);
+}
+
+// What a step or a feed changes of a line's numbers into the places that were lent for it; and both flags, since those that were lent may be other numbers than 0 and 1.
+pub(crate) fn put_clock(
+    next: LineNumbers,
+    sample_counter: &mut usize,
+    wait: &mut usize,
+    straight: &mut usize,
+    mu: &mut f32,
+    cuts: &mut u32,
+    thinning: &mut usize,
+)
+    ensures clock { record { sample_counter = sample_counter.new; wait = wait.new; mu = mu.new; cuts = cuts.new } ≡ next.clock }
+    ensures settings { (is_set straight.new ≡ next.settings.straight) × (kind_of thinning.new ≡ next.settings.thinning) }
+    ensures setting { IsFlag straight.new × IsFlag thinning.new }
+{
+    *sample_counter = next.clock.sample_counter;
+    *wait = next.clock.wait;
+    *mu = next.clock.mu;
     *cuts = next.clock.cuts;
-    *thinning = kind_number(s.thinning);
+    *straight = flag(next.settings.straight);
+    *thinning = kind_number(next.settings.thinning);
 }

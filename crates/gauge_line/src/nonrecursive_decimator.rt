@@ -13,7 +13,7 @@ use crate::answers::{self, number, output};
 use crate::states::{nonrecursive, put_nonrecursive};
 use nonrecursive::NonrecursiveDecimator;
 use nonrecursive::block::block_at;
-use nonrecursive::nonrecursive_decimator::MAX_NEIGHBOURS;
+use nonrecursive::nonrecursive_decimator::{MOST_NEIGHBOURS, sample_lent, scaled_sample_lent};
 use refusal::NONE_MOVED;
 
 #[unsafe(no_mangle)]
@@ -22,7 +22,7 @@ pub extern "C" fn gauge_raw_nonrecursive_decimator_new(
     wanted_r: usize,
     stages: &mut usize,
     r: &mut usize,
-    neighbours: &mut [i32; MAX_NEIGHBOURS],
+    neighbours: &mut [i32; MOST_NEIGHBOURS],
     place: &mut usize,
 ) -> usize
     ensures answer { record { number = result; state = nonrecursive_at exit stages r neighbours place } ≡ D.opening wanted_stages wanted_r }
@@ -42,7 +42,7 @@ pub extern "C" fn gauge_raw_nonrecursive_decimator_new(
 pub extern "C" fn gauge_raw_nonrecursive_decimator_gain(
     stages: usize,
     r: usize,
-    neighbours: &[i32; MAX_NEIGHBOURS],
+    neighbours: &[i32; MOST_NEIGHBOURS],
     place: usize,
     gain: &mut u64,
 ) -> usize
@@ -58,7 +58,7 @@ pub extern "C" fn gauge_raw_nonrecursive_decimator_gain(
 pub extern "C" fn gauge_raw_nonrecursive_decimator_gain_bits(
     stages: usize,
     r: usize,
-    neighbours: &[i32; MAX_NEIGHBOURS],
+    neighbours: &[i32; MOST_NEIGHBOURS],
     place: usize,
     bits: &mut u32,
 ) -> usize
@@ -75,7 +75,7 @@ pub extern "C" fn gauge_raw_nonrecursive_decimator_gain_bits(
 pub extern "C" fn gauge_raw_nonrecursive_decimator_process_sample(
     stages: &mut usize,
     r: &mut usize,
-    neighbours: &mut [i32; MAX_NEIGHBOURS],
+    neighbours: &mut [i32; MOST_NEIGHBOURS],
     place: &mut usize,
     input: i32,
     made: &mut usize,
@@ -85,9 +85,7 @@ pub extern "C" fn gauge_raw_nonrecursive_decimator_process_sample(
         let after = nonrecursive_at exit stages r neighbours place in
         record { number = result; value = (made.new, sum.new); state = after } ≡ crossed (pos 0) (D.step before input) }
 {
-    let mut state = nonrecursive(*stages, *r, *neighbours, *place);
-    let answer = state.process_sample(input);
-    put_nonrecursive(&state, stages, r, neighbours, place);
+    let answer = sample_lent(*stages, *r, place, neighbours, input);
     let told = number(&answer);
     let next_sum = output(answer);
     *made = answers::made(&next_sum);
@@ -99,7 +97,7 @@ pub extern "C" fn gauge_raw_nonrecursive_decimator_process_sample(
 pub extern "C" fn gauge_raw_nonrecursive_decimator_process_sample_scaled(
     stages: &mut usize,
     r: &mut usize,
-    neighbours: &mut [i32; MAX_NEIGHBOURS],
+    neighbours: &mut [i32; MOST_NEIGHBOURS],
     place: &mut usize,
     input: i32,
     made: &mut usize,
@@ -109,9 +107,7 @@ pub extern "C" fn gauge_raw_nonrecursive_decimator_process_sample_scaled(
         let after = nonrecursive_at exit stages r neighbours place in
         record { number = result; value = (made.new, sum.new); state = after } ≡ crossed (pos 0) (D.scaled_step before input) }
 {
-    let mut state = nonrecursive(*stages, *r, *neighbours, *place);
-    let answer = state.process_sample_scaled(input);
-    put_nonrecursive(&state, stages, r, neighbours, place);
+    let answer = scaled_sample_lent(*stages, *r, place, neighbours, input);
     let told = number(&answer);
     let next_sum = output(answer);
     *made = answers::made(&next_sum);
@@ -123,7 +119,7 @@ pub extern "C" fn gauge_raw_nonrecursive_decimator_process_sample_scaled(
 pub extern "C" fn gauge_raw_nonrecursive_decimator_process_block(
     stages: &mut usize,
     r: &mut usize,
-    neighbours: &mut [i32; MAX_NEIGHBOURS],
+    neighbours: &mut [i32; MOST_NEIGHBOURS],
     place: &mut usize,
     src: &[i32],
     dst: &mut [i32],

@@ -10,11 +10,11 @@ ghost use Rattle.gauge_line.specs.States.{exit, IsFlag, line_at, line_by};
 
 use crate::answers::number;
 use crate::lines::{numbers, put_line};
-use float::settings::{MOST_CELLS, MOST_TAPS as MOST_PHASE_TAPS};
-use half_band::{DEC_CASCADE_DELAYS, MOST_STAGES};
-use integer::limits::MAX_STAGES;
+use float::settings::{MOST_CELLS, MOST_PHASE_TAPS};
+use half_band::{DEC_CASCADE_DELAYS, MOST_DEPTH};
+use integer::limits::MOST_STAGES;
 use line::zeros;
-use nonrecursive::nonrecursive_decimator::MAX_NEIGHBOURS;
+use nonrecursive::nonrecursive_decimator::MOST_NEIGHBOURS;
 use parking::{KeptLine, park_kept, parked_len_kept};
 use q15::MOST_TAPS;
 use taking_up::take_up;
@@ -24,8 +24,8 @@ use taking_up::take_up;
 pub extern "C" fn gauge_raw_line_parked_len(
     stages: usize,
     r: usize,
-    integrators: &[i32; MAX_STAGES],
-    combs: &[i32; MAX_STAGES],
+    integrators: &[i32; MOST_STAGES],
+    combs: &[i32; MOST_STAGES],
     sample_counter: usize,
     taps: &[i16; MOST_TAPS],
     tap_count: usize,
@@ -34,8 +34,8 @@ pub extern "C" fn gauge_raw_line_parked_len(
     wait: usize,
     depth: usize,
     delays: &[f32; DEC_CASCADE_DELAYS],
-    held: &[f32; MOST_STAGES],
-    counts: &[usize; MOST_STAGES],
+    held: &[f32; MOST_DEPTH],
+    counts: &[usize; MOST_DEPTH],
     phases: usize,
     phase_taps: usize,
     straight: usize,
@@ -45,7 +45,7 @@ pub extern "C" fn gauge_raw_line_parked_len(
     prototype: &[f32; MOST_CELLS],
     cuts: u32,
     thinning: usize,
-    neighbours: &[i32; MAX_NEIGHBOURS],
+    neighbours: &[i32; MOST_NEIGHBOURS],
     bytes: &mut usize,
 ) -> usize
     ensures answer { let line = line_by stages r integrators.now combs.now sample_counter taps.now tap_count factor fir_delay.now wait
@@ -91,8 +91,8 @@ pub extern "C" fn gauge_raw_line_parked_len(
 pub extern "C" fn gauge_raw_line_park(
     stages: usize,
     r: usize,
-    integrators: &[i32; MAX_STAGES],
-    combs: &[i32; MAX_STAGES],
+    integrators: &[i32; MOST_STAGES],
+    combs: &[i32; MOST_STAGES],
     sample_counter: usize,
     taps: &[i16; MOST_TAPS],
     tap_count: usize,
@@ -101,8 +101,8 @@ pub extern "C" fn gauge_raw_line_park(
     wait: usize,
     depth: usize,
     delays: &[f32; DEC_CASCADE_DELAYS],
-    held: &[f32; MOST_STAGES],
-    counts: &[usize; MOST_STAGES],
+    held: &[f32; MOST_DEPTH],
+    counts: &[usize; MOST_DEPTH],
     phases: usize,
     phase_taps: usize,
     straight: usize,
@@ -112,7 +112,7 @@ pub extern "C" fn gauge_raw_line_park(
     prototype: &[f32; MOST_CELLS],
     cuts: u32,
     thinning: usize,
-    neighbours: &[i32; MAX_NEIGHBOURS],
+    neighbours: &[i32; MOST_NEIGHBOURS],
     span: &mut [u8],
     written: &mut usize,
 ) -> usize
@@ -170,8 +170,8 @@ pub extern "C" fn gauge_raw_line_take_up_3(
     bytes: &[u8],
     stages: &mut usize,
     r: &mut usize,
-    integrators: &mut [i32; MAX_STAGES],
-    combs: &mut [i32; MAX_STAGES],
+    integrators: &mut [i32; MOST_STAGES],
+    combs: &mut [i32; MOST_STAGES],
     sample_counter: &mut usize,
     taps: &mut [i16; MOST_TAPS],
     tap_count: &mut usize,
@@ -180,8 +180,8 @@ pub extern "C" fn gauge_raw_line_take_up_3(
     wait: &mut usize,
     depth: &mut usize,
     delays: &mut [f32; DEC_CASCADE_DELAYS],
-    held: &mut [f32; MOST_STAGES],
-    counts: &mut [usize; MOST_STAGES],
+    held: &mut [f32; MOST_DEPTH],
+    counts: &mut [usize; MOST_DEPTH],
     phases: &mut usize,
     phase_taps: &mut usize,
     straight: &mut usize,
@@ -191,7 +191,7 @@ pub extern "C" fn gauge_raw_line_take_up_3(
     prototype: &mut [f32; MOST_CELLS],
     cuts: &mut u32,
     thinning: &mut usize,
-    neighbours: &mut [i32; MAX_NEIGHBOURS],
+    neighbours: &mut [i32; MOST_NEIGHBOURS],
 ) -> usize
     ensures setting { IsFlag straight.new × IsFlag thinning.new }
     ensures answer { let after = line_at exit stages r integrators combs sample_counter taps tap_count factor fir_delay wait
@@ -209,6 +209,7 @@ pub extern "C" fn gauge_raw_line_take_up_3(
 {
     let answer = take_up(bytes);
     let told = number(&answer);
+    // No `unwrap_or`, for which the line of zeros, 7 KB, would be made beside every line that is taken up.
     let next = match answer {
         Ok(line) => line,
         Err(_) => zeros(),

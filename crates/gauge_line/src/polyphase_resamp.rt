@@ -7,7 +7,7 @@ ghost use Rattle.gauge_line.specs.States.{entry, exit, IsFlag, resampler_at};
 
 use crate::answers::number;
 use crate::states::{flag, is_set};
-use float::settings::{MOST_CELLS, MOST_TAPS as MOST_PHASE_TAPS, Setting};
+use float::settings::{MOST_CELLS, MOST_PHASE_TAPS, Setting};
 use refusal::NONE_MOVED;
 
 // What an opening set, of the numbers that a caller lends.

@@ -8,18 +8,18 @@ ghost use Rattle.half_band.specs.HbfDecCascade.{cascade_of};
 ghost use Rattle.half_band.specs.HbfStream.{stream_of};
 ghost use Rattle.linear_phase.specs.LinearPhaseFir.{phase_of};
 ghost use Rattle.gauge_line.specs.Crossing.{is_set, flag_of, kind_of, kind_number};
-ghost use Rattle.gauge_line.specs.States.{exit, decimator_at, nonrecursive_at, interpolator_at, fir_at, dec_cascade_at, int_cascade_at, stream_at, IsFlag, resampler_at};
+ghost use Rattle.gauge_line.specs.States.{exit, decimator_at, nonrecursive_at, interpolator_at, fir_at, stream_at, IsFlag, resampler_at};
 
 use float::PolyphaseResampF32;
-use float::settings::{MOST_CELLS, MOST_TAPS as MOST_PHASE_TAPS};
+use float::settings::{MOST_CELLS, MOST_PHASE_TAPS};
 use half_band::{
     DEC_CASCADE_DELAYS, DEC_DELAYS, DecCascade, HbfDec, HbfInt, HbfIntCascade, HbfStream,
-    INT_CASCADE_DELAYS, INT_DELAYS, MOST_HALF_BAND_TAPS, MOST_STAGES,
+    INT_CASCADE_DELAYS, INT_DELAYS, MOST_DEPTH, MOST_HALF_BAND_TAPS,
 };
-use integer::limits::MAX_STAGES;
+use integer::limits::MOST_STAGES;
 use integer::{CicDecimator, CicInterpolator};
 use linear_phase::{Kind, LINEAR_PHASE_DELAYS, LinearPhaseFir, MOST_LINEAR_PHASE_TAPS};
-use nonrecursive::nonrecursive_decimator::MAX_NEIGHBOURS;
+use nonrecursive::nonrecursive_decimator::MOST_NEIGHBOURS;
 use nonrecursive::{NonrecursiveDecimator, Thinning};
 use q15::{FirDecimator, MOST_TAPS};
 use std::marker::PhantomData;
@@ -27,8 +27,8 @@ use std::marker::PhantomData;
 pub(crate) fn decimator(
     stages: usize,
     r: usize,
-    integrators: [i32; MAX_STAGES],
-    combs: [i32; MAX_STAGES],
+    integrators: [i32; MOST_STAGES],
+    combs: [i32; MOST_STAGES],
     sample_counter: usize,
 ) -> CicDecimator
     ensures { result ≡ decimator_of stages r integrators combs sample_counter }
@@ -46,8 +46,8 @@ pub(crate) fn put_decimator(
     next: &CicDecimator,
     stages: &mut usize,
     r: &mut usize,
-    integrators: &mut [i32; MAX_STAGES],
-    combs: &mut [i32; MAX_STAGES],
+    integrators: &mut [i32; MOST_STAGES],
+    combs: &mut [i32; MOST_STAGES],
     sample_counter: &mut usize,
 )
     ensures { decimator_at exit stages r integrators combs sample_counter ≡ next.now }
@@ -64,7 +64,7 @@ pub(crate) fn put_decimator(
 pub(crate) fn nonrecursive(
     stages: usize,
     r: usize,
-    neighbours: [i32; MAX_NEIGHBOURS],
+    neighbours: [i32; MOST_NEIGHBOURS],
     place: usize,
 ) -> NonrecursiveDecimator
     ensures { result ≡ nonrecursive_of stages r neighbours place }
@@ -81,7 +81,7 @@ pub(crate) fn put_nonrecursive(
     next: &NonrecursiveDecimator,
     stages: &mut usize,
     r: &mut usize,
-    neighbours: &mut [i32; MAX_NEIGHBOURS],
+    neighbours: &mut [i32; MOST_NEIGHBOURS],
     place: &mut usize,
 )
     ensures { nonrecursive_at exit stages r neighbours place ≡ next.now }
@@ -96,8 +96,8 @@ pub(crate) fn put_nonrecursive(
 pub(crate) fn interpolator(
     stages: usize,
     r: usize,
-    combs: [i32; MAX_STAGES],
-    integrators: [i32; MAX_STAGES],
+    combs: [i32; MOST_STAGES],
+    integrators: [i32; MOST_STAGES],
 ) -> CicInterpolator
     ensures { result ≡ interpolator_of stages r combs integrators }
 {
@@ -113,8 +113,8 @@ pub(crate) fn put_interpolator(
     next: &CicInterpolator,
     stages: &mut usize,
     r: &mut usize,
-    combs: &mut [i32; MAX_STAGES],
-    integrators: &mut [i32; MAX_STAGES],
+    combs: &mut [i32; MOST_STAGES],
+    integrators: &mut [i32; MOST_STAGES],
 )
     ensures { interpolator_at exit stages r combs integrators ≡ next.now }
 {
@@ -201,16 +201,17 @@ pub(crate) fn dec_cascade<T>(depth: usize, delays: [f32; DEC_CASCADE_DELAYS]) ->
     }
 }
 
-pub(crate) fn put_dec_cascade<T>(
-    next: &DecCascade<T>,
+// The depth and the delays of a cascade of either direction into the places that were lent for them.
+pub(crate) fn put_cascade<const DELAYS: usize>(
+    next_depth: usize,
+    next_delays: &[f32; DELAYS],
     depth: &mut usize,
-    delays: &mut [f32; DEC_CASCADE_DELAYS],
+    delays: &mut [f32; DELAYS],
 )
-    ensures { dec_cascade_at exit depth delays ≡ cascade_of next.now.depth next.now.delays }
+    ensures { (depth.new ≡ next_depth) × (delays.new ≡ next_delays.now) }
 {
-    let next_delays = next.delays;
-    *depth = next.depth;
-    *delays = next_delays;
+    *depth = next_depth;
+    *delays = *next_delays;
 }
 
 pub(crate) fn int_cascade(depth: usize, delays: [f32; INT_CASCADE_DELAYS]) -> HbfIntCascade
@@ -219,23 +220,11 @@ pub(crate) fn int_cascade(depth: usize, delays: [f32; INT_CASCADE_DELAYS]) -> Hb
     HbfIntCascade { depth, delays }
 }
 
-pub(crate) fn put_int_cascade(
-    next: &HbfIntCascade,
-    depth: &mut usize,
-    delays: &mut [f32; INT_CASCADE_DELAYS],
-)
-    ensures { int_cascade_at exit depth delays ≡ next.now }
-{
-    let next_delays = next.delays;
-    *depth = next.depth;
-    *delays = next_delays;
-}
-
 pub(crate) fn stream(
     depth: usize,
     delays: [f32; DEC_CASCADE_DELAYS],
-    held: [f32; MOST_STAGES],
-    counts: [usize; MOST_STAGES],
+    held: [f32; MOST_DEPTH],
+    counts: [usize; MOST_DEPTH],
 ) -> HbfStream
     ensures { result ≡ stream_of depth delays held counts }
 {
@@ -251,8 +240,8 @@ pub(crate) fn put_stream(
     next: &HbfStream,
     depth: &mut usize,
     delays: &mut [f32; DEC_CASCADE_DELAYS],
-    held: &mut [f32; MOST_STAGES],
-    counts: &mut [usize; MOST_STAGES],
+    held: &mut [f32; MOST_DEPTH],
+    counts: &mut [usize; MOST_DEPTH],
 )
     ensures { stream_at exit depth delays held counts ≡ next.now }
 {
@@ -279,7 +268,7 @@ pub(crate) fn flag(yes: bool) -> usize
     usize::from(yes)
 }
 
-// Which kind thins a line crosses as a number: 0 is the integrators, any other the neighbours.
+// Which kind thins a line crosses as a number: 0 is the integrators, any other the neighbours. No `From` of `Thinning`: these numbers are C's, and no layer below has them.
 pub(crate) fn kind(n: usize) -> Thinning
     ensures { result ≡ kind_of n }
 {
@@ -302,9 +291,9 @@ pub(crate) fn kind_number(kind: Thinning) -> usize
 // Which kind thins, and the neighbours.
 pub(crate) fn put_thinning(
     next: Thinning,
-    next_neighbours: &[i32; MAX_NEIGHBOURS],
+    next_neighbours: &[i32; MOST_NEIGHBOURS],
     thinning: &mut usize,
-    neighbours: &mut [i32; MAX_NEIGHBOURS],
+    neighbours: &mut [i32; MOST_NEIGHBOURS],
 )
     ensures state { (kind_of thinning.new ≡ next) × (neighbours.new ≡ next_neighbours.now) }
     ensures setting { IsFlag thinning.new }
@@ -313,6 +302,7 @@ pub(crate) fn put_thinning(
     *neighbours = *next_neighbours;
 }
 
+// The setting by its fields: to call `put_setting` it would first be put together of the same four.
 pub(crate) fn put_resampler(
     next: &PolyphaseResampF32,
     phases: &mut usize,

@@ -2,10 +2,11 @@
 use mathlib.Core.Path.{◌≡◌, refl, sym, ap, ◌∙◌}
 use mathlib.Core.List.{List, [], ◌∷◌, ◌++◌, append-nil, append_assoc}
 use Rattle.std.specs.Prelude.{Option, Some}
-use Prim.Native.Nat.{ℕ, suc, ◌+◌, ◌≤◌, ◌<◌}
+use Prim.Native.Nat.{ℕ, suc, ◌+◌, ◌-◌, ◌≤◌, ◌<◌}
 use native.Mathlib.Numerals.{add-one}
 use native.Mathlib.Omega.{arith}
-use lib.ListN.{length, get_or, set, take, drop, length-set, length-append, drop_of_length-le}
+use lib.ListN.{length, get_or, set, take, drop, length-set, length-append, length-drop, drop_of_length-le}
+use borrow.Rule.Slice.PartMut.{post_of}
 use lib.Seq.{take-suc, take_all, take_at, drop_at, take-add, drop-drop}
 use Rattle.theory.specs.Sections.{Section, onto, state, outs}
 use Rattle.theory.proofs.Sections.{state_append, outs_append}
@@ -106,3 +107,12 @@ module _ {S A B : Type 0} (f : Section S A B) (s : S) (v : List A) (d₀ : List 
         span_is = ap (λ (l : List B). set l k y) q.span_is ∙ span_next f s v i z h y k d₀ (made_of (Some y) e) q.count_is g;
         same = length-set d k y ∙ q.same;
       }
+
+-- a span written in two parts, one behind the other
+pub two_parts :
+    {B : Type 0} (f : ℕ) (d₀ y z : List B) → length y ≡ f → f ≤ length d₀
+    → take f (y ++ drop f d₀) ++ (z ++ post_of f (length (y ++ drop f d₀) - f) (y ++ drop f d₀)) ≡ y ++ z
+two_parts {B = B} f d₀ y z long room =
+    ap (λ (l : List B). l ++ (z ++ post_of f (length (y ++ drop f d₀) - f) (y ++ drop f d₀))) (take_at y (drop f d₀) f long)
+    ∙ ap (λ (l : List B). y ++ (z ++ l)) (drop_of_length-le (drop f (y ++ drop f d₀)) {i = length (y ++ drop f d₀) - f} (omega (arith, length-drop f (y ++ drop f d₀))))
+    ∙ ap (λ (l : List B). y ++ l) (append-nil z)

@@ -11,6 +11,7 @@ use lib.IntN.{ℤ, pos}
 use lib.Ieee.{Float, nan, inf, fin, binary32, up, down, unlike, level, eq, is_nan, round, sum, add, mul}
 use lib.Ieee.Fits.{up_pos, down_pos}
 use lib.Ieee.Scale.{round_same}
+use Rattle.theory.proofs.FloatOrder.{zero_prod}
 use Rattle.half_band.specs.Equal.{equal, Equal}
 
 -- ---- what it says of two finite values: the same number, and the same sign unless that is zero
@@ -21,9 +22,6 @@ pub record Level (s : Bool) (m : ℕ) (e : ℤ) (t : Bool) (n : ℕ) (d : ℤ) :
 product_zero : (m u v : ℕ) → 0 < u → 0 < v → m * u * v ≡ 0 → m ≡ 0
 product_zero zero u v hu hv e = refl
 product_zero (suc m) u v hu hv e = let p : 0 < suc m * u * v = mul-pos (mul-pos (omega arith) hu) hv in absurd (omega (arith, p, e))
-
-zero_product : (m u v : ℕ) → m ≡ 0 → m * u * v ≡ 0
-zero_product m u v e = ap (λ (k : ℕ). k * u * v) e ∙ ap (λ (k : ℕ). k * v) (zero-mul u) ∙ zero-mul v
 
 level_say : (s t : Bool) (a b : ℕ) → (level s a t b || (false && false)) ≡ true → (a ≡ b) × ((a ≡ 0 → ⊥) → s ≡ t)
 level_say s t a b h = go (eqb a b) refl (beq s t) (eqb a 0) refl (signs s t) h
@@ -65,7 +63,7 @@ say s m e t n d h =
 
 pub told : (s : Bool) (m : ℕ) (e : ℤ) (t : Bool) (n : ℕ) (d : ℤ) → Level s m e t n d → Equal (fin s m e) (fin t n d)
 unfolding equal eq is_nan
-told s m e t n d l = level_told s t (m * up e * down d) (n * up d * down e) l.number (λ z. l.sign (λ q. z (zero_product m (up e) (down d) q)))
+told s m e t n d l = level_told s t (m * up e * down d) (n * up d * down e) l.number (λ z. l.sign (λ q. z (zero_prod m (up e) (down d) q)))
 
 pub equal_refl : (x : Float) → Equal x x
 unfolding equal eq is_nan
@@ -263,8 +261,8 @@ fin_add s m e t n d s' m' e' t' n' d' k l =
     (mul-pos (down_pos e) (down_pos d)) (mul-pos (down_pos e') (down_pos d'))
     (widen (m * up e) (m' * up e') (down e') (down e) (down d) (down d') k.number)
     (widen_other (n * up d) (n' * up d') (down d') (down d) (down e) (down e') l.number)
-    (λ z. k.sign (λ q. z (zero_product m (up e) (down d) q)))
-    (λ z. l.sign (λ q. z (zero_product n (up d) (down e) q)))
+    (λ z. k.sign (λ q. z (zero_prod m (up e) (down d) q)))
+    (λ z. l.sign (λ q. z (zero_prod n (up d) (down e) q)))
 
 fin_mul : (s : Bool) (m : ℕ) (e : ℤ) (t : Bool) (n : ℕ) (d : ℤ) (s' : Bool) (m' : ℕ) (e' : ℤ) (t' : Bool) (n' : ℕ) (d' : ℤ)
     → Level s m e s' m' e' → Level t n d t' n' d' → Equal (mul binary32 (fin s m e) (fin t n d)) (mul binary32 (fin s' m' e') (fin t' n' d'))
@@ -278,7 +276,7 @@ fin_mul s m e t n d s' m' e' t' n' d' k l =
     (λ z. ap₂ unlike (k.sign (λ q. z (left q))) (l.sign (λ q. z (right q))))
   where
     left : m ≡ 0 → m * up e * (n * up d) ≡ 0
-    left q = zero_product m (up e) (n * up d) q
+    left q = zero_prod m (up e) (n * up d) q
 
     right : n ≡ 0 → m * up e * (n * up d) ≡ 0
     right q = ap (λ (x : ℕ). m * up e * (x * up d)) q ∙ ap (λ (x : ℕ). m * up e * x) (zero-mul (up d)) ∙ mul_comm (m * up e) 0 ∙ zero-mul (m * up e)
@@ -312,9 +310,9 @@ add_equal (fin s m e) x' (fin t n d) y' h k =
 times : (s : Bool) (t : Bool) (n : ℕ) (d : ℤ) (t' : Bool) (n' : ℕ) (d' : ℤ) → Level t n d t' n' d'
     → cond (eqb n 0) nan (inf (unlike s t)) ≡ cond (eqb n' 0) nan (inf (unlike s t'))
 times s t zero d t' n' d' l =
-    let z : n' ≡ 0 = product_zero n' (up d') (down d) (up_pos d') (down_pos d) (sym l.number ∙ zero_product 0 (up d) (down d') refl) in
+    let z : n' ≡ 0 = product_zero n' (up d') (down d) (up_pos d') (down_pos d) (sym l.number ∙ zero_prod 0 (up d) (down d') refl) in
     ap {B = Float} (λ (b : Bool). cond b nan (inf (unlike s t'))) (sym (eq-eqb n' 0 z))
-times s t (suc n) d t' zero d' l = absurd (omega (arith, l.number, zero_product 0 (up d') (down d) refl, mul-pos (mul-pos (some n) (up_pos d)) (down_pos d')))
+times s t (suc n) d t' zero d' l = absurd (omega (arith, l.number, zero_prod 0 (up d') (down d) refl, mul-pos (mul-pos (some n) (up_pos d)) (down_pos d')))
   where
     some : (n : ℕ) → 0 < suc n
     some n = omega arith

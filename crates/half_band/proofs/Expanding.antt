@@ -1,18 +1,15 @@
 -- A span of 2n places whose last n samples are turned into outputs in place: the outputs so far stand in front, and the samples still to be read as they were.
-use mathlib.Core.Path.{◌≡◌, sym, ap, ◌∙◌, subst}
-use mathlib.Core.List.{List, [], ◌∷◌, ◌++◌, append_assoc}
+use mathlib.Core.Path.{◌≡◌, sym, ap, ◌∙◌}
+use mathlib.Core.List.{List}
 use Rattle.std.specs.Prelude.{Some}
-use Prim.Native.Nat.{ℕ, suc, ◌+◌, ◌-◌, ◌*◌, ◌<◌}
+use Prim.Native.Nat.{ℕ, ◌+◌, ◌-◌, ◌*◌, ◌<◌}
 use native.Mathlib.Nat.{add-zero}
-use native.Mathlib.Numerals.{add-one}
 use native.Mathlib.Omega.{arith}
-use lib.ListN.{length, get_or, set, take, drop, length-set, length-drop}
-use lib.Seq.{take-suc-set, drop-set-lt, drop-drop, get_or-drop}
+use lib.ListN.{length, get_or, set, drop, length-set, length-drop}
+use lib.Seq.{drop-set-lt, drop-drop, get_or-drop}
 use lib.Ieee.{Float, nan}
-use Rattle.theory.specs.Sections.{Section, state, outs}
-use Rattle.half_band.specs.HalfBand.{flat}
-use Rattle.half_band.proofs.Blocks.{state_next, outs_next}
-use Rattle.half_band.proofs.WholeLists.{flat_snoc}
+use Rattle.theory.specs.Sections.{Section}
+use Rattle.half_band.proofs.Doubling.{Doubled, doubled_next}
 
 module _ {S : Type 0} (f : Section S Float (Float × Float)) (s : S) (span₀ : List Float) (n : ℕ) where
   -- the samples
@@ -20,8 +17,7 @@ module _ {S : Type 0} (f : Section S Float (Float × Float)) (s : S) (span₀ : 
   w = drop n span₀
 
   pub record Expanded (t : S) (span : List Float) (i : ℕ) : Type 0 where
-    pub state_is : t ≡ state f s (take i w)
-    pub front : take (2 * i) span ≡ flat (outs f s (take i w))
+    pub doubled : Doubled f s w t span i
     pub rest : drop (n + i) span ≡ drop (n + i) span₀
     pub same : length span ≡ length span₀
 
@@ -46,36 +42,16 @@ module _ {S : Type 0} (f : Section S Float (Float × Float)) (s : S) (span₀ : 
       pub expanded_next : i < n → (u : S) (a b : Float) → u ≡ f.next t (get_or w i nan) → f.out t (get_or w i nan) ≡ Some (a, b) → Expanded u (set (set span (2 * i) a) (2 * i + 1) b) (i + 1)
       expanded_next h u a b eu eo =
           record {
-            state_is = eu ∙ ap (λ (x : S). f.next x (get_or w i nan)) q.state_is ∙ sym (state_next f s w i nan in_range);
-            front =
-                ap (λ (k : ℕ). take k (set (set span p a) (p + 1) b)) two
-                ∙ take-suc-set (set span p a) (p + 1) b (subst (λ (k : ℕ). p + 1 < k) (sym (length-set span p a)) later)
-                ∙ ap (λ (l : List Float). l ++ (b ∷ [])) (ap (λ (k : ℕ). take k (set span p a)) (add-one p) ∙ take-suc-set span p a (omega arith))
-                ∙ append_assoc (take p span) (a ∷ []) (b ∷ [])
-                ∙ ap (λ (l : List Float). l ++ (a ∷ b ∷ [])) q.front
-                ∙ sym (flat_snoc (outs f s (take i w)) (a, b))
-                ∙ ap flat (sym (outs_next f s w i nan in_range (Some (a, b)) (ap (λ (x : S). f.out x (get_or w i nan)) (sym q.state_is) ∙ eo)));
+            doubled = doubled_next f s w t span i q.doubled (omega (arith, sample_long)) (omega (arith, q.same)) u a b eu eo;
             rest =
-                drop-set-lt (n + (i + 1)) (set span p a) (p + 1) b (omega arith)
-                ∙ drop-set-lt (n + (i + 1)) span p a (omega arith)
+                drop-set-lt (n + (i + 1)) (set span (2 * i) a) (2 * i + 1) b (omega arith)
+                ∙ drop-set-lt (n + (i + 1)) span (2 * i) a (omega arith)
                 ∙ more span
                 ∙ ap (drop 1) q.rest
                 ∙ sym (more span₀);
-            same = length-set (set span p a) (p + 1) b ∙ length-set span p a ∙ q.same;
+            same = length-set (set span (2 * i) a) (2 * i + 1) b ∙ length-set span (2 * i) a ∙ q.same;
           }
         where
-          p : ℕ
-          p = 2 * i
-
-          in_range : i < length w
-          in_range = omega (arith, sample_long)
-
-          later : 2 * i + 1 < length span
-          later = omega (arith, q.same)
-
-          two : 2 * (i + 1) ≡ suc (2 * i + 1)
-          two = omega arith
-
           more : (l : List Float) → drop (n + (i + 1)) l ≡ drop 1 (drop (n + i) l)
           more l = ap (λ (k : ℕ). drop k l) further ∙ sym (drop-drop 1 (n + i) l)
             where

@@ -29,7 +29,7 @@ use Rattle.half_band.proofs.Reaching.{stream_reaches}
 abbrev pub AtMostOne : ℕ → List ℕ → Type 0
 AtMostOne n counts = (j : ℕ) → j < n → get_or counts j 0 ≤ 1
 
-pub held_says : (n : ℕ) (counts : List ℕ) → held_fine n counts ≡ true → AtMostOne n counts
+held_says : (n : ℕ) (counts : List ℕ) → held_fine n counts ≡ true → AtMostOne n counts
 unfolding held_fine
 held_says zero counts e j h = absurd (omega arith)
 held_says (suc n) counts e j h =
@@ -108,7 +108,7 @@ module _ (taps : ℕ → List Float) where
       (λ j h. set_most s.counts k ((half (taps k)).next (stage_in taps k s) x).count j (half_count (taps k) (stage_in taps k s) x) (a j h))
 
 -- after a sample
-pub next_not_refused : (s : HbfStream) (x : Float) → stream_refused s.depth s.counts ≡ false → stream_refused (hbf_stream.next s x).depth (hbf_stream.next s x).counts ≡ false
+next_not_refused : (s : HbfStream) (x : Float) → stream_refused s.depth s.counts ≡ false → stream_refused (hbf_stream.next s x).depth (hbf_stream.next s x).counts ≡ false
 unfolding hbf_stream stream
 next_not_refused s x e =
     let f = refused_says s.depth s.counts e in
@@ -117,11 +117,11 @@ next_not_refused s x e =
     ap (λ (n : ℕ). stream_refused n (hbf_stream.next s x).counts) d
     ∙ not_refused s.depth (hbf_stream.next s x).counts (record { some = f.some; few = f.few; held = m })
 
-pub state_not_refused : (s : HbfStream) (v : List Float) → stream_refused s.depth s.counts ≡ false → stream_refused (state hbf_stream s v).depth (state hbf_stream s v).counts ≡ false
+state_not_refused : (s : HbfStream) (v : List Float) → stream_refused s.depth s.counts ≡ false → stream_refused (state hbf_stream s v).depth (state hbf_stream s v).counts ≡ false
 state_not_refused s [] e = e
 state_not_refused s (x ∷ v) e = state_not_refused (hbf_stream.next s x) v (next_not_refused s x e)
 
-pub fresh_not_refused : (d : ℕ) → 1 ≤ d → d ≤ 5 → stream_refused d (stream_fresh d).counts ≡ false
+fresh_not_refused : (d : ℕ) → 1 ≤ d → d ≤ 5 → stream_refused d (stream_fresh d).counts ≡ false
 fresh_not_refused d p h =
     let none : AtMostOne d (replicate 5 0) = λ j l. let e : get_or (replicate {A = ℕ} 5 0) j 0 ≡ 0 = get_or-replicate {A = ℕ} 5 j 0 0 (omega arith) in omega arith in
     not_refused d (replicate 5 0) (record { some = p; few = h; held = none })

@@ -27,8 +27,8 @@ use Rattle.half_band.proofs.Choices.{third}
 use Rattle.half_band.proofs.Blocks.{outs_length}
 use Rattle.std.proofs.lemmas.List.{drop-replicate, take-replicate}
 use Rattle.half_band.proofs.Moving.{length_slid}
-use Rattle.half_band.proofs.Parts.{part_long, part_found, part_elsewhere, length_with}
-use Rattle.half_band.proofs.WholeLists.{interpolator_whole}
+use Rattle.half_band.proofs.Parts.{parts_from, same_parts, part_long, part_found, part_elsewhere, length_with}
+use Rattle.half_band.proofs.WholeLists.{interpolator_whole, flat_append}
 
 -- ---- two outputs of each sample
 length_flat : (l : List (Float × Float)) → length (flat l) ≡ 2 * length l
@@ -38,11 +38,7 @@ length_flat (p ∷ l) = ap (λ (n : ℕ). suc (suc n)) (length_flat l) ∙ more 
     more : (n : ℕ) → suc (suc (2 * n)) ≡ 2 * suc n
     more n = omega arith
 
-flat_append : (l r : List (Float × Float)) → flat (l ++ r) ≡ flat l ++ flat r
-flat_append [] r = refl
-flat_append (p ∷ l) r = ap (λ (t : List Float). p.0 ∷ p.1 ∷ t) (flat_append l r)
-
-pub length_made : (c w v : List Float) → length (flat (outs (interpolator c) w v)) ≡ 2 * length v
+length_made : (c w v : List Float) → length (flat (outs (interpolator c) w v)) ≡ 2 * length v
 unfolding interpolator
 length_made c w v = length_flat (outs (interpolator c) w v) ∙ ap (λ (n : ℕ). 2 * n) (outs_length (interpolator c) (λ u x. int_value c (slid u (x ∷ []))) (λ u x. refl) w v)
 
@@ -128,17 +124,10 @@ module _ (taps : ℕ → List Float) (five : FiveStages taps) where
 
   -- the windows of n stages from k on in the delays
   abbrev windows_from : ℕ → ℕ → List Float → List (List Float)
-  windows_from zero k d = []
-  windows_from (suc n) k d = int_stage taps k d ∷ windows_from n (suc k) d
+  windows_from = parts_from (int_stage taps)
 
   fits : (k : ℕ) → k < 5 → 2 * length (taps k) ≤ 48
   fits k h = omega (arith, five.most k h)
-
-  same_windows : (n k : ℕ) (d e : List Float) → ((j : ℕ) → k ≤ j → j < k + n → int_stage taps j d ≡ int_stage taps j e) → windows_from n k d ≡ windows_from n k e
-  same_windows zero k d e s = refl
-  same_windows (suc n) k d e s =
-      ap (λ (w : List Float). w ∷ windows_from n (suc k) d) (s k (omega arith) (omega arith))
-      ∙ ap (λ (l : List (List Float)). int_stage taps k e ∷ l) (same_windows n (suc k) d e (λ j p q. s j (omega arith) (omega arith)))
 
   -- stage k after a list
   module _ (k : ℕ) (d v : List Float) (in_range : k < 5) (long : length d ≡ 240) where
@@ -160,7 +149,7 @@ module _ (taps : ℕ → List Float) (five : FiveStages taps) where
     stepped_found = part_found 48 (λ j. 2 * length (taps j)) fits d long k in_range window window_long
 
     stepped_later : (n : ℕ) → k + suc n ≤ 5 → windows_from n (suc k) stepped ≡ windows_from n (suc k) d
-    stepped_later n h = same_windows n (suc k) stepped d (λ j p q. part_elsewhere 48 (λ i. 2 * length (taps i)) fits d long k in_range window window_long j (omega arith) (not_same j p))
+    stepped_later n h = same_parts (int_stage taps) n (suc k) stepped d (λ j p q. part_elsewhere 48 (λ i. 2 * length (taps i)) fits d long k in_range window window_long j (omega arith) (not_same j p))
       where
         not_same : (j : ℕ) → suc k ≤ j → j ≡ k → ⊥
         not_same j p e = omega arith

@@ -9,7 +9,10 @@ pub mod Earlier
 pub mod WholeLists
 pub mod OnePair
 pub mod PairsAlong
+pub mod SamplesAlong
+pub mod OnLine
 pub mod Blocks
+pub mod Doubling
 pub mod Expanding
 pub mod Along
 pub mod Stored

@@ -1,31 +1,18 @@
 -- A window moved down by so many places, and the stores of what comes in behind it.
 use mathlib.Core.Path.{◌≡◌, sym, ap, ◌∙◌}
 use mathlib.Core.List.{List, [], ◌∷◌, ◌++◌}
-use Prim.Native.Nat.{ℕ, suc, ◌+◌, ◌-◌, ◌≤◌, ◌<◌}
-use native.Mathlib.Nat.{zero-add, add_comm}
+use Prim.Native.Nat.{ℕ, suc, ◌+◌, ◌-◌, ◌≤◌}
+use native.Mathlib.Nat.{zero-add}
 use native.Mathlib.Omega.{arith}
 use lib.ListN.{length, get_or, set, take, drop, length-drop, length-append, drop_of_length-le}
-use lib.Seq.{take_all, length-take-le, get_or-append-add, get_or-drop, drop-cons, set_at, append_snoc}
+use lib.Seq.{take_all, drop-cons, set_at, append_snoc}
 use lib.Ieee.{Float, nan}
 use Rattle.std.specs.List.{copy_within}
 use Rattle.half_band.specs.Windows.{slid}
-use Rattle.half_band.proofs.Filling.{filled, fill_next}
 
 -- a window moved down by a loop, after j turns
 abbrev pub moved : List Float → ℕ → ℕ → List Float
-moved w by j = filled w (drop by w) j
-
--- one turn
-pub turn : (w : List Float) (by j : ℕ) → j + by < length w → set (moved w by j) j (get_or (moved w by j) (j + by) nan) ≡ moved w by (j + 1)
-turn w by j h =
-    let e : length (take j (drop by w)) ≡ j = length-take-le j (drop by w) (simp length-drop (omega arith)) in
-    let read : get_or (moved w by j) (j + by) nan ≡ get_or (drop by w) j nan =
-    ap (λ (z : ℕ). get_or (moved w by j) (z + by) nan) (sym e)
-    ∙ get_or-append-add (take j (drop by w)) (drop j w) by nan
-    ∙ get_or-drop j w by nan
-    ∙ ap (λ (z : ℕ). get_or w z nan) (add_comm j by)
-    ∙ sym (get_or-drop by w j nan) in
-    ap (λ (v : Float). set (moved w by j) j v) read ∙ fill_next w (drop by w) j nan (omega arith) (simp length-drop (omega arith))
+moved w by j = take j (drop by w) ++ drop j w
 
 -- the last place
 last_in : (p w : List Float) (x : Float) → 1 ≤ length w → length p ≡ length w - 1 → set (p ++ drop (length w - 1) w) (length w - 1) x ≡ p ++ x ∷ []

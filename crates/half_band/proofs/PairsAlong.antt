@@ -1,5 +1,5 @@
 -- A window that takes in the pairs behind it moves along the line of both by two places: so the outputs are those at the line's windows, and the last places are the window left.
-use mathlib.Core.Path.{◌≡◌, sym, ap, ◌∙◌}
+use mathlib.Core.Path.{◌≡◌, refl, sym, ap, ◌∙◌}
 use mathlib.Core.List.{List, [], ◌∷◌, ◌++◌, append-nil, append_assoc}
 use Prim.Native.Nat.{ℕ, suc, ◌+◌, ◌*◌, ◌-◌, ◌≤◌, ◌<◌}
 use native.Mathlib.Nat.{add_comm}
@@ -64,3 +64,13 @@ state_along c (a ∷ b ∷ v) w n h e =
     ∙ ap (drop (length v)) (append_assoc (drop 2 w) (a ∷ b ∷ []) v ∙ sym (drop-append-le 2 w (a ∷ b ∷ v) h))
     ∙ drop-drop (length v) 2 (w ++ (a ∷ b ∷ v))
     ∙ ap (λ (j : ℕ). drop j (w ++ (a ∷ b ∷ v))) two
+
+-- as many samples as fill the window are the window then
+pub filled : (c v w : List Float) (n : ℕ) → 2 ≤ length w → length v ≡ 2 * n → length w ≡ length v → state (decimator c) w (pairs v) ≡ v
+filled c v w n h e same = state_along c v w n h e ∙ drop_at w v (length v) same
+
+-- the pairs of two lists, of which the first has no odd last one
+pub pairs_append : (v s : List Float) (n : ℕ) → length v ≡ 2 * n → pairs (v ++ s) ≡ pairs v ++ pairs s
+pairs_append [] s n e = refl
+pairs_append (a ∷ []) s n e = absurd (omega arith)
+pairs_append (a ∷ b ∷ v) s n e = ap {B = List (Float × Float)} (λ (t : List (Float × Float)). (a, b) ∷ t) (pairs_append v s (n - 1) (omega arith))

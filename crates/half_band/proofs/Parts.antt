@@ -1,7 +1,7 @@
 -- Parts of one list at equal distances, each no longer than the distance: a part put in is the part found, and the others are as they were.
-use mathlib.Core.Path.{◌≡◌, ap}
-use mathlib.Core.List.{List}
-use Prim.Native.Nat.{ℕ, ◌+◌, ◌*◌, ◌≤◌, ◌<◌}
+use mathlib.Core.Path.{◌≡◌, refl, ap, ◌∙◌}
+use mathlib.Core.List.{List, [], ◌∷◌}
+use Prim.Native.Nat.{ℕ, zero, suc, ◌+◌, ◌*◌, ◌≤◌, ◌<◌}
 use native.Mathlib.Nat.{mul-le-mul_left, mul-suc}
 use native.Mathlib.Omega.{arith}
 use native.Mathlib.Decide.{dec_lt}
@@ -10,6 +10,17 @@ use lib.Seq.{length-take-le}
 use lib.Ieee.{Float}
 use Rattle.half_band.specs.Windows.{spliced}
 use Rattle.half_band.proofs.Splicing.{splice_found, splice_before, splice_after, length_splice}
+
+-- what `part` gives of s for n numbers from k on
+abbrev pub parts_from : {S A : Type 0} → (ℕ → S → A) → ℕ → ℕ → S → List A
+parts_from part zero k s = []
+parts_from part (suc n) k s = part k s ∷ parts_from part n (suc k) s
+
+pub same_parts : {S A : Type 0} (part : ℕ → S → A) (n k : ℕ) (s t : S) → ((j : ℕ) → k ≤ j → j < k + n → part j s ≡ part j t) → parts_from part n k s ≡ parts_from part n k t
+same_parts part zero k s t e = refl
+same_parts {S} {A} part (suc n) k s t e =
+    ap (λ (a : A). a ∷ parts_from part n (suc k) s) (e k (omega arith) (omega arith))
+    ∙ ap (λ (l : List A). part k t ∷ l) (same_parts part n (suc k) s t (λ j p q. e j (omega arith) (omega arith)))
 
 -- `size k` places from `distance` × k on, for five k
 module _ (distance : ℕ) (size : ℕ → ℕ) (fits : (k : ℕ) → k < 5 → size k ≤ distance) where

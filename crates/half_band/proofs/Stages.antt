@@ -17,7 +17,7 @@ use Rattle.half_band.specs.Windows.{slid}
 use Rattle.half_band.specs.HbfStream.{Half, half, Passed, stage_in, with_stage, through}
 use Rattle.half_band.specs.declared.hbf_stream.HbfStream.{HbfStream}
 use Rattle.half_band.proofs.Moving.{length_slid}
-use Rattle.half_band.proofs.Parts.{part_long, part_found, part_elsewhere, length_with}
+use Rattle.half_band.proofs.Parts.{parts_from, same_parts, part_long, part_found, part_elsewhere, length_with}
 use Rattle.half_band.specs.HbfTaps.{FiveStages}
 use Rattle.half_band.proofs.Passing.{none_through}
 
@@ -41,8 +41,7 @@ module _ (taps : ℕ → List Float) (five : FiveStages taps) where
 
   -- n stages from stage k on
   abbrev pub stages_from : ℕ → ℕ → HbfStream → List Half
-  stages_from zero k s = []
-  stages_from (suc n) k s = stage_in taps k s ∷ stages_from n (suc k) s
+  stages_from = parts_from (stage_in taps)
 
   -- a window lies in its 96 places
   fits : (k : ℕ) → k < 5 → 4 * length (taps k) ≤ 96
@@ -80,12 +79,6 @@ module _ (taps : ℕ → List Float) (five : FiveStages taps) where
         (get_or-set_other s.held k j h.held nan q)
         ∙ ap {B = Half} (λ (n : ℕ). record { window = take (4 * length (taps j)) (drop (96 * j) s.delays); held = get_or s.held j nan; count = n }) (get_or-set_other s.counts k j h.count 0 q)
 
-  -- the same stages
-  same_stages : (n k : ℕ) (s t : HbfStream) → ((j : ℕ) → k ≤ j → j < k + n → stage_in taps j s ≡ stage_in taps j t) → stages_from n k s ≡ stages_from n k t
-  same_stages zero k s t e = refl
-  same_stages (suc n) k s t e =
-      ap (λ (h : Half). h ∷ stages_from n (suc k) s) (e k (omega arith) (omega arith)) ∙ ap (λ (l : List Half). stage_in taps k t ∷ l) (same_stages n (suc k) s t (λ j p q. e j (omega arith) (omega arith)))
-
   -- stage k after a value
   module _ (k : ℕ) (x : Float) (s : HbfStream) (in_range : k < 5) (z : Sized s) where
     abbrev after : Half
@@ -107,7 +100,7 @@ module _ (taps : ℕ → List Float) (five : FiveStages taps) where
     found_stepped = found k after s in_range z after_long_lem
 
     later_stepped : (n : ℕ) → k + suc n ≤ 5 → stages_from n (suc k) stepped ≡ stages_from n (suc k) s
-    later_stepped n h = same_stages n (suc k) stepped s (λ j p q. elsewhere k after s in_range z after_long_lem j (omega arith) (not_same j p))
+    later_stepped n h = same_parts (stage_in taps) n (suc k) stepped s (λ j p q. elsewhere k after s in_range z after_long_lem j (omega arith) (not_same j p))
       where
         not_same : (j : ℕ) → suc k ≤ j → j ≡ k → ⊥
         not_same j p e = omega arith

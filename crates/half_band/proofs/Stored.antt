@@ -38,7 +38,7 @@ fresh_usable N c b =
     full n h = omega arith
 
 module _ (W N m : ℕ) (coeffs delay : List Float) (u : Usable N m coeffs delay) (room : W ≤ N) where
-  pub window_long : length (take W delay) ≡ W
+  window_long : length (take W delay) ≡ W
   window_long = length-take-le W delay (omega (arith, room, u.delay_long))
 
   module _ {S A B : Type 0} (build : ℕ → List Float → List Float → S) (f : Section S A B) (g : List Float → Section (List Float) A B)

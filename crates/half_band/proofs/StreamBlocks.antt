@@ -3,15 +3,16 @@
 use mathlib.Core.Path.{◌≡◌, refl, sym, ap, ◌∙◌, subst}
 use mathlib.Core.Bool.{cond}
 use mathlib.Core.List.{List, [], ◌∷◌, ◌++◌, append_assoc}
-use Rattle.std.specs.Prelude.{Option, None, Some}
-use Prim.Native.Nat.{ℕ, suc, ◌+◌, ◌-◌, ◌*◌, ◌/◌, ◌%◌, ◌≤◌, ◌<◌, min}
+use Rattle.std.specs.Bool.{then_some}
+use Prim.Native.Nat.{ℕ, zero, suc, ◌+◌, ◌-◌, ◌*◌, ◌/◌, ◌%◌, ◌≤◌, ◌<◌, min}
 use native.Mathlib.Omega.{arith}
 use lib.Dec.{eqb}
 use lib.ListN.{length, get_or, set, take, drop, length-append, length-drop}
 use lib.Seq.{length-take-le, take_at, take_all, get_or-append-add}
 use lib.Ieee.{Float, nan}
-use Rattle.theory.specs.Sections.{Section, onto, state, outs}
+use Rattle.theory.specs.Sections.{onto, Section, state, outs}
 use Rattle.float.specs.F32.{zero32}
+use Rattle.theory.proofs.Sections.{outs_few}
 use Rattle.half_band.specs.HbfTaps.{stage_taps, decimation, decimation_five}
 use Rattle.half_band.specs.Windows.{pairs, decimator, spliced}
 use Rattle.half_band.specs.HbfStream.{Half, half, stage_in, with_stage, hbf_stream, stream_of}
@@ -26,6 +27,12 @@ use Rattle.half_band.proofs.StageByStage.{stages_all, stages_none}
 
 abbrev T : ℕ → List Float
 T = stage_taps decimation
+
+-- none or one value in front of a list
+led : (m : ℕ) → m ≤ 1 → (x : Float) (v : List Float) → onto (then_some (eqb m 1) x) v ≡ take m (x ∷ []) ++ v
+led zero h x v = refl
+led (suc zero) h x v = refl
+led (suc (suc m)) h x v = absurd (omega arith)
 
 -- ---- stage k with the arrays lent, over the values of a span
 module _ (k : ℕ) (delays held : List Float) (counts : List ℕ) where
@@ -49,16 +56,19 @@ module _ (k : ℕ) (delays held : List Float) (counts : List ℕ) where
     lead = take before (get_or held k nan ∷ [])
 
     abbrev values : List Float
-    values = lead ++ span
+    values = onto (then_some (eqb before 1) (get_or held k nan)) span
+
+    few : before ≤ 1
+    few = omega arith
+
+    values_is : values ≡ lead ++ span
+    values_is = led before few (get_or held k nan) span
 
     lead_long : length lead ≡ before
     lead_long = length-take-le before (get_or held k nan ∷ []) few
-      where
-        few : before ≤ 1
-        few = omega arith
 
     values_long : length values ≡ before + n
-    values_long = length-append lead span ∙ ap (λ (m : ℕ). m + n) lead_long
+    values_long = ap length values_is ∙ length-append lead span ∙ ap (λ (m : ℕ). m + n) lead_long
 
     -- the stage as the arrays have it
     abbrev stage : Half
@@ -73,15 +83,17 @@ module _ (k : ℕ) (delays held : List Float) (counts : List ℕ) where
         ap (λ (h : Half). state (half (T k)) h span) stage_is
         ∙ half_run (T k) window (get_or held k nan) (get_or counts k 0) span some_in
         ∙ ap (λ (m : ℕ). rested (T k) window (take m (get_or held k nan ∷ []) ++ span)) (sym counted)
+        ∙ ap (rested (T k) window) (sym values_is)
 
     made_is : stage_outs k lent span ≡ outs (decimator (T k)) window (pairs values)
     made_is =
         ap (λ (h : Half). outs (half (T k)) h span) stage_is
         ∙ half_made (T k) window (get_or held k nan) (get_or counts k 0) span
         ∙ ap (λ (m : ℕ). outs (decimator (T k)) window (pairs (take m (get_or held k nan ∷ []) ++ span))) (sym counted)
+        ∙ ap (λ (v : List Float). outs (decimator (T k)) window (pairs v)) (sym values_is)
 
     last_is : get_or values (before + n - 1) nan ≡ get_or span (n - 1) nan
-    last_is = ap (λ (i : ℕ). get_or values i nan) (place lead_long) ∙ get_or-append-add lead span (n - 1) nan
+    last_is = ap (λ (v : List Float). get_or v (before + n - 1) nan) values_is ∙ ap (λ (i : ℕ). get_or (lead ++ span) i nan) (place lead_long) ∙ get_or-append-add lead span (n - 1) nan
       where
         place : length lead ≡ before → before + n - 1 ≡ length lead + (n - 1)
         place e = omega arith
@@ -104,7 +116,7 @@ module _ (k : ℕ) (delays held : List Float) (counts : List ℕ) where
         ∙ ap (λ (g : Half). with_stage T k g lent) (sym run_is)
 
     pub stage_made :
-        (t : List Float) → t ≡ outs (decimator (T k)) window (pairs values) ++ drop ((length lead + n) / 2) span
+        (t : List Float) → t ≡ outs (decimator (T k)) window (pairs values) ++ drop (length values / 2) span
         → ((before + n) / 2 ≡ length (stage_outs k lent span)) × (t ≡ stage_outs k lent span ++ drop ((before + n) / 2) span)
     stage_made t et = (
       sym (
@@ -113,7 +125,7 @@ module _ (k : ℕ) (delays held : List Float) (counts : List ℕ) where
           ∙ length_pairs values
           ∙ ap (λ (m : ℕ). m / 2) values_long
           ),
-      et ∙ ap (λ (m : ℕ). outs (decimator (T k)) window (pairs values) ++ drop ((m + n) / 2) span) lead_long
+      et ∙ ap (λ (m : ℕ). outs (decimator (T k)) window (pairs values) ++ drop (m / 2) span) values_long
           ∙ ap (λ (l : List Float). l ++ drop ((before + n) / 2) span) (sym made_is),
     )
 
@@ -126,15 +138,6 @@ module _ (depth k : ℕ) (delays held : List Float) (counts : List ℕ) (v : Lis
   outs_at : stage_outs k (stream_of 0 delays held counts) v ≡ stage_outs k (stream_of depth delays held counts) v
   unfolding stage_in
   outs_at = refl
-
--- a section makes at most one value of each
-outs_few : {S A B : Type 0} (f : Section S A B) (s : S) (v : List A) → length (outs f s v) ≤ length v
-outs_few f s [] = omega arith
-outs_few f s (a ∷ v) = more (f.out s a) (outs f (f.next s a) v) (outs_few f (f.next s a) v)
-  where
-    more : {B : Type 0} (o : Option B) (l : List B) → length l ≤ length v → length (onto o l) ≤ suc (length v)
-    more None l h = omega arith
-    more (Some b) l h = omega arith
 
 -- ---- the loop over the stages
 abbrev left : ℕ → ℕ → Section HbfStream Float Float

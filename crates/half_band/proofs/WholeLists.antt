@@ -13,15 +13,11 @@ use lib.Ieee.{Float, nan, binary32, add, mul}
 use Rattle.theory.specs.Lists.{listed}
 use Rattle.theory.specs.Sections.{Section, outs}
 use Rattle.theory.proofs.Listed.{made_at, outs_collected, collected_listed}
+use Rattle.q15.proofs.Filling.{listed_ext}
 use Rattle.half_band.specs.HalfBand.{half32, earlier, dec_acc, dec_output, decimated, even_output, odd_acc, odd_output, flat, interpolated}
 use Rattle.float.specs.F32.{zero32}
 use Rattle.half_band.specs.Windows.{slid, folded, dec_value, int_value, pairs, decimator, interpolator}
 use Rattle.half_band.proofs.Earlier.{earlier_same, last_of, length_last_of, slid_last, place_of}
-
-pub listed_same : {B : Type 0} (n : ℕ) (f g : ℕ → B) → ((k : ℕ) → k < n → f k ≡ g k) → listed n f ≡ listed n g
-listed_same zero f g e = refl
-listed_same {B} (suc n) f g e =
-    ap (λ (l : List B). l ++ (f n ∷ [])) (listed_same n f g (λ k h. e k (omega arith))) ∙ ap (λ (b : B). listed n g ++ (b ∷ [])) (e n (omega arith))
 
 -- a section that makes an output of every value, whose state and output follow from the values so far
 module _ {S A B : Type 0} (f : Section S A B) (at : List A → S) (g : List A → B)
@@ -60,9 +56,12 @@ abbrev pub dec_made : List Float → List Float → Float × Float → Float
 dec_made c w p = dec_value c (slid w (p.0 ∷ p.1 ∷ []))
 
 -- ---- pairs
+pub flat_append : (v w : List (Float × Float)) → flat (v ++ w) ≡ flat v ++ flat w
+flat_append [] w = refl
+flat_append (p ∷ v) w = ap (λ (l : List Float). p.0 ∷ p.1 ∷ l) (flat_append v w)
+
 pub flat_snoc : (v : List (Float × Float)) (p : Float × Float) → flat (v ++ (p ∷ [])) ≡ flat v ++ (p.0 ∷ p.1 ∷ [])
-flat_snoc [] p = refl
-flat_snoc (q ∷ v) p = ap (λ (l : List Float). q.0 ∷ q.1 ∷ l) (flat_snoc v p)
+flat_snoc v p = flat_append v (p ∷ [])
 
 pub length_pairs : (w : List Float) → length (pairs w) ≡ length w / 2
 length_pairs [] = refl
@@ -110,7 +109,7 @@ unfolding decimator decimated
 decimator_whole c p w =
     ap (λ (s : List Float). outs (decimator c) s (pairs w)) (sym start)
     ∙ every_value (decimator c) (λ v. last_of L (flat v)) (λ v. dec_value c (last_of L (flat v))) next_at (λ v a. ap (λ (s : List Float). Some (dec_value c s)) (next_at v a)) (pairs w)
-    ∙ listed_same (length (pairs w)) (λ k. dec_value c (last_of L (flat (take (suc k) (pairs w))))) (dec_output c w) each
+    ∙ listed_ext (length (pairs w)) (λ k. dec_value c (last_of L (flat (take (suc k) (pairs w))))) (dec_output c w) each
     ∙ ap (λ (n : ℕ). listed n (dec_output c w)) (length_pairs w)
   where
     L : ℕ
@@ -160,7 +159,7 @@ interpolator_whole c p w =
     ap (λ (s : List Float). flat (outs (interpolator c) s w)) (sym start)
     ∙ ap flat
     (every_value (interpolator c) (last_of L) (λ v. int_value c (last_of L v)) next_at (λ v a. ap {B = Option (Float × Float)} (λ (s : List Float). Some (int_value c s)) (next_at v a)) w
-    ∙ listed_same (length w) (λ k. int_value c (last_of L (take (suc k) w))) (λ n. (even_output c w n, odd_output c w n)) each)
+    ∙ listed_ext (length w) (λ k. int_value c (last_of L (take (suc k) w))) (λ n. (even_output c w n, odd_output c w n)) each)
   where
     L : ℕ
     L = 2 * length c

@@ -4,7 +4,7 @@ use Rattle.theory.specs.Sections.{state, outs}
 use Rattle.refusal.specs.Table.{number_of}
 use Rattle.refusal.specs.declared.Refusal.{Refusal}
 use Rattle.refusal.specs.Outcome.{Opened, Outcome}
-use Rattle.half_band.specs.Limits.{most_stages}
+use Rattle.half_band.specs.Limits.{most_depth}
 use Rattle.refusal.specs.Rows.{outside, samples_refused}
 use Rattle.half_band.specs.HalfBand.{decimated_by}
 use Rattle.float.specs.F32.{zero32}
@@ -22,7 +22,7 @@ pub record Cascade : Type 0 where
 
 -- the stages with nothing held
 abbrev pub unheld : Cascade → HbfStream
-unheld s = stream_of s.depth s.delays (replicate most_stages zero32) (replicate most_stages 0)
+unheld s = stream_of s.depth s.delays (replicate most_depth zero32) (replicate most_depth 0)
 
 abbrev pub cascade_of : ℕ → List Float → Cascade
 cascade_of depth delays = record { depth = depth; delays = delays }
@@ -32,7 +32,7 @@ dec_cascade_fresh depth = record { depth = depth; delays = replicate 480 zero32 
 
 -- 11: "depth over 5, or a cascade of 0"
 abbrev pub dec_cascade_opening : ℕ → Opened Cascade
-dec_cascade_opening depth = cond (outside depth 1 most_stages) (record { number = 11; state = dec_cascade_fresh 0 }) (record { number = 0; state = dec_cascade_fresh depth })
+dec_cascade_opening depth = cond (outside depth 1 most_depth) (record { number = 11; state = dec_cascade_fresh 0 }) (record { number = 0; state = dec_cascade_fresh depth })
 
 -- the code's answer to an opening, over whichever table
 abbrev pub told_cascade : {T : Type 0} → Result (DecCascade T) Refusal → Opened Cascade
@@ -41,7 +41,7 @@ told_cascade (Err q) = record { number = number_of q; state = dec_cascade_fresh 
 
 -- 15: "settings that its opening refuses"
 abbrev pub dec_cascade_refused : Cascade → Bool
-dec_cascade_refused s = outside s.depth 1 most_stages
+dec_cascade_refused s = outside s.depth 1 most_depth
 
 abbrev pub dec_cascade_reset : Cascade → Opened Cascade
 dec_cascade_reset s = cond (dec_cascade_refused s) (record { number = 15; state = s }) (dec_cascade_opening s.depth)

@@ -3,7 +3,7 @@
 use Rattle.std.specs.Prelude.{◌≡◌, Bool, false, cond, List, [], ◌∷◌, ◌++◌, ℕ, zero, suc, ◌*◌, ◌/◌, ◌^◌, min, length, take, drop, replicate, Float}
 use Rattle.theory.specs.Sections.{state, outs}
 use Rattle.refusal.specs.Outcome.{Opened, Outcome}
-use Rattle.half_band.specs.Limits.{most_stages}
+use Rattle.half_band.specs.Limits.{most_depth}
 use Rattle.refusal.specs.Rows.{outside, samples_refused}
 use Rattle.half_band.specs.HalfBand.{flat, interpolated_by}
 use Rattle.float.specs.F32.{zero32}
@@ -30,21 +30,24 @@ module _ (taps : ℕ → List Float) where
 
 -- the first `depth` stages of section 7's table
 unfoldable pub int_cascade_run : HbfIntCascade → List Float → Upsampled
-int_cascade_run s v = upsampled (stage_taps interpolation) (min s.depth most_stages) 0 s.delays v
+int_cascade_run s v = upsampled (stage_taps interpolation) (min s.depth most_depth) 0 s.delays v
 
 abbrev pub int_cascade_after : HbfIntCascade → List Float → HbfIntCascade
 int_cascade_after s v = record { depth = s.depth; delays = (int_cascade_run s v).delays }
+
+abbrev pub int_cascade_of : ℕ → List Float → HbfIntCascade
+int_cascade_of depth delays = record { depth = depth; delays = delays }
 
 abbrev pub int_cascade_fresh : ℕ → HbfIntCascade
 int_cascade_fresh depth = record { depth = depth; delays = replicate 240 zero32 }
 
 -- 11: "depth over 5, or a cascade of 0"
 abbrev pub int_cascade_opening : ℕ → Opened HbfIntCascade
-int_cascade_opening depth = cond (outside depth 1 most_stages) (record { number = 11; state = int_cascade_fresh 0 }) (record { number = 0; state = int_cascade_fresh depth })
+int_cascade_opening depth = cond (outside depth 1 most_depth) (record { number = 11; state = int_cascade_fresh 0 }) (record { number = 0; state = int_cascade_fresh depth })
 
 -- 15: "settings that its opening refuses"
 abbrev pub int_cascade_refused : HbfIntCascade → Bool
-int_cascade_refused s = outside s.depth 1 most_stages
+int_cascade_refused s = outside s.depth 1 most_depth
 
 abbrev pub int_cascade_reset : HbfIntCascade → Opened HbfIntCascade
 int_cascade_reset s = cond (int_cascade_refused s) (record { number = 15; state = s }) (int_cascade_opening s.depth)

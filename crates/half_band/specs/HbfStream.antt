@@ -5,7 +5,7 @@ use Rattle.std.specs.Float.{nan}
 use Rattle.theory.specs.Sections.{Section, state, outs}
 use Rattle.refusal.specs.Outcome.{Opened, Outcome}
 use Rattle.refusal.specs.Rows.{outside}
-use Rattle.half_band.specs.Limits.{most_stages}
+use Rattle.half_band.specs.Limits.{most_depth}
 use Rattle.half_band.specs.HalfBand.{decimated_by}
 use Rattle.float.specs.F32.{zero32}
 use Rattle.half_band.specs.HbfTaps.{stage_taps, decimation}
@@ -59,7 +59,7 @@ module _ (taps : ℕ → List Float) where
   -- through the first `depth` stages; where there are none the value is handed on
   unfoldable pub stream : Section HbfStream Float Float
   stream =
-      record { next = λ s x. (through (min s.depth most_stages) 0 (Some x) s).state; out = λ s x. (through (min s.depth most_stages) 0 (Some x) s).out }
+      record { next = λ s x. (through (min s.depth most_depth) 0 (Some x) s).state; out = λ s x. (through (min s.depth most_depth) 0 (Some x) s).out }
 
 -- the table of section 4
 unfoldable pub hbf_stream : Section HbfStream Float Float
@@ -70,11 +70,11 @@ abbrev pub stream_of : ℕ → List Float → List Float → List ℕ → HbfStr
 stream_of depth delays held counts = record { depth = depth; delays = delays; held = held; counts = counts }
 
 abbrev pub stream_fresh : ℕ → HbfStream
-stream_fresh depth = stream_of depth (replicate 480 zero32) (replicate most_stages zero32) (replicate most_stages 0)
+stream_fresh depth = stream_of depth (replicate 480 zero32) (replicate most_depth zero32) (replicate most_depth 0)
 
 -- 11: "depth over 5, or a cascade of 0 (not the line)"
 abbrev pub stream_opening : ℕ → Opened HbfStream
-stream_opening depth = cond (outside depth 1 most_stages) (record { number = 11; state = stream_fresh 0 }) (record { number = 0; state = stream_fresh depth })
+stream_opening depth = cond (outside depth 1 most_depth) (record { number = 11; state = stream_fresh 0 }) (record { number = 0; state = stream_fresh depth })
 
 -- 15: "more than one held sample at one half-band stage", of the first n
 unfoldable pub held_fine : ℕ → List ℕ → Bool
@@ -83,7 +83,7 @@ held_fine (suc n) counts = held_fine n counts && leb (get_or counts n 0) 1
 
 -- 15 beside the line: these, and "settings that its opening refuses"; so the zeros of a refused opening are refused too
 unfoldable pub stream_refused : ℕ → List ℕ → Bool
-stream_refused depth counts = cond (outside depth 1 most_stages) true (cond (held_fine depth counts) false true)
+stream_refused depth counts = cond (outside depth 1 most_depth) true (cond (held_fine depth counts) false true)
 
 -- 15 in the line, where 0 means off and "a part that is off is not checked"
 unfoldable pub stream_refused_in_line : ℕ → List ℕ → Bool

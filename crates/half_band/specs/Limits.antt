@@ -6,5 +6,5 @@ abbrev pub most_half_band_taps : ℕ
 most_half_band_taps = 23
 
 -- cascade, 11: "depth over 5"
-abbrev pub most_stages : ℕ
-most_stages = 5
+abbrev pub most_depth : ℕ
+most_depth = 5

@@ -3,7 +3,7 @@ use Rattle.std.specs.Prelude.{◌≡◌, cond, List, ℕ, zero, suc, ◌+◌, �
 use Rattle.std.specs.Float.{nan}
 use Rattle.refusal.specs.Outcome.{Answer}
 use Rattle.half_band.specs.Equal.{Equal}
-use Rattle.half_band.specs.Limits.{most_stages}
+use Rattle.half_band.specs.Limits.{most_depth}
 use Rattle.half_band.specs.HbfTaps.{Table, stage_taps}
 
 -- "the sum over stage i of (4M−2) × 2^i", for the n stages from stage k on
@@ -17,7 +17,7 @@ reach_of taps d = 1 + spanned taps 0 d
 
 -- the reach of a depth; 11: "a depth over 5 is refused"
 unfoldable pub reach_at : Table → ℕ → Answer ℕ
-reach_at t depth = cond (ltb most_stages depth) (record { number = 11; value = 0 }) (record { number = 0; value = reach_of (stage_taps t) depth })
+reach_at t depth = cond (ltb most_depth depth) (record { number = 11; value = 0 }) (record { number = 0; value = reach_of (stage_taps t) depth })
 
 -- in whichever sense E samples are equal
 module _ (E : Float → Float → Type 0) where

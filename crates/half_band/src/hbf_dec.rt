@@ -4,8 +4,9 @@ ghost use Rattle.refusal.specs.Outcome.{told_on, told_opened, told_reset};
 ghost use Rattle.float.specs.F32.{zero32};
 ghost use Rattle.half_band.specs.HbfDec.{dec_of, dec_none, dec_opening, dec_reset, dec_step, dec_block, dec_span, DecMeets};
 
-use crate::half_band::{decimate, padded, take_pair};
+use crate::half_band::{Taps, decimate, take_pair};
 use crate::limits::{DEC_DELAYS, MOST_HALF_BAND_TAPS, state_answer};
+use q15::padding::padded;
 use refusal::Refusal;
 use refusal::rows::{outside, samples_refused};
 
@@ -41,7 +42,7 @@ impl HbfDec {
         }
         Ok(HbfDec {
             m,
-            coeffs: padded(taps),
+            coeffs: padded(taps, 0.0),
             delay: [0.0; DEC_DELAYS],
         })
     }
@@ -83,7 +84,8 @@ pub fn pair_lent(
     ensures answer { told_on zero32 result (dec_of m coeffs.now delay.new) ≡ dec_step (dec_of m coeffs.now delay.old) a b }
 {
     state_answer(m, MOST_HALF_BAND_TAPS)?;
-    Ok(take_pair(&mut delay[..4 * m], &coeffs[..m], a, b))
+    let taps = Taps { all: &coeffs[..m] };
+    Ok(take_pair(&mut delay[..4 * m], taps, a, b))
 }
 
 // `HbfDec::process` for the C function, likewise.
@@ -107,7 +109,7 @@ pub fn pairs_lent(
     let n = dst.len().min(src.len() / 2);
     decimate(
         &mut delay[..4 * m],
-        &coeffs[..m],
+        Taps { all: &coeffs[..m] },
         &src[..2 * n],
         &mut dst[..n],
     );

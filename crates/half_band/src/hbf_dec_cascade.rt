@@ -1,7 +1,7 @@
 // 01, section 4, and 02, §11: blocks through a cascade of half-band decimators, one output of each 2^depth samples. The samples are put on a tape, as many whole
 // frames of 2^depth as it has places for, and each stage turns the list there into half as many values in place: nothing is held at the end of whole frames.
 ghost use Rattle.std.specs.Prelude.{◌≡◌, ◌++◌, ◌+◌, ◌*◌, ◌/◌, ◌^◌, ◌≤◌, ◌<◌, length, take, drop, replicate, IfOk};
-ghost use Rattle.theory.specs.Sections.{state, outs};
+ghost use Rattle.theory.specs.Sections.{onto, state, outs};
 ghost use Rattle.refusal.specs.Outcome.{told_on, told_reset};
 ghost use Rattle.float.specs.F32.{zero32};
 ghost use Rattle.half_band.specs.HbfTaps.{stage_taps};
@@ -9,9 +9,9 @@ ghost use Rattle.half_band.specs.Windows.{pairs, decimator, spliced};
 ghost use Rattle.half_band.specs.HbfStream.{stream, stream_of};
 ghost use Rattle.half_band.specs.HbfDecCascade.{cascade_of, told_cascade, dec_cascade_fresh, dec_cascade_opening, dec_cascade_reset, block_by, span_by, MeetsBy};
 
-use crate::half_band::{TAPE, decimate_in_place, on_tape};
+use crate::half_band::{TAPE, Taps, decimate_in_place};
 use crate::hbf_taps::{Db98, Db140, StageTable};
-use crate::limits::{DEC_CASCADE_DELAYS, DEC_DELAYS, MOST_STAGES, rate_change, state_answer};
+use crate::limits::{DEC_CASCADE_DELAYS, DEC_DELAYS, MOST_DEPTH, rate_change, state_answer};
 use refusal::Refusal;
 use refusal::rows::{outside, samples_refused};
 use std::marker::PhantomData;
@@ -31,43 +31,54 @@ pub type HbfDecCascade98 = DecCascade<Db98>;
 // The pairs of the lead and the span go through stage k, and their outputs stand in front of the span.
 pub(crate) fn decimate_stage<T: StageTable>(
     k: usize,
-    delays: &mut [f32],
-    lead: &[f32],
+    delays: &mut [f32; DEC_CASCADE_DELAYS],
+    lead: Option<f32>,
     span: &mut [f32],
 )
-    requires { (k < 5) × (length delays.old ≡ 480) × (length lead.now ≤ length span.old) × (length lead.now + length span.old ≤ 193) }
+    requires { (k < 5) × (length span.old ≤ 192) }
     ensures { let taps = stage_taps T.table k in
         let window = take (4 * length taps) (drop (96 * k) delays.old) in
-        let taken = pairs (lead.now ++ span.old) in
-        (delays.new ≡ spliced (96 * k) (4 * length taps) (state (decimator taps) window taken) delays.old)
-        × (span.new ≡ outs (decimator taps) window taken ++ drop ((length lead.now + length span.old) / 2) span.old) }
+        let led = onto lead span.old in
+        (delays.new ≡ spliced (96 * k) (4 * length taps) (state (decimator taps) window (pairs led)) delays.old)
+        × (span.new ≡ outs (decimator taps) window (pairs led) ++ drop (length led / 2) span.old) }
 {
-    let taps = T::stage(k);
+    let taps = Taps { all: T::stage(k) };
     let from = DEC_DELAYS * k;
-    let past = from + 4 * taps.len();
+    let past = from + 4 * taps.all.len();
     decimate_in_place(&mut delays[from..past], taps, lead, span)
 }
 
-// The frames of src, at most a tape long, go through the stages on a tape, and an output of each fills dst. Nothing is held before them, so the lead is empty.
-fn decimate_on_tape<T: StageTable>(depth: usize, delays: &mut [f32], src: &[f32], dst: &mut [f32])
-    requires { (depth ≤ 5) × (length delays.old ≡ 480) × (length src.now ≡ length dst.old * 2 ^ depth) × (length src.now ≤ 192) }
+// The frames of src, at most a tape long, go through the stages on a tape, and an output of each fills dst. Nothing is held before them, so there is no lead.
+fn decimate_on_tape<T: StageTable>(
+    depth: usize,
+    delays: &mut [f32; DEC_CASCADE_DELAYS],
+    src: &[f32],
+    dst: &mut [f32],
+)
+    requires { (depth ≤ 5) × (length src.now ≡ length dst.old * 2 ^ depth) × (length src.now ≤ 192) }
     ensures { let cascade = stream (stage_taps T.table) in
         let before = stream_of depth delays.old (replicate 5 zero32) (replicate 5 0) in
         let after = stream_of depth delays.new (replicate 5 zero32) (replicate 5 0) in
         (after ≡ state cascade before src.now) × (dst.new ≡ outs cascade before src.now) }
 {
-    let mut tape = on_tape(src);
     let mut n = src.len();
+    let mut tape = [0.0; TAPE];
+    tape[..n].copy_from_slice(src);
     for k in 0..depth {
-        decimate_stage::<T>(k, delays, &[], &mut tape[..n]);
+        decimate_stage::<T>(k, delays, None, &mut tape[..n]);
         n /= 2;
     }
     dst.copy_from_slice(&tape[..n]);
 }
 
 // The frames of src go through the stages, and an output of each fills dst.
-fn decimate_frames<T: StageTable>(depth: usize, delays: &mut [f32], src: &[f32], dst: &mut [f32])
-    requires { (depth ≤ 5) × (length delays.old ≡ 480) × (length src.now ≡ length dst.old * 2 ^ depth) × (length src.now ≤ 65536) }
+fn decimate_frames<T: StageTable>(
+    depth: usize,
+    delays: &mut [f32; DEC_CASCADE_DELAYS],
+    src: &[f32],
+    dst: &mut [f32],
+)
+    requires { (depth ≤ 5) × (length src.now ≡ length dst.old * 2 ^ depth) × (length src.now ≤ 65536) }
     ensures { let cascade = stream (stage_taps T.table) in
         let before = stream_of depth delays.old (replicate 5 zero32) (replicate 5 0) in
         let after = stream_of depth delays.new (replicate 5 zero32) (replicate 5 0) in
@@ -87,7 +98,31 @@ fn decimate_frames<T: StageTable>(depth: usize, delays: &mut [f32], src: &[f32],
     }
 }
 
+// `DecCascade::process` for the C functions, which are lent the delays: a block does not pay for moving them.
 #[tactic(auto, unfolding(refusal::specs::Rows::outside, refusal::specs::Rows::samples_refused), using(crate::proofs::DecCascades::frames_fit))]
+pub fn frames_lent<T: StageTable>(
+    depth: usize,
+    delays: &mut [f32; DEC_CASCADE_DELAYS],
+    src: &[f32],
+    dst: &mut [f32],
+) -> Result<usize, Refusal>
+    ensures answer { let before = cascade_of depth delays.old in
+        let after = cascade_of depth delays.new in
+        told_on 0 result after ≡ block_by (stage_taps T.table) before src.now (length dst.old) }
+    ensures span { dst.new ≡ span_by (stage_taps T.table) (cascade_of depth delays.old) src.now dst.old }
+{
+    state_answer(depth, MOST_DEPTH)?;
+    if samples_refused(src.len(), dst.len()) {
+        return Err(Refusal::Samples);
+    }
+    let factor = rate_change(depth);
+    let frames = dst.len().min(src.len() / factor);
+    let count = frames * factor;
+    decimate_frames::<T>(depth, delays, &src[..count], &mut dst[..frames]);
+    Ok(frames)
+}
+
+#[tactic(auto, unfolding(refusal::specs::Rows::outside, refusal::specs::Rows::samples_refused))]
 impl<T: StageTable> DecCascade<T> {
     // The state that a caller in C is given of a refused opening.
     pub fn zeros() -> DecCascade<T>
@@ -105,7 +140,7 @@ impl<T: StageTable> DecCascade<T> {
         ensures answer { told_cascade result ≡ dec_cascade_opening depth }
         ensures meets { IfOk result (λ s. MeetsBy (stage_taps T.table) depth (cascade_of s.depth s.delays)) }
     {
-        if outside(depth, 1, MOST_STAGES) {
+        if outside(depth, 1, MOST_DEPTH) {
             return Err(Refusal::Depth);
         }
         Ok(DecCascade {
@@ -122,23 +157,14 @@ impl<T: StageTable> DecCascade<T> {
             told_on 0 result after ≡ block_by (stage_taps T.table) before src.now (length dst.old) }
         ensures span { dst.new ≡ span_by (stage_taps T.table) (cascade_of self.old.depth self.old.delays) src.now dst.old }
     {
-        let depth = self.depth;
-        state_answer(depth, MOST_STAGES)?;
-        if samples_refused(src.len(), dst.len()) {
-            return Err(Refusal::Samples);
-        }
-        let factor = rate_change(depth);
-        let frames = dst.len().min(src.len() / factor);
-        let count = frames * factor;
-        decimate_frames::<T>(depth, &mut self.delays, &src[..count], &mut dst[..frames]);
-        Ok(frames)
+        frames_lent::<T>(self.depth, &mut self.delays, src, dst)
     }
 
     // A fresh opening of the same depth. Refusal 15.
     pub fn reset(&mut self) -> Result<(), Refusal>
         ensures answer { told_reset result (cascade_of self.new.depth self.new.delays) ≡ dec_cascade_reset (cascade_of self.old.depth self.old.delays) }
     {
-        state_answer(self.depth, MOST_STAGES)?;
+        state_answer(self.depth, MOST_DEPTH)?;
         self.delays = [0.0; DEC_CASCADE_DELAYS];
         Ok(())
     }

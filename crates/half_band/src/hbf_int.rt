@@ -4,8 +4,9 @@ ghost use Rattle.refusal.specs.Outcome.{told_on, told_opened, told_reset};
 ghost use Rattle.float.specs.F32.{zero32};
 ghost use Rattle.half_band.specs.HbfInt.{int_none, int_of, int_opening, int_reset, int_step, int_block, int_span, IntMeets};
 
-use crate::half_band::{interpolate, padded, take_sample};
+use crate::half_band::{Taps, interpolate, take_sample};
 use crate::limits::{INT_DELAYS, MOST_HALF_BAND_TAPS, state_answer};
+use q15::padding::padded;
 use refusal::Refusal;
 use refusal::rows::{outside, samples_refused};
 
@@ -42,7 +43,7 @@ impl HbfInt {
         }
         Ok(HbfInt {
             m,
-            coeffs: padded(taps),
+            coeffs: padded(taps, 0.0),
             delay: [0.0; INT_DELAYS],
         })
     }
@@ -83,7 +84,8 @@ pub fn sample_lent(
     ensures answer { told_on (zero32, zero32) result (int_of m coeffs.now delay.new) ≡ int_step (int_of m coeffs.now delay.old) x }
 {
     state_answer(m, MOST_HALF_BAND_TAPS)?;
-    Ok(take_sample(&mut delay[..2 * m], &coeffs[..m], x))
+    let taps = Taps { all: &coeffs[..m] };
+    Ok(take_sample(&mut delay[..2 * m], taps, x))
 }
 
 // `HbfInt::process` for the C function, likewise.
@@ -107,7 +109,7 @@ pub fn interpolate_lent(
     let n = src.len().min(dst.len() / 2);
     interpolate(
         &mut delay[..2 * m],
-        &coeffs[..m],
+        Taps { all: &coeffs[..m] },
         &src[..n],
         &mut dst[..2 * n],
     );

@@ -6,11 +6,11 @@ ghost use Rattle.refusal.specs.Outcome.{told_on, told_opened, told_reset};
 ghost use Rattle.half_band.specs.HalfBand.{flat};
 ghost use Rattle.half_band.specs.HbfTaps.{stage_taps, interpolation};
 ghost use Rattle.half_band.specs.Windows.{interpolator, spliced};
-ghost use Rattle.half_band.specs.HbfIntCascade.{int_stage, upsampled, int_cascade_fresh, int_cascade_opening, int_cascade_reset, int_cascade_block, int_cascade_span, IntCascadeMeets};
+ghost use Rattle.half_band.specs.HbfIntCascade.{int_cascade_of, int_stage, upsampled, int_cascade_fresh, int_cascade_opening, int_cascade_reset, int_cascade_block, int_cascade_span, IntCascadeMeets};
 
-use crate::half_band::expand;
+use crate::half_band::{Taps, expand};
 use crate::hbf_taps::{Interpolation, StageTable};
-use crate::limits::{INT_CASCADE_DELAYS, INT_DELAYS, MOST_STAGES, rate_change, state_answer};
+use crate::limits::{INT_CASCADE_DELAYS, INT_DELAYS, MOST_DEPTH, rate_change, state_answer};
 use refusal::Refusal;
 use refusal::rows::{outside, samples_refused};
 
@@ -22,22 +22,27 @@ pub struct HbfIntCascade {
 }
 
 // The values in the second half of the span go through stage k, and their outputs fill it.
-fn expand_stage<T: StageTable>(k: usize, delays: &mut [f32], span: &mut [f32])
-    requires { (k < 5) × (length delays.old ≡ 240) × (length span.old % 2 ≡ 0) }
+fn expand_stage<T: StageTable>(k: usize, delays: &mut [f32; INT_CASCADE_DELAYS], span: &mut [f32])
+    requires { (k < 5) × (length span.old % 2 ≡ 0) }
     ensures { let taps = stage_taps T.table k in
         let window = int_stage (stage_taps T.table) k delays.old in
         let taken = drop (length span.old / 2) span.old in
         (delays.new ≡ spliced (48 * k) (2 * length taps) (state (interpolator taps) window taken) delays.old) × (span.new ≡ flat (outs (interpolator taps) window taken)) }
 {
-    let taps = T::stage(k);
+    let taps = Taps { all: T::stage(k) };
     let from = INT_DELAYS * k;
-    let past = from + 2 * taps.len();
+    let past = from + 2 * taps.all.len();
     expand(&mut delays[from..past], taps, span)
 }
 
 // The samples go through the first `depth` stages, and their outputs fill the span.
-fn expand_stages(depth: usize, delays: &mut [f32], src: &[f32], span: &mut [f32])
-    requires { (depth ≤ 5) × (length delays.old ≡ 240) × (length span.old ≡ length src.now * 2 ^ depth) }
+fn expand_stages(
+    depth: usize,
+    delays: &mut [f32; INT_CASCADE_DELAYS],
+    src: &[f32],
+    span: &mut [f32],
+)
+    requires { (depth ≤ 5) × (length span.old ≡ length src.now * 2 ^ depth) }
     ensures { let made = upsampled (stage_taps interpolation) depth 0 delays.old src.now in
         (delays.new ≡ made.delays) × (span.new ≡ made.outs) }
 {
@@ -51,7 +56,31 @@ fn expand_stages(depth: usize, delays: &mut [f32], src: &[f32], span: &mut [f32]
     }
 }
 
+// `HbfIntCascade::process` for the C function, which is lent the delays: a block does not pay for moving them.
 #[tactic(auto, unfolding(refusal::specs::Rows::outside), using(crate::proofs::DecCascades::frames_fit))]
+pub fn samples_lent(
+    depth: usize,
+    delays: &mut [f32; INT_CASCADE_DELAYS],
+    src: &[f32],
+    dst: &mut [f32],
+) -> Result<usize, Refusal>
+    ensures answer { let before = int_cascade_of depth delays.old in
+        let after = int_cascade_of depth delays.new in
+        told_on 0 result after ≡ int_cascade_block before src.now (length dst.old) }
+    ensures span { dst.new ≡ int_cascade_span (int_cascade_of depth delays.old) src.now dst.old }
+{
+    state_answer(depth, MOST_DEPTH)?;
+    if samples_refused(src.len(), dst.len()) {
+        return Err(Refusal::Samples);
+    }
+    let factor = rate_change(depth);
+    let n = src.len().min(dst.len() / factor);
+    let count = n * factor;
+    expand_stages(depth, delays, &src[..n], &mut dst[..count]);
+    Ok(count)
+}
+
+#[tactic(auto, unfolding(refusal::specs::Rows::outside))]
 impl HbfIntCascade {
     // The state that a caller in C is given of a refused opening.
     pub fn zeros() -> HbfIntCascade
@@ -68,7 +97,7 @@ impl HbfIntCascade {
         ensures answer { told_opened (int_cascade_fresh 0) result ≡ int_cascade_opening depth }
         ensures meets { IfOk result (IntCascadeMeets depth) }
     {
-        if outside(depth, 1, MOST_STAGES) {
+        if outside(depth, 1, MOST_DEPTH) {
             return Err(Refusal::Depth);
         }
         Ok(HbfIntCascade {
@@ -82,23 +111,14 @@ impl HbfIntCascade {
         ensures answer { told_on 0 result self.new ≡ int_cascade_block self.old src.now (length dst.old) }
         ensures span { dst.new ≡ int_cascade_span self.old src.now dst.old }
     {
-        let depth = self.depth;
-        state_answer(depth, MOST_STAGES)?;
-        if samples_refused(src.len(), dst.len()) {
-            return Err(Refusal::Samples);
-        }
-        let factor = rate_change(depth);
-        let n = src.len().min(dst.len() / factor);
-        let count = n * factor;
-        expand_stages(depth, &mut self.delays, &src[..n], &mut dst[..count]);
-        Ok(count)
+        samples_lent(self.depth, &mut self.delays, src, dst)
     }
 
     // A fresh opening of the same depth. Refusal 15.
     pub fn reset(&mut self) -> Result<(), Refusal>
         ensures answer { told_reset result self.new ≡ int_cascade_reset self.old }
     {
-        state_answer(self.depth, MOST_STAGES)?;
+        state_answer(self.depth, MOST_DEPTH)?;
         self.delays = [0.0; INT_CASCADE_DELAYS];
         Ok(())
     }

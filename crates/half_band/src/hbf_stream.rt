@@ -5,31 +5,37 @@ ghost use Rattle.half_band.specs.HbfTaps.{stage_taps};
 ghost use Rattle.half_band.specs.Windows.{slid, dec_value, spliced};
 ghost use Rattle.half_band.specs.HbfStream.{stream_of, stream_fresh, hbf_stream, stream_opening, stream_reset, stream_step, stream_refused, stream_refused_in_line, StreamMeets};
 
-use crate::half_band::take_pair;
+use crate::half_band::{Taps, take_pair};
 use crate::hbf_taps::{Db140, StageTable};
-use crate::limits::{DEC_CASCADE_DELAYS, DEC_DELAYS, MOST_STAGES};
+use crate::limits::{DEC_CASCADE_DELAYS, DEC_DELAYS, MOST_DEPTH};
 use refusal::Refusal;
 use refusal::rows::outside;
 
-// Stage k has its last 4M samples in front of the 96 delays from 96k on, and holds counts[k] samples, none or one, in held[k].
+// Stage k has its last 4M samples in front of the 96 delays from 96k on, and holds counts[k] samples, none or one, in held[k]. Two arrays, not one of options: so the state
+// that C holds has them, whose counts may be any.
 #[derive(Clone, Copy)]
 pub struct HbfStream {
     pub depth: usize,
     pub delays: [f32; DEC_CASCADE_DELAYS],
-    pub held: [f32; MOST_STAGES],
-    pub counts: [usize; MOST_STAGES],
+    pub held: [f32; MOST_DEPTH],
+    pub counts: [usize; MOST_DEPTH],
 }
 
 // A pair into stage k. The stages of an interpolating cascade have their windows at other places, and another step.
-fn stage_pair<T: StageTable>(k: usize, delays: &mut [f32], a: f32, b: f32) -> f32
-    requires { (k < 5) × (length delays.old ≡ 480) }
+fn stage_pair<T: StageTable>(
+    k: usize,
+    delays: &mut [f32; DEC_CASCADE_DELAYS],
+    a: f32,
+    b: f32,
+) -> f32
+    requires { k < 5 }
     ensures { let taps = stage_taps T.table k in
         let window = slid (take (4 * length taps) (drop (96 * k) delays.old)) (a ∷ b ∷ []) in
         (delays.new ≡ spliced (96 * k) (4 * length taps) window delays.old) × (result ≡ dec_value taps window) }
 {
-    let taps = T::stage(k);
+    let taps = Taps { all: T::stage(k) };
     let from = DEC_DELAYS * k;
-    let past = from + 4 * taps.len();
+    let past = from + 4 * taps.all.len();
     take_pair(&mut delays[from..past], taps, a, b)
 }
 
@@ -38,15 +44,16 @@ fn stage_pair<T: StageTable>(k: usize, delays: &mut [f32], a: f32, b: f32) -> f3
 pub fn hbf_stream_at(
     depth: usize,
     delays: &mut [f32; DEC_CASCADE_DELAYS],
-    held: &mut [f32; MOST_STAGES],
-    counts: &mut [usize; MOST_STAGES],
+    held: &mut [f32; MOST_DEPTH],
+    counts: &mut [usize; MOST_DEPTH],
     x: f32,
 ) -> Option<f32>
     ensures out { result ≡ hbf_stream.out (stream_of depth delays.old held.old counts.old) x }
     ensures next { stream_of depth delays.new held.new counts.new ≡ hbf_stream.next (stream_of depth delays.old held.old counts.old) x }
 {
     let mut v = x;
-    for k in 0..depth.min(MOST_STAGES) {
+    // By the number: the count, the held sample, the window and the taps of a stage go by it.
+    for k in 0..depth.min(MOST_DEPTH) {
         if counts[k] == 0 {
             held[k] = v;
             counts[k] = 1;
@@ -62,18 +69,34 @@ pub fn hbf_stream_at(
 
 // Refusal 15 of a state: no stages or too many, or more than one held sample at a stage that is run.
 #[tactic(auto, unfolding(refusal::specs::Rows::outside))]
-fn hbf_stream_refused(depth: usize, counts: &[usize; MOST_STAGES]) -> bool
+fn hbf_stream_refused(depth: usize, counts: &[usize; MOST_DEPTH]) -> bool
     ensures { result ≡ stream_refused depth counts.now }
 {
-    outside(depth, 1, MOST_STAGES) || counts[..depth].iter().any(|count| 1 < *count)
+    outside(depth, 1, MOST_DEPTH) || counts[..depth].iter().any(|count| 1 < *count)
 }
 
 // Refusal 15 of a state in the line, where no stages means off.
 #[tactic(auto, unfolding(crate::specs::HbfStream::stream_refused_in_line))]
-pub fn hbf_stream_refused_in_line(depth: usize, counts: &[usize; MOST_STAGES]) -> bool
+pub fn hbf_stream_refused_in_line(depth: usize, counts: &[usize; MOST_DEPTH]) -> bool
     ensures { result ≡ stream_refused_in_line depth counts.now }
 {
     depth != 0 && hbf_stream_refused(depth, counts)
+}
+
+// `HbfStream::process_sample` for the C function, which is lent the state's arrays: a sample does not pay for moving them.
+pub fn sample_lent(
+    depth: usize,
+    delays: &mut [f32; DEC_CASCADE_DELAYS],
+    held: &mut [f32; MOST_DEPTH],
+    counts: &mut [usize; MOST_DEPTH],
+    x: f32,
+) -> Result<Option<f32>, Refusal>
+    ensures answer { told_on None result (stream_of depth delays.new held.new counts.new) ≡ stream_step (stream_of depth delays.old held.old counts.old) x }
+{
+    if hbf_stream_refused(depth, counts) {
+        return Err(Refusal::State);
+    }
+    Ok(hbf_stream_at(depth, delays, held, counts, x))
 }
 
 impl HbfStream {
@@ -84,8 +107,8 @@ impl HbfStream {
         HbfStream {
             depth,
             delays: [0.0; DEC_CASCADE_DELAYS],
-            held: [0.0; MOST_STAGES],
-            counts: [0; MOST_STAGES],
+            held: [0.0; MOST_DEPTH],
+            counts: [0; MOST_DEPTH],
         }
     }
 
@@ -94,7 +117,7 @@ impl HbfStream {
         ensures answer { told_opened (stream_fresh 0) result ≡ stream_opening depth }
         ensures meets { IfOk result (StreamMeets depth) }
     {
-        if outside(depth, 1, MOST_STAGES) {
+        if outside(depth, 1, MOST_DEPTH) {
             return Err(Refusal::Depth);
         }
         Ok(HbfStream::fresh(depth))
@@ -105,10 +128,7 @@ impl HbfStream {
         ensures answer { told_on None result self.new ≡ stream_step self.old x }
     {
         let depth = self.depth;
-        if hbf_stream_refused(depth, &self.counts) {
-            return Err(Refusal::State);
-        }
-        Ok(hbf_stream_at(depth, &mut self.delays, &mut self.held, &mut self.counts, x))
+        sample_lent(depth, &mut self.delays, &mut self.held, &mut self.counts, x)
     }
 
     // A fresh opening of the same depth. Refusal 15.

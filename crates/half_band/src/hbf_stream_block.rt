@@ -9,7 +9,7 @@ ghost use Rattle.half_band.specs.HbfStreamBlock.{stream_block_state, stream_bloc
 use crate::half_band::TAPE;
 use crate::hbf_dec_cascade::decimate_stage;
 use crate::hbf_taps::Db140;
-use crate::limits::{DEC_CASCADE_DELAYS, MOST_STAGES};
+use crate::limits::{DEC_CASCADE_DELAYS, MOST_DEPTH};
 
 // The most values of a block.
 pub const MOST_STREAM_BLOCK: usize = TAPE;
@@ -28,12 +28,12 @@ fn odd_one(count: usize, last: f32) -> f32
 // there is one, and the values.
 fn stage_block(
     k: usize,
-    delays: &mut [f32],
-    held: &mut [f32; MOST_STAGES],
-    counts: &mut [usize; MOST_STAGES],
+    delays: &mut [f32; DEC_CASCADE_DELAYS],
+    held: &mut [f32; MOST_DEPTH],
+    counts: &mut [usize; MOST_DEPTH],
     span: &mut [f32],
 ) -> usize
-    requires { (k < 5) × (length delays.old ≡ 480) × (length span.old ≤ 192) }
+    requires { (k < 5) × (length span.old ≤ 192) }
     ensures next { let before = stream_of 0 delays.old held.old counts.old in
         let after = stream_of 0 delays.new held.new counts.new in
         after ≡ stage_after k before span.old }
@@ -45,13 +45,13 @@ fn stage_block(
     if n == 0 {
         return 0;
     }
-    let first = [held[k]];
     let before = counts[k].min(1);
+    let lead = (before == 1).then_some(held[k]);
     let total = before + n;
     let half = total / 2;
     held[k] = odd_one(total, span[n - 1]);
     counts[k] = total % 2;
-    decimate_stage::<Db140>(k, delays, &first[..before], span);
+    decimate_stage::<Db140>(k, delays, lead, span);
     half
 }
 
@@ -59,8 +59,8 @@ fn stage_block(
 fn stages_block(
     depth: usize,
     delays: &mut [f32; DEC_CASCADE_DELAYS],
-    held: &mut [f32; MOST_STAGES],
-    counts: &mut [usize; MOST_STAGES],
+    held: &mut [f32; MOST_DEPTH],
+    counts: &mut [usize; MOST_DEPTH],
     span: &mut [f32],
 ) -> usize
     requires { length span.old ≤ 192 }
@@ -72,7 +72,7 @@ fn stages_block(
         (result ≡ length made) × (take result span.new ≡ made) }
 {
     let mut m = span.len();
-    for k in 0..depth.min(MOST_STAGES) {
+    for k in 0..depth.min(MOST_DEPTH) {
         m = stage_block(k, delays, held, counts, &mut span[..m]);
     }
     m
@@ -84,8 +84,8 @@ fn stages_block(
 pub fn hbf_stream_block_at(
     depth: usize,
     delays: &mut [f32; DEC_CASCADE_DELAYS],
-    held: &mut [f32; MOST_STAGES],
-    counts: &mut [usize; MOST_STAGES],
+    held: &mut [f32; MOST_DEPTH],
+    counts: &mut [usize; MOST_DEPTH],
     span: &mut [f32],
 ) -> usize
     ensures next { let before = stream_of depth delays.old held.old counts.old in

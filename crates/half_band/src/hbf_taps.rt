@@ -3,7 +3,7 @@ ghost use Rattle.std.specs.Prelude.{◌≡◌, ◌<◌, ℕ};
 ghost use Rattle.half_band.specs.HbfTaps.{Table, FiveStages, hbf_taps, stage_taps, decimation, decimation_five, interpolation, interpolation_five};
 ghost use Rattle.half_band.specs.HbfTaps98.{hbf_taps98, decimation98, decimation98_five};
 
-use crate::limits::MOST_STAGES;
+use crate::limits::MOST_DEPTH;
 
 pub const HBF_TAPS: [f32; 45] = [
     7.60375795e-07,
@@ -152,8 +152,8 @@ impl StageTable for Interpolation {
     ghost five = { interpolation_five };
 
     fn stage(k: usize) -> &'static [f32] {
-        if k < MOST_STAGES {
-            return Db140::stage(MOST_STAGES - 1 - k);
+        if k < MOST_DEPTH {
+            return Db140::stage(MOST_DEPTH - 1 - k);
         }
         &[]
     }

@@ -23,8 +23,7 @@ pub use crate::hbf_taps::{
     Db98, Db140, HBF_TAPS, HBF_TAPS_98, StageTable, hbf_tap_table, hbf_tap_table_98,
 };
 pub use crate::limits::{
-    DEC_CASCADE_DELAYS, DEC_DELAYS, INT_CASCADE_DELAYS, INT_DELAYS, MOST_HALF_BAND_TAPS,
-    MOST_STAGES,
+    DEC_CASCADE_DELAYS, DEC_DELAYS, INT_CASCADE_DELAYS, INT_DELAYS, MOST_DEPTH, MOST_HALF_BAND_TAPS,
 };
 pub use crate::reach::hbf_dec_reach;
 pub use crate::response_length::{hbf_dec_response_length, hbf_int_response_length};

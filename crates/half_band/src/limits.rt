@@ -8,7 +8,7 @@ use refusal::rows::outside;
 
 pub const MOST_HALF_BAND_TAPS: usize = 23;
 
-pub const MOST_STAGES: usize = 5;
+pub const MOST_DEPTH: usize = 5;
 
 // The places of a decimator's delay: its window has 4 for each tap.
 pub const DEC_DELAYS: usize = 4 * (MOST_HALF_BAND_TAPS + 1);
@@ -17,9 +17,9 @@ pub const DEC_DELAYS: usize = 4 * (MOST_HALF_BAND_TAPS + 1);
 pub const INT_DELAYS: usize = 2 * (MOST_HALF_BAND_TAPS + 1);
 
 // The delays of a cascade's stages, one behind the other.
-pub const DEC_CASCADE_DELAYS: usize = MOST_STAGES * DEC_DELAYS;
+pub const DEC_CASCADE_DELAYS: usize = MOST_DEPTH * DEC_DELAYS;
 
-pub const INT_CASCADE_DELAYS: usize = MOST_STAGES * INT_DELAYS;
+pub const INT_CASCADE_DELAYS: usize = MOST_DEPTH * INT_DELAYS;
 
 // What a cascade of so many stages multiplies or divides the rate by.
 pub(crate) fn rate_change(depth: usize) -> usize

@@ -3,18 +3,18 @@ ghost use Rattle.std.specs.Prelude.{◌≡◌};
 ghost use Rattle.refusal.specs.Outcome.{count_answer};
 ghost use Rattle.half_band.specs.ResponseLength.{dec_lengths, int_lengths, length_at};
 
-use crate::limits::MOST_STAGES;
+use crate::limits::MOST_DEPTH;
 use refusal::Refusal;
 
-const DECIMATION: [usize; MOST_STAGES + 1] = [0, 23, 28, 29, 29, 29];
+const DECIMATION: [usize; MOST_DEPTH + 1] = [0, 23, 28, 29, 29, 29];
 
-const INTERPOLATION: [usize; MOST_STAGES + 1] = [0, 46, 112, 234, 476, 958];
+const INTERPOLATION: [usize; MOST_DEPTH + 1] = [0, 46, 112, 234, 476, 958];
 
 // The length of a depth. Refusal 11: a depth over 5.
-fn at_depth(lengths: [usize; MOST_STAGES + 1], depth: usize) -> Result<usize, Refusal>
+fn at_depth(lengths: [usize; MOST_DEPTH + 1], depth: usize) -> Result<usize, Refusal>
     ensures { count_answer result ≡ length_at lengths depth }
 {
-    if MOST_STAGES < depth {
+    if MOST_DEPTH < depth {
         return Err(Refusal::Depth);
     }
     Ok(lengths[depth])

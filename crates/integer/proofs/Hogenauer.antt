@@ -20,7 +20,7 @@ diff f (suc k) = f (suc k) -ℤ f k
 abbrev pub decimate : ℕ → Signal → Signal
 decimate r f k = f (k * r)
 
-interchange : (a b c d : ℤ) → (a +ℤ b) +ℤ (c +ℤ d) ≡ (a +ℤ c) +ℤ (b +ℤ d)
+pub interchange : (a b c d : ℤ) → (a +ℤ b) +ℤ (c +ℤ d) ≡ (a +ℤ c) +ℤ (b +ℤ d)
 interchange a b c d = simp sums
 
 pub cancel : (a b : ℤ) → (a +ℤ b) -ℤ a ≡ b

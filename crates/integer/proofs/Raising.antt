@@ -1,8 +1,11 @@
 -- A block of samples into an interpolator: after i of them their outputs stand in front of the span, and the stages are as they leave them. A sample may go into the
 -- first integrator by itself, and zeros through all of them then, since a wrapped sum takes a zero and stays. Lists joined are raised one after the other, so
 -- every cutting into blocks is the whole list.
-use Rattle.std.proofs.Common.{◌≡◌, ℕ, zero, suc, ◌+◌, ◌*◌, ◌<◌, ◌≤◌, Bool, true, false, cond, ltb, leb, List, [], ◌∷◌, ◌++◌, length, get_or, take, drop, ℤ, pos, ◌+ℤ◌, sym, refl, ap, ◌∙◌, append_assoc, append-nil, mul-le-mul_right, suc-mul, add-mul, one-mul, zero-mul, add-one, arith, length-append, length-drop, length-take-le, take_all, take-suc, drop-drop, take_at, drop_at, w32, le-ltb, lt-ltb}
+use Rattle.std.proofs.Common.{◌≡◌, ℕ, zero, suc, ◌+◌, ◌*◌, ◌<◌, ◌≤◌, Bool, true, false, cond, ltb, leb, Option, None, Some, IfSome, Bor, List, [], ◌∷◌, ◌++◌, length, get_or, take, drop, ℤ, pos, ◌+ℤ◌, sym, refl, ap, ◌∙◌, append_assoc, append-nil, mul-le-mul_right, suc-mul, add-mul, one-mul, zero-mul, add-one, arith, length-append, length-drop, length-take-le, take_all, take-suc, drop-drop, take_at, drop_at, w32, ltb-true, ltb-false}
 use lib.IntN.{+ℤ_idr}
+use Rattle.std.specs.List.{slice_get}
+use Rattle.std.specs.Option.{is_some, option_copied, option_map_or}
+use Rattle.std.proofs.lemmas.Option.{slice_get-get_or, slice_get_past, slice_get_read}
 use Rattle.theory.specs.Feeds.{History, opened, fed}
 use Rattle.theory.specs.Wrap.{wrap}
 use Rattle.theory.proofs.Wrap.{wrap_wrap}
@@ -62,6 +65,11 @@ state_long d (x ∷ w) = state_long (next d x) w ∙ filled_long d.stages d.inte
 state_behind : (d : CicInterpolator) (w : List ℤ) → drop d.stages (state d w).integrator_state ≡ drop d.stages d.integrator_state
 state_behind d [] = refl
 state_behind d (x ∷ w) = state_behind (next d x) w ∙ filled_behind d.stages d.integrator_state (combed d.stages d.comb_state x).val d.r
+
+-- the sample that `get` looks up
+pub looked_up : {A : Type 0} (o : Option (Bor A)) (w : List A) (i : ℕ) → is_some o ≡ ltb i (length w) → IfSome o (λ x. x.now ≡ get_or w i x.now) → option_copied o ≡ slice_get w i
+looked_up None w i e h = sym (slice_get_past w i (ltb-false i (length w) (sym e)))
+looked_up (Some x) w i e h = sym (slice_get_read w (length w) i x.now refl (ltb-true i (length w) (sym e)) h)
 
 -- room for the outputs of one sample more
 pub room : (r count places taken written : ℕ) → written ≡ taken * r → taken < count → count * r ≤ places → written + r ≤ places
@@ -130,8 +138,8 @@ module _ (N r : ℕ) (combs₀ integrators : List ℤ) (w span : List ℤ) where
     pub combs₁ : List ℤ
     pub held₁ : List ℤ
     pub before : Raised combs₁ held₁ out i j
-    pub kept : combs ≡ cond (ltb i (length w)) (combed N combs₁ (get_or w i (pos 0))).state combs₁
-    pub summed : held ≡ cond (ltb i (length w)) (integrated 1 held₁ (combed N combs₁ (get_or w i (pos 0))).val).state held₁
+    pub kept : combs ≡ option_map_or (λ x. (combed N combs₁ x).state) (slice_get w i) combs₁
+    pub summed : held ≡ option_map_or (λ x. (integrated 1 held₁ (combed N combs₁ x).val).state) (slice_get w i) held₁
 
   pub span_kept : {combs held out : List ℤ} {taken written : ℕ} → Entered combs held out taken written → length w * r ≤ length span → length out ≡ length span
   span_kept l fits = same_span _ _ _ _ _ l.before fits
@@ -141,7 +149,7 @@ module _ (N r : ℕ) (combs₀ integrators : List ℤ) (w span : List ℤ) where
       let f = filled N held (pos 0) r in
       Raised combs f.state (take j out ++ (f.outs ++ drop r (drop j out))) (i + 1) (j + r)
   written_out {combs} {held} {out} {i} {j} h_n hr some h l =
-      let yes : ltb i (length w) ≡ true = lt-ltb i (length w) h in
+      let yes = slice_get-get_or w i (pos 0) h in
       let k = rw yes at l.kept in
       let s = rw yes at l.summed in
       rw (s, k) (goes_on l.combs₁ l.held₁ out i j h_n hr some h l.before)
@@ -151,7 +159,7 @@ module _ (N r : ℕ) (combs₀ integrators : List ℤ) (w span : List ℤ) where
       (interpolator_of N r combs (take N held ++ drop N integrators) ≡ state d w) × (out ≡ outs d w ++ drop (length w * r) span)
   done {combs} {held} {out} {taken} h a =
       let l = a.before in
-      let no : ltb taken (length w) ≡ false = le-ltb taken (length w) h in
+      let no = slice_get_past w taken h in
       let k = rw no at a.kept in
       let s = rw no at a.summed in
       let e : taken ≡ length w = omega (arith, l.within) in

@@ -15,6 +15,18 @@ module _ {A : Type 0} (keep out : A → A → A) where
   behind (suc n) [] v = refl
   behind (suc n) (a ∷ s) v = behind n s (out a v)
 
+  -- it goes by these alone
+  pub own_front : (n : ℕ) (s : List A) (v : A) → ((row keep out n s v).val ≡ (row keep out n (take n s) v).val) × (take n (row keep out n s v).state ≡ (row keep out n (take n s) v).state)
+  own_front zero s v = (refl, refl)
+  own_front (suc n) [] v = (refl, refl)
+  own_front (suc n) (a ∷ s) v = let r = own_front n s (out a v) in (r.0, ap (λ (l : List A). keep a v ∷ l) r.1)
+
+  pub same_fronts : (n : ℕ) (s t : List A) (v : A) → take n s ≡ take n t → ((row keep out n s v).val ≡ (row keep out n t v).val) × (take n (row keep out n s v).state ≡ take n (row keep out n t v).state)
+  same_fronts n s t v e =
+      let a = own_front n s v in
+      let b = own_front n t v in
+      (a.0 ∙ ap (λ (l : List A). (row keep out n l v).val) e ∙ sym b.0, a.1 ∙ ap (λ (l : List A). (row keep out n l v).state) e ∙ sym b.1)
+
   -- a stage in front of others
   abbrev led : A → A → Passed A → Passed A
   led a v p = record { state = keep a v ∷ p.state; val = p.val }

@@ -4,7 +4,7 @@ use Rattle.theory.specs.Wrap.{wrap}
 use Rattle.theory.proofs.Wrap.{wrap_add, wrap_sub, wrap_add_left}
 use Rattle.integer.specs.MovingSums.{Signal, fold}
 use Rattle.integer.proofs.Hogenauer.{prefix, diff}
-use Rattle.integer.specs.Stages.{Passed, integrated, combed}
+use Rattle.integer.specs.Stages.{Passed, row, sum32, kept, difference32, integrated, combed}
 
 -- a stage in front of those that `p` has gone through
 abbrev first : ℤ → Passed ℤ → Passed ℤ
@@ -15,12 +15,19 @@ abbrev pub tower : (Signal → Signal) → ℕ → Signal → ℕ → List ℤ
 tower op zero g t = []
 tower op (suc n) g t = wrap w32 (g t) ∷ tower op n (op g) t
 
+-- A stage that is fed the values of a signal f holds those of `hold f`, and hands those of `op f` on. So stages in a row are a tower, whatever they keep and hand on.
+module _ (keep out : ℤ → ℤ → ℤ) (op hold : Signal → Signal) (holds_on : (f : Signal) → op (hold f) ≡ hold (op f))
+    (keeps : (f : Signal) (t : ℕ) → keep (wrap w32 (hold f t)) (wrap w32 (f (suc t))) ≡ wrap w32 (hold f (suc t)))
+    (hands : (f : Signal) (t : ℕ) → out (wrap w32 (hold f t)) (wrap w32 (f (suc t))) ≡ wrap w32 (op f (suc t))) where
+  pub in_a_row : (n : ℕ) (f : Signal) (t : ℕ) (rest : List ℤ) → row keep out n (tower op n (hold f) t ++ rest) (wrap w32 (f (suc t))) ≡ record { state = tower op n (hold f) (suc t) ++ rest; val = wrap w32 (fold n op f (suc t)) }
+  in_a_row zero f t rest = refl
+  in_a_row (suc n) f t rest = rw (keeps f t, hands f t, holds_on f) (ap (first (wrap w32 (hold f (suc t)))) (in_a_row n (op f) t rest))
+
 pub integrators : (n : ℕ) (f : Signal) (t : ℕ) (rest : List ℤ) → integrated n (tower prefix n (prefix f) t ++ rest) (wrap w32 (f (suc t))) ≡ record { state = tower prefix n (prefix f) (suc t) ++ rest; val = wrap w32 (fold n prefix f (suc t)) }
 unfolding integrated
-integrators zero f t rest = refl
-integrators (suc n) f t rest =
-    ap (λ u. first u (integrated n (tower prefix n (prefix (prefix f)) t ++ rest) u)) (wrap_add w32 (prefix f t) (f (suc t)))
-    ∙ ap (first (wrap w32 (prefix f (suc t)))) (integrators n (prefix f) t rest)
+integrators n f t rest =
+    let sum = λ (g : Signal) (k : ℕ). wrap_add w32 (prefix g k) (g (suc k)) in
+    in_a_row sum32 sum32 prefix prefix (λ g. refl) sum sum n f t rest
 
 -- the first takes a sample as it is
 pub integrators_raw : (m : ℕ) (f : Signal) (t : ℕ) (rest : List ℤ) → integrated (suc m) (tower prefix (suc m) (prefix f) t ++ rest) (f (suc t)) ≡ record { state = tower prefix (suc m) (prefix f) (suc t) ++ rest; val = wrap w32 (fold (suc m) prefix f (suc t)) }
@@ -31,10 +38,7 @@ integrators_raw m f t rest =
 
 pub combs : (n : ℕ) (h : Signal) (k : ℕ) (rest : List ℤ) → combed n (tower diff n h k ++ rest) (wrap w32 (h (suc k))) ≡ record { state = tower diff n h (suc k) ++ rest; val = wrap w32 (fold n diff h (suc k)) }
 unfolding combed
-combs zero h k rest = refl
-combs (suc n) h k rest =
-    ap (λ u. first (wrap w32 (h (suc k))) (combed n (tower diff n (diff h) k ++ rest) u)) (wrap_sub w32 (h (suc k)) (h k))
-    ∙ ap (first (wrap w32 (h (suc k)))) (combs n (diff h) k rest)
+combs n h k rest = in_a_row kept difference32 diff (λ g. g) (λ g. refl) (λ g t. refl) (λ g t. wrap_sub w32 (g (suc t)) (g t)) n h k rest
 
 pub wrap_zero : wrap w32 (pos 0) ≡ pos 0
 unfolding wrap

@@ -10,16 +10,16 @@ ghost use Rattle.integer.specs.CicDecimator as D;
 
 use crate::exact_range::{Ends, range_of};
 use crate::gain::{bits_of, gain_of, scaled, scaling_bits};
-use crate::limits::{MAX_STAGES, factor_ok, settings_answer, stages_ok};
-use crate::stages::{comb, integrate, run, run_on};
+use crate::limits::{MOST_STAGES, factor_ok, settings_answer, stages_ok};
+use crate::stages::{comb, integrate, run};
 use refusal::{Moved, Refusal};
 
 #[derive(Clone, Copy)]
 pub struct CicDecimator {
     pub stages: usize,
     pub r: usize,
-    pub integrator_state: [i32; MAX_STAGES],
-    pub comb_state: [i32; MAX_STAGES],
+    pub integrator_state: [i32; MOST_STAGES],
+    pub comb_state: [i32; MOST_STAGES],
     pub sample_counter: usize,
 }
 
@@ -54,8 +54,8 @@ pub fn sample_at(
     stages: usize,
     r: usize,
     sample_counter: &mut usize,
-    integrators: &mut [i32; MAX_STAGES],
-    combs: &mut [i32; MAX_STAGES],
+    integrators: &mut [i32; MOST_STAGES],
+    combs: &mut [i32; MOST_STAGES],
     input: i32,
 ) -> Option<i32>
     ensures out { result ≡ (D.decimator).out (D.decimator_of stages r integrators.old combs.old sample_counter.old) input }
@@ -73,8 +73,8 @@ pub fn sample_at(
 // The samples of a sum go through the integrators, and the value of the last one through the combs. The last stands apart: where r is 1 there is no other.
 fn sum_of(
     stages: usize,
-    integrators: &mut [i32; MAX_STAGES],
-    combs: &mut [i32; MAX_STAGES],
+    integrators: &mut [i32; MOST_STAGES],
+    combs: &mut [i32; MOST_STAGES],
     samples: &[i32],
 ) -> i32
     requires { 0 < length samples.now }
@@ -83,16 +83,17 @@ fn sum_of(
         (integrators.new ≡ passed.state) × (combs.new ≡ handed_on.state) × (result ≡ handed_on.val) }
 {
     let last = samples.len() - 1;
-    run_on(stages, integrators, &samples[..last]);
+    run(stages, integrators, &samples[..last]);
     let val = integrate(stages, integrators, samples[last]);
     comb(stages, combs, val)
 }
 
-// A sum of r samples for each place of dst. The stages are held in locals. The compiler knows the number of stages: it unrolls them, and holds them in registers.
+// A sum of r samples for each place of dst. The stages are held in locals. The compiler knows the number of stages: it unrolls them, and holds them in registers. The
+// samples are split off what is left: of places that are zipped with chunks_exact a proof knows the length alone.
 fn whole_sums_of<const N: usize>(
     r: usize,
-    integrators: &mut [i32; MAX_STAGES],
-    combs: &mut [i32; MAX_STAGES],
+    integrators: &mut [i32; MOST_STAGES],
+    combs: &mut [i32; MOST_STAGES],
     src: &[i32],
     dst: &mut [i32],
 )
@@ -102,10 +103,11 @@ fn whole_sums_of<const N: usize>(
 {
     let mut held = *integrators;
     let mut kept = *combs;
-    let mut taken = 0;
+    let mut left = src;
     for place in dst.iter_mut() {
-        *place = sum_of(N, &mut held, &mut kept, &src[taken..taken + r]);
-        taken += r;
+        let (samples, behind) = left.split_at(r);
+        *place = sum_of(N, &mut held, &mut kept, samples);
+        left = behind;
     }
     *integrators = held;
     *combs = kept;
@@ -114,8 +116,8 @@ fn whole_sums_of<const N: usize>(
 // The same of one stage. Where a sum has few samples, a loop over them costs more than they do, so r is a constant in the first arms.
 fn whole_sums_of_one(
     r: usize,
-    integrators: &mut [i32; MAX_STAGES],
-    combs: &mut [i32; MAX_STAGES],
+    integrators: &mut [i32; MOST_STAGES],
+    combs: &mut [i32; MOST_STAGES],
     src: &[i32],
     dst: &mut [i32],
 )
@@ -135,11 +137,12 @@ fn whole_sums_of_one(
     }
 }
 
+// No struct of the settings: the arms below turn the stages into a constant, and those above the factor, so each would take it apart again.
 fn whole_sums(
     stages: usize,
     r: usize,
-    integrators: &mut [i32; MAX_STAGES],
-    combs: &mut [i32; MAX_STAGES],
+    integrators: &mut [i32; MOST_STAGES],
+    combs: &mut [i32; MOST_STAGES],
     src: &[i32],
     dst: &mut [i32],
 )
@@ -162,28 +165,14 @@ fn whole_sums(
     }
 }
 
-// A sum of which samples were taken before.
-fn begun_sum(
-    stages: usize,
-    integrators: &mut [i32; MAX_STAGES],
-    combs: &mut [i32; MAX_STAGES],
-    samples: &[i32],
-) -> i32
-    ensures { let passed = ran stages integrators.old (pos 0) samples.now in
-        let handed_on = combed stages combs.old passed.val in
-        (integrators.new ≡ passed.state) × (combs.new ≡ handed_on.state) × (result ≡ handed_on.val) }
-{
-    let val = run(stages, integrators, samples);
-    comb(stages, combs, val)
-}
-
-// A sum for each place of dst. One that has begun stands apart: all others have r samples, so that the loop over them looks at that number once.
+// A sum for each place of dst. One that has begun stands apart: all others have r samples, so that the loop over them looks at that number once. Seven
+// parameters: a state's fields as they are lent, and the two spans.
 fn sums(
     stages: usize,
     r: usize,
     sample_counter: usize,
-    integrators: &mut [i32; MAX_STAGES],
-    combs: &mut [i32; MAX_STAGES],
+    integrators: &mut [i32; MOST_STAGES],
+    combs: &mut [i32; MOST_STAGES],
     src: &[i32],
     dst: &mut [i32],
 )
@@ -199,7 +188,7 @@ fn sums(
         return;
     }
     let first = r - sample_counter;
-    dst[0] = begun_sum(stages, integrators, combs, &src[..first]);
+    dst[0] = sum_of(stages, integrators, combs, &src[..first]);
     whole_sums(stages, r, integrators, combs, &src[first..], &mut dst[1..]);
 }
 
@@ -209,8 +198,8 @@ pub fn block_at(
     stages: usize,
     r: usize,
     sample_counter: &mut usize,
-    integrators: &mut [i32; MAX_STAGES],
-    combs: &mut [i32; MAX_STAGES],
+    integrators: &mut [i32; MOST_STAGES],
+    combs: &mut [i32; MOST_STAGES],
     src: &[i32],
     dst: &mut [i32],
 ) -> Result<Moved, Refusal>
@@ -242,6 +231,40 @@ pub fn block_at(
     })
 }
 
+// `CicDecimator::process_sample` for the C function, which is lent the state's fields: a sample does not pay for moving them.
+#[tactic(auto, unfolding(crate::specs::CicDecimator::step))]
+pub fn sample_lent(
+    stages: usize,
+    r: usize,
+    sample_counter: &mut usize,
+    integrators: &mut [i32; MOST_STAGES],
+    combs: &mut [i32; MOST_STAGES],
+    input: i32,
+) -> Result<Option<i32>, Refusal>
+    ensures answer { told_on None result (D.decimator_of stages r integrators.new combs.new sample_counter.new) ≡ D.step (D.decimator_of stages r integrators.old combs.old sample_counter.old) input }
+{
+    state_answer(stages, r, *sample_counter)?;
+    Ok(sample_at(stages, r, sample_counter, integrators, combs, input))
+}
+
+// `CicDecimator::process_sample_scaled`, likewise. Refusal 3 is looked at on every call: it goes by the settings alone.
+#[tactic(auto, unfolding(crate::specs::CicDecimator::scaled_step, crate::specs::CicDecimator::scaled_decimator, crate::specs::Gain::scaling_bits))]
+pub fn scaled_sample_lent(
+    stages: usize,
+    r: usize,
+    sample_counter: &mut usize,
+    integrators: &mut [i32; MOST_STAGES],
+    combs: &mut [i32; MOST_STAGES],
+    input: i32,
+) -> Result<Option<i32>, Refusal>
+    ensures answer { told_on None result (D.decimator_of stages r integrators.new combs.new sample_counter.new) ≡ D.scaled_step (D.decimator_of stages r integrators.old combs.old sample_counter.old) input }
+{
+    state_answer(stages, r, *sample_counter)?;
+    let bits = scaling_bits(stages, r)?;
+    let sum = sample_at(stages, r, sample_counter, integrators, combs, input);
+    Ok(sum.map(|sum| scaled(sum, bits)))
+}
+
 impl CicDecimator {
     // One that has taken nothing in yet. A refused opening leaves that of 0 and 0, which is zeros.
     pub fn fresh(stages: usize, r: usize) -> CicDecimator
@@ -250,8 +273,8 @@ impl CicDecimator {
         CicDecimator {
             stages,
             r,
-            integrator_state: [0; MAX_STAGES],
-            comb_state: [0; MAX_STAGES],
+            integrator_state: [0; MOST_STAGES],
+            comb_state: [0; MOST_STAGES],
             sample_counter: 0,
         }
     }
@@ -297,11 +320,11 @@ impl CicDecimator {
         range_of(self.stages, self.r)
     }
 
-    fn next_sum(&mut self, input: i32) -> Option<i32>
-        ensures out { result ≡ (D.decimator).out self.old input }
-        ensures next { self.new ≡ (D.decimator).next self.old input }
+    // 01 has two calls, this one and the scaled one: each hands the fields to the leaf of its name.
+    pub fn process_sample(&mut self, input: i32) -> Result<Option<i32>, Refusal>
+        ensures answer { told_on None result self.new ≡ D.step self.old input }
     {
-        sample_at(
+        sample_lent(
             self.stages,
             self.r,
             &mut self.sample_counter,
@@ -311,22 +334,17 @@ impl CicDecimator {
         )
     }
 
-    #[tactic(auto, unfolding(crate::specs::CicDecimator::step))]
-    pub fn process_sample(&mut self, input: i32) -> Result<Option<i32>, Refusal>
-        ensures answer { told_on None result self.new ≡ D.step self.old input }
-    {
-        state_answer(self.stages, self.r, self.sample_counter)?;
-        Ok(self.next_sum(input))
-    }
-
-    // Refusal 3 is looked at on every call: it goes by the settings alone.
-    #[tactic(auto, unfolding(crate::specs::CicDecimator::scaled_step, crate::specs::CicDecimator::scaled_decimator, crate::specs::Gain::scaling_bits))]
     pub fn process_sample_scaled(&mut self, input: i32) -> Result<Option<i32>, Refusal>
         ensures answer { told_on None result self.new ≡ D.scaled_step self.old input }
     {
-        state_answer(self.stages, self.r, self.sample_counter)?;
-        let bits = scaling_bits(self.stages, self.r)?;
-        Ok(self.next_sum(input).map(|sum| scaled(sum, bits)))
+        scaled_sample_lent(
+            self.stages,
+            self.r,
+            &mut self.sample_counter,
+            &mut self.integrator_state,
+            &mut self.comb_state,
+            input,
+        )
     }
 
     // Samples of src become sums in dst while dst has a place.

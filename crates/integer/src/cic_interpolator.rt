@@ -1,5 +1,6 @@
 // 01, section 7: the cascaded integrator-comb interpolator.
-ghost use Rattle.std.specs.Prelude.{◌≡◌, ◌-◌, ◌*◌, ◌≤◌, true, cond, IfOk, ◌++◌, length, take, drop, pos, if◌then◌else◌, nat_le, nat_lt, slice_index_or};
+ghost use Rattle.std.specs.Prelude.{◌≡◌, ◌-◌, ◌*◌, ◌≤◌, true, cond, IfOk, ◌++◌, length, take, drop, nat_le};
+ghost use Rattle.std.specs.Option.{option_map_or};
 ghost use Rattle.refusal.specs.Outcome.{number_in, none_moved, told, told_on, told_opened};
 ghost use Rattle.integer.specs.Opening.{opening, on_state};
 ghost use Rattle.integer.specs.Gain.{gain_of, gain_bits, Least};
@@ -7,7 +8,7 @@ ghost use Rattle.integer.specs.Stages.{integrated, combed};
 ghost use Rattle.integer.specs.CicInterpolator as I;
 
 use crate::gain::{bits_of, gain_of};
-use crate::limits::{MAX_STAGES, factor_ok, settings_answer, stages_ok};
+use crate::limits::{MOST_STAGES, factor_ok, settings_answer, stages_ok};
 use crate::stages::{comb, integrate, write_back};
 use refusal::{Moved, Refusal};
 
@@ -15,8 +16,8 @@ use refusal::{Moved, Refusal};
 pub struct CicInterpolator {
     pub stages: usize,
     pub r: usize,
-    pub comb_state: [i32; MAX_STAGES],
-    pub integrator_state: [i32; MAX_STAGES],
+    pub comb_state: [i32; MOST_STAGES],
+    pub integrator_state: [i32; MOST_STAGES],
 }
 
 // Row 15.
@@ -41,7 +42,7 @@ fn span_answer(places: usize, r: usize) -> Result<(), Refusal>
 }
 
 // The integrators' outputs, as many as there are places: input goes in, and then zeros.
-fn fill_on(stages: usize, integrators: &mut [i32; MAX_STAGES], input: i32, places: &mut [i32])
+fn fill_on(stages: usize, integrators: &mut [i32; MOST_STAGES], input: i32, places: &mut [i32])
     ensures { let filled = I.filled stages integrators.old input (length places.old) in
         (integrators.new ≡ filled.state) × (places.new ≡ filled.outs) }
 {
@@ -54,7 +55,7 @@ fn fill_on(stages: usize, integrators: &mut [i32; MAX_STAGES], input: i32, place
 
 // The same of a number of stages that the compiler knows: it unrolls them, and holds the integrators in registers. Only the stages in use are written back, one by
 // one: the next sample reads them so, and a load that is wider than the stores before it waits for them.
-fn fill_of<const N: usize>(integrators: &mut [i32; MAX_STAGES], input: i32, places: &mut [i32])
+fn fill_of<const N: usize>(integrators: &mut [i32; MOST_STAGES], input: i32, places: &mut [i32])
     ensures { let filled = I.filled N integrators.old input (length places.old) in
         (integrators.new ≡ filled.state) × (places.new ≡ filled.outs) }
 {
@@ -63,7 +64,7 @@ fn fill_of<const N: usize>(integrators: &mut [i32; MAX_STAGES], input: i32, plac
     write_back(N, held, integrators);
 }
 
-fn fill(stages: usize, integrators: &mut [i32; MAX_STAGES], input: i32, places: &mut [i32])
+fn fill(stages: usize, integrators: &mut [i32; MOST_STAGES], input: i32, places: &mut [i32])
     ensures { let filled = I.filled stages integrators.old input (length places.old) in
         (integrators.new ≡ filled.state) × (places.new ≡ filled.outs) }
 {
@@ -86,8 +87,8 @@ fn fill(stages: usize, integrators: &mut [i32; MAX_STAGES], input: i32, places: 
 pub fn sample_at(
     stages: usize,
     r: usize,
-    combs: &mut [i32; MAX_STAGES],
-    integrators: &mut [i32; MAX_STAGES],
+    combs: &mut [i32; MOST_STAGES],
+    integrators: &mut [i32; MOST_STAGES],
     input: i32,
     out_buf: &mut [i32],
 ) -> Result<usize, Refusal>
@@ -101,32 +102,30 @@ pub fn sample_at(
     Ok(r)
 }
 
-// Sample number `taken`, where there is one: through the combs, and into the first integrator.
+// A sample, where there is one: through the combs, and into the first integrator.
 fn enter(
     stages: usize,
-    combs: &mut [i32; MAX_STAGES],
-    integrators: &mut [i32; MAX_STAGES],
-    src: &[i32],
-    taken: usize,
+    combs: &mut [i32; MOST_STAGES],
+    integrators: &mut [i32; MOST_STAGES],
+    coming: Option<i32>,
 )
-    ensures combs { let x = slice_index_or src.now taken (pos 0) in
-        combs.new ≡ (if nat_lt taken (length src.now) then (combed stages combs.old x).state else combs.old) }
-    ensures integrators { let handed = (combed stages combs.old (slice_index_or src.now taken (pos 0))).val in
-        integrators.new ≡ (if nat_lt taken (length src.now) then (integrated 1 integrators.old handed).state else integrators.old) }
+    ensures combs { combs.new ≡ option_map_or (λ x. (combed stages combs.old x).state) coming combs.old }
+    ensures integrators { integrators.new ≡ option_map_or (λ x. (integrated 1 integrators.old (combed stages combs.old x).val).state) coming integrators.old }
 {
-    if taken < src.len() {
-        let val = comb(stages, combs, src[taken]);
+    if let Some(sample) = coming {
+        let val = comb(stages, combs, sample);
         integrate(1, integrators, val);
     }
 }
 
 // The outputs of all samples, in front of dst, the integrators held in a local. A sample goes into the first one by itself: its r outputs are then those of zeros,
 // which leave that one alone. It enters a turn ahead, or else the compiler works the combs' differences into the sums of the outputs. The combs stay where they are,
-// for they are used once a sample and the integrators want the registers. The compiler knows the number of stages, and unrolls them.
+// for they are used once a sample and the integrators want the registers. The compiler knows the number of stages, and unrolls them. By the sample's number: of the
+// places behind chunks_mut a proof knows the lengths alone.
 fn raise_of<const N: usize>(
     r: usize,
-    combs: &mut [i32; MAX_STAGES],
-    integrators: &mut [i32; MAX_STAGES],
+    combs: &mut [i32; MOST_STAGES],
+    integrators: &mut [i32; MOST_STAGES],
     src: &[i32],
     dst: &mut [i32],
 )
@@ -136,11 +135,11 @@ fn raise_of<const N: usize>(
 {
     let mut sums = *integrators;
     let mut written = 0;
-    enter(N, combs, &mut sums, src, 0);
+    enter(N, combs, &mut sums, src.first().copied());
     for taken in 0..src.len() {
         fill_on(N, &mut sums, 0, &mut dst[written..written + r]);
         written += r;
-        enter(N, combs, &mut sums, src, taken + 1);
+        enter(N, combs, &mut sums, src.get(taken + 1).copied());
     }
     write_back(N, sums, integrators);
 }
@@ -148,8 +147,8 @@ fn raise_of<const N: usize>(
 // The same of one stage. Its r outputs are one value: where they are few, a loop costs more than they do, so r is a constant in the first arms.
 fn raise_one(
     r: usize,
-    combs: &mut [i32; MAX_STAGES],
-    integrators: &mut [i32; MAX_STAGES],
+    combs: &mut [i32; MOST_STAGES],
+    integrators: &mut [i32; MOST_STAGES],
     src: &[i32],
     dst: &mut [i32],
 )
@@ -166,11 +165,12 @@ fn raise_one(
     }
 }
 
+// No struct of the settings: the arms below turn the stages into a constant, and those above the factor, so each would take it apart again.
 fn raise(
     stages: usize,
     r: usize,
-    combs: &mut [i32; MAX_STAGES],
-    integrators: &mut [i32; MAX_STAGES],
+    combs: &mut [i32; MOST_STAGES],
+    integrators: &mut [i32; MOST_STAGES],
     src: &[i32],
     dst: &mut [i32],
 )
@@ -195,8 +195,8 @@ fn raise(
 pub fn block_at(
     stages: usize,
     r: usize,
-    combs: &mut [i32; MAX_STAGES],
-    integrators: &mut [i32; MAX_STAGES],
+    combs: &mut [i32; MOST_STAGES],
+    integrators: &mut [i32; MOST_STAGES],
     src: &[i32],
     dst: &mut [i32],
 ) -> Result<Moved, Refusal>
@@ -213,6 +213,7 @@ pub fn block_at(
     })
 }
 
+// The methods stand beside CicDecimator's as NonrecursiveDecimator's do: a trait over them would ask each for its section, its validity and its settings first.
 impl CicInterpolator {
     // One that has taken nothing in yet. A refused opening leaves that of 0 and 0, which is zeros.
     pub fn fresh(stages: usize, r: usize) -> CicInterpolator
@@ -221,8 +222,8 @@ impl CicInterpolator {
         CicInterpolator {
             stages,
             r,
-            comb_state: [0; MAX_STAGES],
-            integrator_state: [0; MAX_STAGES],
+            comb_state: [0; MOST_STAGES],
+            integrator_state: [0; MOST_STAGES],
         }
     }
 

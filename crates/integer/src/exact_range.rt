@@ -7,7 +7,7 @@ ghost use Rattle.integer.specs.Gain.{most_bits};
 use crate::gain::{scaled, scaling_bits};
 use refusal::Refusal;
 
-// The ends of a range, both in it.
+// The ends of a range, both in it. No `Default`: ends of 0 and 0 hold a sample, so a refused call names what it tells for them.
 #[derive(Clone, Copy, PartialEq, Eq, Debug)]
 pub struct Ends {
     pub least: i32,

@@ -4,7 +4,7 @@ ghost use Rattle.theory.specs.Floor.{floor_div};
 ghost use Rattle.refusal.specs.Outcome.{told};
 ghost use Rattle.integer.specs.Gain.{held, gain_of, bits_of, most_bits, scaling_bits};
 
-use crate::limits::MAX_BITS;
+use crate::limits::MOST_GAIN_BITS;
 use refusal::Refusal;
 
 // The product, held at 2^64 - 1.
@@ -18,7 +18,7 @@ fn held_product(a: u64, b: u64) -> u64
     a.saturating_mul(b)
 }
 
-// r to the power of n, held at 2^64 - 1.
+// r to the power of n, held at 2^64 - 1. No `saturating_pow`: its exponent is a u32, so n would be held at 64 first, and std's method divides.
 pub fn gain_of(n: usize, r: usize) -> u64
     ensures { result ≡ gain_of n r }
 {
@@ -43,7 +43,7 @@ pub fn scaling_bits(n: usize, r: usize) -> Result<u32, Refusal>
     ensures within { IfOk result (λ bits. bits ≤ most_bits) }
 {
     let bits = bits_of(gain_of(n, r));
-    if bits > MAX_BITS {
+    if bits > MOST_GAIN_BITS {
         return Err(Refusal::GainBits);
     }
     Ok(bits)

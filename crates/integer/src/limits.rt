@@ -6,25 +6,25 @@ ghost use Rattle.integer.specs.Opening.{settings_number};
 
 use refusal::Refusal;
 
-pub const MAX_STAGES: usize = 8;
+pub const MOST_STAGES: usize = 8;
 
-pub const MAX_FACTOR: usize = 4096;
+pub const MOST_FACTOR: usize = 4096;
 
 // The gain bits of a sum that is scaled: "for g up to 31".
-pub const MAX_BITS: u32 = 31;
+pub const MOST_GAIN_BITS: u32 = 31;
 
 #[tactic(auto, unfolding(crate::specs::Limits::stages_ok))]
 pub fn stages_ok(stages: usize) -> bool
     ensures { result ≡ stages_ok stages }
 {
-    (1..=MAX_STAGES).contains(&stages)
+    (1..=MOST_STAGES).contains(&stages)
 }
 
 #[tactic(auto, unfolding(crate::specs::Limits::factor_ok))]
 pub fn factor_ok(r: usize) -> bool
     ensures { result ≡ factor_ok r }
 {
-    (1..=MAX_FACTOR).contains(&r)
+    (1..=MOST_FACTOR).contains(&r)
 }
 
 // Rows 1 and 2, of an opening.

@@ -2,7 +2,7 @@
 ghost use Rattle.std.specs.Prelude.{◌≡◌, ◌++◌, take, drop, ℤ, pos};
 ghost use Rattle.integer.specs.Stages.{row, sum32, kept, difference32, integrated, combed, ran};
 
-use crate::limits::MAX_STAGES;
+use crate::limits::MOST_STAGES;
 
 // A stage of a row: what it keeps of its state and a value, and what it hands on.
 pub trait Stage {
@@ -57,21 +57,21 @@ pub fn pass<S: Stage>(stages: usize, states: &mut [i32], input: i32) -> i32
 }
 
 #[tactic(auto, unfolding(crate::specs::Stages::integrated))]
-pub fn integrate(stages: usize, integrators: &mut [i32; MAX_STAGES], input: i32) -> i32
+pub fn integrate(stages: usize, integrators: &mut [i32; MOST_STAGES], input: i32) -> i32
     ensures { (integrators.new ≡ (integrated stages integrators.old input).state) × (result ≡ (integrated stages integrators.old input).val) }
 {
     pass::<Integrator>(stages, integrators, input)
 }
 
 #[tactic(auto, unfolding(crate::specs::Stages::combed))]
-pub fn comb(stages: usize, combs: &mut [i32; MAX_STAGES], input: i32) -> i32
+pub fn comb(stages: usize, combs: &mut [i32; MOST_STAGES], input: i32) -> i32
     ensures { (combs.new ≡ (combed stages combs.old input).state) × (result ≡ (combed stages combs.old input).val) }
 {
     pass::<Differentiator>(stages, combs, input)
 }
 
 // All of the samples go through the integrators; the last one's value comes back, 0 where there is none.
-pub(crate) fn run_on(stages: usize, integrators: &mut [i32; MAX_STAGES], samples: &[i32]) -> i32
+fn run_on(stages: usize, integrators: &mut [i32; MOST_STAGES], samples: &[i32]) -> i32
     ensures { let passed = ran stages integrators.old (pos 0) samples.now in
         (integrators.new ≡ passed.state) × (result ≡ passed.val) }
 {
@@ -83,7 +83,7 @@ pub(crate) fn run_on(stages: usize, integrators: &mut [i32; MAX_STAGES], samples
 }
 
 // The same of a number of stages that the compiler knows: it unrolls them, and holds the integrators in registers.
-fn run_of<const N: usize>(integrators: &mut [i32; MAX_STAGES], samples: &[i32]) -> i32
+fn run_of<const N: usize>(integrators: &mut [i32; MOST_STAGES], samples: &[i32]) -> i32
     ensures { let passed = ran N integrators.old (pos 0) samples.now in
         (integrators.new ≡ passed.state) × (result ≡ passed.val) }
 {
@@ -93,7 +93,7 @@ fn run_of<const N: usize>(integrators: &mut [i32; MAX_STAGES], samples: &[i32]) 
     val
 }
 
-pub fn run(stages: usize, integrators: &mut [i32; MAX_STAGES], samples: &[i32]) -> i32
+pub fn run(stages: usize, integrators: &mut [i32; MOST_STAGES], samples: &[i32]) -> i32
     ensures { let passed = ran stages integrators.old (pos 0) samples.now in
         (integrators.new ≡ passed.state) × (result ≡ passed.val) }
 {
@@ -110,11 +110,12 @@ pub fn run(stages: usize, integrators: &mut [i32; MAX_STAGES], samples: &[i32]) 
     }
 }
 
-// The first `stages` of held go to the front of the lent array, each by itself; the places behind them stay.
-pub(crate) fn write_back(stages: usize, held: [i32; MAX_STAGES], state: &mut [i32; MAX_STAGES])
+// The first `stages` of held go to the front of the lent array, each by itself; the places behind them stay. By the place's number: behind `take` a proof sees an
+// iterator in place of it.
+pub(crate) fn write_back(stages: usize, held: [i32; MOST_STAGES], state: &mut [i32; MOST_STAGES])
     ensures { state.new ≡ take stages held ++ drop stages state.old }
 {
-    for i in 0..stages.min(MAX_STAGES) {
+    for i in 0..stages.min(MOST_STAGES) {
         state[i] = held[i];
     }
 }

@@ -21,8 +21,8 @@ use Rattle.nonrecursive.specs.EitherKind.{either}
 use Rattle.q15.specs.Fixed.{cut, cut_count}
 use Rattle.q15.specs.FirDecimator.{summing}
 use Rattle.chain.specs.Chain.{Parts, chain}
+use Rattle.chain.specs.Cuts.{most_cuts}
 use Rattle.chain.specs.Batched.{Whole, Batched}
-use Rattle.line.specs.Outputs.{most_cuts}
 use Rattle.line.specs.Line.{thinner_of, parts_of, counted_of, of_counted, cuts_at, line, valid, fed_line}
 use Rattle.line.specs.Together.{Begun, RanTo}
 use Rattle.line.specs.declared.gauge_line.Line.{Line}

@@ -25,8 +25,9 @@ use Rattle.q15.specs.FirDecimator.{fir, fir_next, fir_sum_out, summing}
 use Rattle.q15.specs.FirDecimator as Q
 use Rattle.q15.specs.declared.fir_decimator.FirDecimator.{FirDecimator}
 use Rattle.q15.proofs.FirStream.{line_summed}
-use Rattle.line.specs.Outputs.{Opening, most_cuts, cuts_of, held_cuts}
+use Rattle.line.specs.Outputs.{Opening, cuts_of, held_cuts}
 use Rattle.chain.specs.Chain.{from3}
+use Rattle.chain.specs.Cuts.{most_cuts}
 use Rattle.line.specs.Line.{thinner_of, parts_of, sum_cut, cuts_for, line, fresh}
 use Rattle.line.specs.declared.gauge_line.Line.{Line}
 use Rattle.line.proofs.Openings.{Accepted}

@@ -9,7 +9,6 @@ use Rattle.theory.specs.Sections.{each}
 use Rattle.theory.specs.Machines.{before}
 use Rattle.theory.specs.Tally.{tallied}
 use Rattle.theory.proofs.Tally.{lawful_tallied, all_tallied}
-use Rattle.line.specs.Outputs.{most_cuts}
 use Rattle.theory.proofs.Machines.{Lawful, all, all_before, lawful_before, lawful_viewed, all_viewed, lawful_as}
 use Rattle.theory.specs.Sections.{outs}
 use Rattle.nonrecursive.specs.EitherKind.{fine, either}
@@ -27,6 +26,7 @@ use Rattle.half_band.proofs.HeldOnes.{line_next_not_refused}
 use Rattle.float.proofs.PolyphaseRange as Res
 use Rattle.float.specs.Level.{level}
 use Rattle.chain.specs.Chain.{Parts, from3, from4, from5, chain}
+use Rattle.chain.specs.Cuts.{most_cuts}
 use Rattle.line.specs.Line.{thinner_of, parts_of, counted_of, of_counted, cuts_at, line, half_band_fine, valid}
 use Rattle.line.specs.declared.gauge_line.Line.{Line}
 use Rattle.std.proofs.lemmas.Bool.{and_parts, and_from, not-true, not_from_false}

@@ -1,17 +1,15 @@
 -- What a valid line held apart says of its numbers: the counter is below r, a due output has phases and taps in their limits, and the test of validity is the definition's.
 use mathlib.Core.Path.{◌≡◌, refl, sym, ap, ◌∙◌, subst}
-use mathlib.Core.Bool.{Bool, true, false, cond, ◌&&◌, not}
+use mathlib.Core.Bool.{Bool, true, false, not}
 use Prim.Native.Nat.{ℕ, zero, suc, ◌*◌, ◌≤◌, ◌<◌}
 use native.Mathlib.Nat.{zero-mul, mul-le-mul}
 use native.Mathlib.Omega.{arith}
-use lib.Dec.{leb, eqb, eqb-suc-zero}
+use lib.Dec.{eqb, eqb-suc-zero}
 use lib.ListN.{length}
 use lib.Seq.{length-take-le}
 use borrow.Author.Tests.{le-ltb, eq-eqb}
-use Rattle.integer.specs.Gain.{gain_bits, most_bits}
 use Rattle.nonrecursive.specs.EitherKind as E
 use Rattle.nonrecursive.proofs.EitherKind.{either_below, either_settings}
-use Rattle.q15.specs.FirDecimator as Q
 use Rattle.float.specs.PolyphaseResamp.{in_limits, in_line, is_on, valid_in_line}
 use Rattle.q15.specs.FirDecimator.{most_taps, settings_number_in_line}
 use Rattle.q15.proofs.FirSteps.{valid_few, settings_valid}
@@ -19,10 +17,9 @@ use Rattle.half_band.proofs.HeldOnes.{line_few}
 use Rattle.float.proofs.PolyphaseOutput.{limits_say}
 use Rattle.float.proofs.PolyphaseRange.{on_in_limits, on_step}
 use Rattle.line.specs.Line.{line, valid, thinner_of, half_band_fine, depth_number, resampler_number, number_at, opened, opening_of, reset}
-use Rattle.line.specs.Together.{bits_at, valid_at}
-use Rattle.line.specs.Lent.{numbers_in, fixed_in}
+use Rattle.line.specs.Together.{valid_at}
+use Rattle.line.specs.Lent.{numbers_in}
 use Rattle.line.specs.declared.gauge_line.Line.{Line}
-use Rattle.chain.specs.declared.fixed.Fixed.{Fixed}
 use Rattle.std.proofs.lemmas.Bool.{and_parts, not-true}
 use Rattle.line.proofs.Lawful.{to_parts}
 
@@ -39,21 +36,13 @@ unfolding in_line is_on
 due_limits l v d = on_in_limits l.resampler (and_parts (not (eqb l.resampler.phases 0)) _ d).0 (to_parts l v).1.1.1.1.1
 
 -- the tests of a line held apart are those of the line
-pub valid_apart : (l : Line) → valid_at (fixed_in (numbers_in l)) (numbers_in l).clock l.half_band.counts ≡ valid l
-unfolding valid_at valid E.fine half_band_fine bits_at valid_in_line
-valid_apart l = ap (λ (b : Bool). b && (Q.valid_in_line l.fir && (half_band_fine l.half_band && valid_in_line l.resampler))) (go (valid_of l))
-  where
-    go : (v : Bool) → leb (cond v (gain_bits l.cic.stages l.cic.r) 64) most_bits ≡ (v && leb (gain_bits l.cic.stages l.cic.r) most_bits)
-    go true = refl
-    go false = refl
+pub valid_apart : (l : Line) → valid_at (numbers_in l) l.half_band.counts ≡ valid l
+unfolding valid_at valid E.fine half_band_fine valid_in_line
+valid_apart l = refl
 
 -- what the code knows of a line once it has looked at its numbers
-pub tested : (l : Line) {f : Fixed} {b v : Bool} → f ≡ fixed_in (numbers_in l) → b ≡ valid_at f (numbers_in l).clock l.half_band.counts → b ≡ v → valid l ≡ v
-tested l ef eb ev = sym (valid_apart l) ∙ sym (rw ef at eb) ∙ ev
-
-pub bits_apart : (l : Line) → valid l ≡ true → (fixed_in (numbers_in l)).bits ≡ gain_bits l.cic.stages l.cic.r
-unfolding E.fine bits_at
-bits_apart l v = ap (λ (b : Bool). cond b (gain_bits l.cic.stages l.cic.r) 64) (and_parts (valid_of l) _ (to_parts l v).0).0
+pub tested : (l : Line) {b v : Bool} → b ≡ valid_at (numbers_in l) l.half_band.counts → b ≡ v → valid l ≡ v
+tested l eb ev = sym (valid_apart l) ∙ sym eb ∙ ev
 
 -- the taps and the prototype of a valid line lie in its arrays
 pub few_taps : (l : Line) → valid l ≡ true → l.fir.tap_count ≤ most_taps

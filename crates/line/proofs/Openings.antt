@@ -151,8 +151,3 @@ one_list o w a b = go o.settings.phases
     go : (n : ℕ) → Resampled n o (levels o w) a → Resampled n o (levels o w) b → a ≡ b
     go zero p q = p ∙ sym q
     go (suc n) p q = becomes_one o.settings.straight (suc n) o.settings.taps o.prototype o.settings.step (levels o w) a b p q
-
--- the FIR's opening, with settings that the line takes
-module _ (o : Opening) (ok : Accepted o) where
-  pub fir_opened_lem : (Q.fir_opened o.taps o.settings.factor).state ≡ Q.fresh_in_line o.taps o.settings.factor
-  fir_opened_lem = FirOpening.line_opened o.taps o.settings.factor ok.filter

@@ -1,8 +1,9 @@
 -- The line of 01, section 6, as a caller has it who keeps its arrays: the numbers and the arrays lent.
+use Rattle.integer.specs.Gain.{gain_bits}
 use Rattle.integer.specs.CicDecimator.{decimator_of}
 use Rattle.q15.specs.FirDecimator.{fir_state}
 use Rattle.float.specs.PolyphaseResamp as R
-use Rattle.line.specs.Together.{bits_at, line_held}
+use Rattle.line.specs.Placed.{line_together}
 use Rattle.line.specs.declared.gauge_line.Line.{Line}
 use Rattle.line.specs.declared.lent.LineNumbers.{LineNumbers}
 use Rattle.chain.specs.declared.arrays.Arrays.{Arrays}
@@ -11,11 +12,12 @@ use Rattle.chain.specs.declared.fixed.Fixed.{Fixed}
 
 -- what a feed never changes, with the gain bits that follow
 abbrev pub fixed_in : LineNumbers → Fixed
-fixed_in n = record { settings = n.settings; tap_count = n.tap_count; bits = bits_at n.settings n.clock.sample_counter }
+fixed_in n = record { settings = n.settings; tap_count = n.tap_count; bits = gain_bits n.settings.stages n.settings.r }
 
 -- the line of these numbers and arrays
 abbrev pub line_in : LineNumbers → Arrays → Line
-line_in n lent = line_held (fixed_in n) n.clock lent
+line_in n lent =
+    line_together n lent.integrators.now lent.combs.now lent.neighbours.now lent.taps.now lent.fir_delay.now lent.delays.now lent.held.now lent.counts.now lent.delay.now lent.prototype.now
 
 -- the numbers of a line
 abbrev pub numbers_in : Line → LineNumbers

@@ -18,14 +18,15 @@ use Rattle.q15.specs.Fixed.{cut, cut_one}
 use Rattle.q15.specs.FirDecimator.{fir, fir_sum_out, settings_number_in_line}
 use Rattle.q15.specs.FirDecimator as Q
 use Rattle.q15.specs.declared.fir_decimator.FirDecimator.{FirDecimator}
-use Rattle.half_band.specs.Limits.{most_stages}
+use Rattle.half_band.specs.Limits.{most_depth}
 use Rattle.half_band.specs.HbfStream.{stream_fresh, stream_refused_in_line}
 use Rattle.float.specs.PolyphaseResamp.{in_limits, step_in_line, valid_in_line}
 use Rattle.float.specs.PolyphaseResamp as R
 use Rattle.half_band.specs.declared.hbf_stream.HbfStream.{HbfStream}
 use Rattle.float.specs.declared.polyphase_resamp.PolyphaseResampF32.{PolyphaseResampF32}
 use Rattle.chain.specs.Chain.{Parts, chain}
-use Rattle.line.specs.Outputs.{Opening, most_cuts}
+use Rattle.chain.specs.Cuts.{most_cuts}
+use Rattle.line.specs.Outputs.{Opening}
 use Rattle.chain.specs.declared.settings.Settings.{Settings}
 use Rattle.line.specs.declared.gauge_line.Line.{Line}
 use Rattle.line.specs.declared.step.LineStep.{LineStep}
@@ -120,7 +121,7 @@ feed_span l xs span =
 
 -- row 11, "depth over 5"; 0 means off
 unfoldable pub depth_number : ℕ → ℕ
-depth_number depth = cond (ltb most_stages depth) 11 0
+depth_number depth = cond (ltb most_depth depth) 11 0
 
 -- rows 12, 13 and 14; "P = 0 means off, the other resampler settings and the prototype are not looked at, and step is 1/64 to 64"
 unfoldable pub resampler_number : ℕ → ℕ → ℕ → Float → ℕ

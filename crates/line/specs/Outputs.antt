@@ -10,6 +10,7 @@ use Rattle.half_band.specs.HalfBand.{decimated_by}
 use Rattle.half_band.specs.HbfTaps.{stage_taps, decimation}
 use Rattle.float.specs.PolyphaseWhole.{Becomes}
 use Rattle.float.specs.Level.{level}
+use Rattle.chain.specs.Cuts.{most_cuts}
 use Rattle.chain.specs.declared.settings.Settings.{Settings}
 
 -- what a line is opened with
@@ -35,15 +36,12 @@ Resampled (suc n) o v y = Becomes o.settings.straight (suc n) o.settings.taps o.
 unfoldable pub Outputs : Opening → List ℤ → List Float → Type 0
 Outputs o w y = Resampled o.settings.phases o (levels o w) y
 
--- 02, §4: "a count of cut values, at sections 2 and 3 of document 01 together, holding at 2^32−1"; "the number of cuts that the definitions make for W, held likewise"
-abbrev pub most_cuts : ℕ
-most_cuts = 4294967295
-
 -- section 2 cuts the scaled sums, and section 3 its sums of the values cut; with no taps it makes none
 unfoldable pub cuts_of : Opening → List ℤ → ℕ
 cuts_of o w =
     let sums = scaled_sums o.settings.stages o.settings.r w in
     cut_count w16 sums + cond (eqb (length o.taps) 0) 0 (cut_count w16 (fir_sums o.taps o.settings.factor (map (cut w16) sums)))
 
+-- 02, §4: "the number of cuts that the definitions make for W, held likewise"
 unfoldable pub held_cuts : Opening → List ℤ → ℕ
 held_cuts o w = min (cuts_of o w) most_cuts

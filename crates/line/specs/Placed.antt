@@ -1,5 +1,5 @@
--- The line of 01, section 6, as an opening or a reset has it whose caller keeps its arrays: the numbers, and the arrays lent to be written.
-use Rattle.std.specs.Prelude.{◌≡◌, ◌*◌, ℕ, take}
+-- The line of 01, section 6, put together from its numbers and its arrays; and as an opening or a reset has it whose caller keeps its arrays, lent to be written.
+use Rattle.std.specs.Prelude.{◌≡◌, ◌*◌, List, ℕ, ℤ, Float, take}
 use Rattle.integer.specs.CicDecimator.{decimator_of}
 use Rattle.q15.specs.FirDecimator.{fir_state}
 use Rattle.half_band.specs.HbfStream.{stream_of}
@@ -10,20 +10,31 @@ use Rattle.line.specs.declared.gauge_line.Line.{Line}
 use Rattle.line.specs.declared.lent.LineNumbers.{LineNumbers}
 use Rattle.line.specs.declared.places.Places.{Places}
 
--- the line of these numbers and arrays
-abbrev pub line_on : LineNumbers → Places → Line
-line_on n p =
+-- the line of these numbers and what stands in its ten arrays
+abbrev pub line_together :
+    LineNumbers
+    → List ℤ → List ℤ → List ℤ
+    → List ℤ → List ℤ
+    → List Float → List Float → List ℕ
+    → List Float → List Float
+    → Line
+line_together n integrators combs neighbours taps fir_delay delays held counts delay prototype =
     let s = n.settings in
     let c = n.clock in
     record {
       thinning = s.thinning;
-      cic = decimator_of s.stages s.r p.integrators.now p.combs.now c.sample_counter;
-      neighbours = p.neighbours.now;
-      fir = fir_state p.taps.now n.tap_count s.factor p.fir_delay.now c.wait;
-      half_band = stream_of s.depth p.delays.now p.held.now p.counts.now;
-      resampler = R.together s.straight s.phases s.taps c.mu s.step p.delay.now p.prototype.now;
+      cic = decimator_of s.stages s.r integrators combs c.sample_counter;
+      neighbours = neighbours;
+      fir = fir_state taps n.tap_count s.factor fir_delay c.wait;
+      half_band = stream_of s.depth delays held counts;
+      resampler = R.together s.straight s.phases s.taps c.mu s.step delay prototype;
       cuts = c.cuts;
     }
+
+-- the line of these numbers and arrays
+abbrev pub line_on : LineNumbers → Places → Line
+line_on n p =
+    line_together n p.integrators.now p.combs.now p.neighbours.now p.taps.now p.fir_delay.now p.delays.now p.held.now p.counts.now p.delay.now p.prototype.now
 
 -- what such a line is opened with, of the taps and the prototype in front of their arrays
 abbrev pub own_opening : Settings → ℕ → Places → Opening

@@ -1,5 +1,5 @@
 -- The line of which a loop holds the settings, the clock and the arrays apart, and what a value does in a machine: for the contracts of the private functions.
-use Rattle.std.specs.Prelude.{◌≡◌, Bool, true, cond, ◌&&◌, not, List, ◌++◌, ℕ, ◌+◌, ◌-◌, ◌≤◌, eqb, leb, length, take, drop, ℤ, Float, Option}
+use Rattle.std.specs.Prelude.{◌≡◌, Bool, true, ◌&&◌, not, List, ◌++◌, ℕ, ◌+◌, ◌-◌, ◌≤◌, eqb, leb, length, take, drop, ℤ, Float, Option}
 use Rattle.std.specs.Float.Ieee.{lt}
 use Rattle.theory.specs.Machines.{Machine}
 use Rattle.theory.specs.Feeds as F
@@ -12,10 +12,10 @@ use Rattle.float.specs.PolyphaseResamp as R
 use Rattle.chain.specs.Lending.{parts_in}
 use Rattle.line.specs.Line.{of_counted, fed_line, valid}
 use Rattle.line.specs.declared.gauge_line.Line.{Line}
+use Rattle.line.specs.declared.lent.LineNumbers.{LineNumbers}
 use Rattle.chain.specs.declared.arrays.Arrays.{Arrays}
 use Rattle.chain.specs.declared.clock.Clock.{Clock}
 use Rattle.chain.specs.declared.fixed.Fixed.{Fixed}
-use Rattle.chain.specs.declared.settings.Settings.{Settings}
 
 -- m at the state p takes a: `out` is what it makes at once, and q its next state
 abbrev pub Takes : {S A C : Type 0} → Machine S A C → S → A → Option C → S → Type 0
@@ -33,15 +33,13 @@ stepped_in f event c lent = record { event = event; line = line_held f c lent }
 unfoldable pub due_at : Fixed → Float → Bool
 due_at f mu = not (eqb f.settings.phases 0) && lt mu one32
 
--- row 15 of the line held apart: the gain bits of a valid decimator, 64 of another
-unfoldable pub bits_at : Settings → ℕ → ℕ
-bits_at s counter = cond (E.valid_at s.thinning s.stages s.r counter) (gain_bits s.stages s.r) 64
-
-unfoldable pub valid_at : Fixed → Clock → List ℕ → Bool
-valid_at f c counts =
-    let s = f.settings in
-    leb f.bits most_bits
-    && (fir_valid_in_line f.tap_count s.factor c.wait && (not (stream_refused_in_line s.depth counts) && R.valid_in_line_at s.phases s.taps s.step c.mu))
+-- row 15 of the line held apart
+unfoldable pub valid_at : LineNumbers → List ℕ → Bool
+valid_at n counts =
+    let s = n.settings in
+    let c = n.clock in
+    (E.valid_at s.thinning s.stages s.r c.sample_counter && leb (gain_bits s.stages s.r) most_bits)
+    && (fir_valid_in_line n.tap_count s.factor c.wait && (not (stream_refused_in_line s.depth counts) && R.valid_in_line_at s.phases s.taps s.step c.mu))
 
 -- what a feed of the line l left: the counts, the line k and the span are those of section 6's feed
 pub record RanTo (l : Line) (xs : List ℤ) (before after : List Float) (taken written : ℕ) (k : Line) : Type 0 where

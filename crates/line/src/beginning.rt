@@ -11,14 +11,13 @@ ghost use Rattle.line.specs.Placed as P;
 use crate::lent::LineNumbers;
 use crate::opening::answer;
 use crate::places::Places;
-use crate::validity::valid_at;
 use chain::clock::Clock;
 use chain::settings::Settings;
-use float::settings::{MOST_CELLS, MOST_TAPS as MOST_PHASE_TAPS, Setting};
-use half_band::{DEC_CASCADE_DELAYS, MOST_STAGES};
-use integer::limits::MAX_STAGES;
+use float::settings::{MOST_CELLS, MOST_PHASE_TAPS, Setting};
+use half_band::{DEC_CASCADE_DELAYS, MOST_DEPTH};
+use integer::limits::MOST_STAGES;
 use nonrecursive::Thinning;
-use nonrecursive::nonrecursive_decimator::MAX_NEIGHBOURS;
+use nonrecursive::nonrecursive_decimator::MOST_NEIGHBOURS;
 use q15::{FirSettings, MOST_TAPS};
 use refusal::Refusal;
 
@@ -37,9 +36,9 @@ const OFF: Settings = Settings {
 
 // Both kinds of section 1 before the first sample.
 fn begin_sums(
-    integrators: &mut [i32; MAX_STAGES],
-    combs: &mut [i32; MAX_STAGES],
-    neighbours: &mut [i32; MAX_NEIGHBOURS],
+    integrators: &mut [i32; MOST_STAGES],
+    combs: &mut [i32; MOST_STAGES],
+    neighbours: &mut [i32; MOST_NEIGHBOURS],
 )
     ensures { (integrators.new ≡ replicate 8 (pos 0)) × (combs.new ≡ replicate 8 (pos 0)) × (neighbours.new ≡ replicate most_neighbours (pos 0)) }
 {
@@ -73,8 +72,8 @@ fn begin_fir(
 // Section 4 before the first level, at any depth.
 fn begin_half_band(
     delays: &mut [f32; DEC_CASCADE_DELAYS],
-    held: &mut [f32; MOST_STAGES],
-    counts: &mut [usize; MOST_STAGES],
+    held: &mut [f32; MOST_DEPTH],
+    counts: &mut [usize; MOST_DEPTH],
 )
     ensures { (depth : ℕ) → stream_of depth delays.new held.new counts.new ≡ stream_fresh depth }
 {
@@ -193,9 +192,7 @@ pub fn reset_lent(n: &mut LineNumbers, lent: &mut Places<'_>) -> Result<(), Refu
     ensures accepted { L.valid (P.line_on n.old lent.old) ≡ true → number_in result ≡ 0 }
 {
     let own = *n;
-    if !valid_at(own.fixed(), own.clock, lent.counts) {
-        return Err(Refusal::State);
-    }
+    own.checked(lent.counts)?;
     lengths(lent.taps, lent.prototype);
     begin(own.settings, own.tap_count, n, lent);
     Ok(())

@@ -2,7 +2,6 @@
 // sum go through the integrators at once.
 ghost use Rattle.std.specs.Prelude.{◌≡◌, true, false, ◌+◌, ◌<◌, ◌≤◌, pos, length, take};
 ghost use Rattle.integer.specs.Stages.{ran};
-ghost use Rattle.integer.specs.Gain.{gain_bits};
 ghost use Rattle.nonrecursive.specs.EitherKind as E;
 ghost use Rattle.nonrecursive.specs.declared.thinning.Thinning.TheVariants as thinning;
 ghost use Rattle.chain.specs.Lending.{Same};
@@ -12,10 +11,11 @@ ghost use Rattle.line.specs.Together as T;
 use crate::batches::feed_batches;
 use crate::sample::sample_in;
 use crate::step::due;
+use crate::validity::Checked;
 use chain::arrays::Arrays;
 use chain::clock::Clock;
 use chain::fixed::Fixed;
-use integer::limits::MAX_STAGES;
+use integer::limits::MOST_STAGES;
 use integer::stages::run;
 use nonrecursive::Thinning;
 use refusal::Moved;
@@ -26,7 +26,7 @@ fn at_once(
     by_neighbours: bool,
     f: Fixed,
     sample_counter: &mut usize,
-    integrators: &mut [i32; MAX_STAGES],
+    integrators: &mut [i32; MOST_STAGES],
     samples: &[i32],
 ) -> usize
     requires { sample_counter.old < f.settings.r }
@@ -49,18 +49,19 @@ fn at_once(
 
 // Steps until stopped, a copy of the loop for each kind of a line. No range: a turn takes as many samples as complete a sum.
 fn feed_on<const BY_NEIGHBOURS: bool>(
-    f: Fixed,
+    own: Checked,
     clock: &mut Clock,
     lent: &mut Arrays<'_>,
     samples: &[i32],
     out: &mut [f32],
 ) -> Moved
-    requires fine { (f.bits ≡ gain_bits f.settings.stages f.settings.r) × (L.valid (T.line_held f clock.old lent.old) ≡ true) }
-    requires kind { E.kind_of BY_NEIGHBOURS ≡ f.settings.thinning }
+    requires fine { L.valid (T.line_held own.fixed clock.old lent.old) ≡ true }
+    requires kind { E.kind_of BY_NEIGHBOURS ≡ own.fixed.settings.thinning }
     ensures same { Same lent.old lent.new }
-    ensures ran { let before = T.line_held f clock.old lent.old in
-        T.RanTo before samples.now out.old out.new result.taken result.written (T.line_held f clock.new lent.new) }
+    ensures ran { let before = T.line_held own.fixed clock.old lent.old in
+        T.RanTo before samples.now out.old out.new result.taken result.written (T.line_held own.fixed clock.new lent.new) }
 {
+    let f = own.fixed;
     let setting = f.settings.resampler();
     let mut taken: usize = 0;
     let mut written: usize = 0;
@@ -84,13 +85,9 @@ fn feed_on<const BY_NEIGHBOURS: bool>(
         }
         let x = samples[taken];
         taken += 1;
-        let made = sample_in(BY_NEIGHBOURS, f, clock, lent, x);
-        match made {
-            None => {}
-            Some(y) => {
-                out[written] = y;
-                written += 1;
-            }
+        if let Some(y) = sample_in(BY_NEIGHBOURS, own, clock, lent, x) {
+            out[written] = y;
+            written += 1;
         }
     }
     Moved { taken, written }
@@ -98,20 +95,20 @@ fn feed_on<const BY_NEIGHBOURS: bool>(
 
 // Steps until stopped, by the kind of the line.
 fn feed_singly(
-    f: Fixed,
+    own: Checked,
     clock: &mut Clock,
     lent: &mut Arrays<'_>,
     samples: &[i32],
     out: &mut [f32],
 ) -> Moved
-    requires { (f.bits ≡ gain_bits f.settings.stages f.settings.r) × (L.valid (T.line_held f clock.old lent.old) ≡ true) }
+    requires { L.valid (T.line_held own.fixed clock.old lent.old) ≡ true }
     ensures same { Same lent.old lent.new }
-    ensures ran { let before = T.line_held f clock.old lent.old in
-        T.RanTo before samples.now out.old out.new result.taken result.written (T.line_held f clock.new lent.new) }
+    ensures ran { let before = T.line_held own.fixed clock.old lent.old in
+        T.RanTo before samples.now out.old out.new result.taken result.written (T.line_held own.fixed clock.new lent.new) }
 {
-    match f.settings.thinning {
-        Thinning::Integrators => feed_on::<false>(f, clock, lent, samples, out),
-        Thinning::Neighbours => feed_on::<true>(f, clock, lent, samples, out),
+    match own.fixed.settings.thinning {
+        Thinning::Integrators => feed_on::<false>(own, clock, lent, samples, out),
+        Thinning::Neighbours => feed_on::<true>(own, clock, lent, samples, out),
     }
 }
 
@@ -130,7 +127,7 @@ fn only_integrates(f: Fixed, clock: Clock, count: usize, places: usize) -> bool
 fn integrate_all(
     f: Fixed,
     sample_counter: &mut usize,
-    integrators: &mut [i32; MAX_STAGES],
+    integrators: &mut [i32; MOST_STAGES],
     samples: &[i32],
 )
     requires { sample_counter.old + length samples.now < f.settings.r }
@@ -143,17 +140,18 @@ fn integrate_all(
 
 // Steps until stopped: by batches as long as one is worth it, and the rest sample by sample. A short feed that only integrates stands apart: it costs little else.
 pub(crate) fn feed_by(
-    f: Fixed,
+    own: Checked,
     clock: &mut Clock,
     lent: &mut Arrays<'_>,
     samples: &[i32],
     out: &mut [f32],
 ) -> Moved
-    requires { (f.bits ≡ gain_bits f.settings.stages f.settings.r) × (L.valid (T.line_held f clock.old lent.old) ≡ true) }
+    requires { L.valid (T.line_held own.fixed clock.old lent.old) ≡ true }
     ensures same { Same lent.old lent.new }
-    ensures ran { let before = T.line_held f clock.old lent.old in
-        T.RanTo before samples.now out.old out.new result.taken result.written (T.line_held f clock.new lent.new) }
+    ensures ran { let before = T.line_held own.fixed clock.old lent.old in
+        T.RanTo before samples.now out.old out.new result.taken result.written (T.line_held own.fixed clock.new lent.new) }
 {
+    let f = own.fixed;
     if only_integrates(f, *clock, samples.len(), out.len()) {
         integrate_all(f, &mut clock.sample_counter, lent.integrators, samples);
         return Moved {
@@ -161,9 +159,9 @@ pub(crate) fn feed_by(
             written: 0,
         };
     }
-    let begun = feed_batches(f, clock, lent, samples, out);
+    let begun = feed_batches(own, clock, lent, samples, out);
     let rest = feed_singly(
-        f,
+        own,
         clock,
         lent,
         &samples[begun.taken..],

@@ -2,25 +2,25 @@
 ghost use Rattle.std.specs.Prelude.{◌≡◌, true, length, drop};
 ghost use Rattle.theory.specs.Feeds.{head_of};
 ghost use Rattle.refusal.specs.Outcome.{number_in, told_opened, told_on, told_reset, none_moved};
-ghost use Rattle.q15.specs.FirDecimator.{fir_opened};
 ghost use Rattle.line.specs.Line as L;
 ghost use Rattle.line.specs.Lent as N;
+ghost use Rattle.line.specs.Placed.{line_together};
 ghost use Rattle.line.specs.Demand3.{Demand3};
 
+use crate::beginning::{open_lent, reset_lent};
 use crate::lent::{LineNumbers, feed_lent, step_lent};
-use crate::opening::answer;
+use crate::places::Places;
 use crate::step::LineStep;
 use crate::validity::numbers_valid;
 use chain::arrays::Arrays;
 use chain::clock::Clock;
 use chain::settings::Settings;
 use float::PolyphaseResampF32;
-use float::settings::MOST_CELLS;
 use half_band::HbfStream;
 use integer::CicDecimator;
 use nonrecursive::Thinning;
-use nonrecursive::nonrecursive_decimator::MAX_NEIGHBOURS;
-use q15::{FirDecimator, MOST_TAPS};
+use nonrecursive::nonrecursive_decimator::MOST_NEIGHBOURS;
+use q15::FirDecimator;
 use refusal::{Moved, Refusal};
 
 // The parts of a line, each as its layer has it, and how many values were cut to 16 bits. A part that is off is zeros, settings too. `thinning` says which of two
@@ -29,7 +29,7 @@ use refusal::{Moved, Refusal};
 pub struct Line {
     pub thinning: Thinning,
     pub cic: CicDecimator,
-    pub neighbours: [i32; MAX_NEIGHBOURS],
+    pub neighbours: [i32; MOST_NEIGHBOURS],
     pub fir: FirDecimator,
     pub half_band: HbfStream,
     pub resampler: PolyphaseResampF32,
@@ -44,42 +44,10 @@ pub fn zeros() -> Line
     Line {
         thinning: Thinning::Integrators,
         cic: CicDecimator::fresh(0, 0),
-        neighbours: [0; MAX_NEIGHBOURS],
+        neighbours: [0; MOST_NEIGHBOURS],
         fir: FirDecimator::zeros(),
         half_band: HbfStream::fresh(0),
         resampler: PolyphaseResampF32::zeros(),
-        cuts: 0,
-    }
-}
-
-#[tactic(auto, unfolding(crate::specs::Line::resampler_fresh))]
-fn resampler_of(s: Settings, prototype: &[f32]) -> PolyphaseResampF32
-    ensures { result ≡ L.resampler_fresh s prototype.now }
-{
-    if s.phases == 0 {
-        return PolyphaseResampF32::zeros();
-    }
-    PolyphaseResampF32::fresh(s.resampler(), prototype)
-}
-
-// A FIR that is off is one that its own opening refuses, and what that leaves is what the line has for it: zeros, settings too.
-fn fir_of(s: Settings, taps: &[i16]) -> FirDecimator
-    ensures { result ≡ (fir_opened taps.now s.factor).state }
-{
-    FirDecimator::new(taps, s.factor).unwrap_or(FirDecimator::zeros())
-}
-
-fn fresh(s: Settings, taps: &[i16], prototype: &[f32]) -> Line
-    requires { L.number_at s (length taps.now) (length prototype.now) ≡ 0 }
-    ensures { result ≡ L.fresh (record { settings = s; taps = taps.now; prototype = prototype.now }) }
-{
-    Line {
-        thinning: s.thinning,
-        cic: CicDecimator::fresh(s.stages, s.r),
-        neighbours: [0; MAX_NEIGHBOURS],
-        fir: fir_of(s, taps),
-        half_band: HbfStream::fresh(s.depth),
-        resampler: resampler_of(s, prototype),
         cuts: 0,
     }
 }
@@ -110,12 +78,6 @@ pub fn numbers_in(l: &Line) -> LineNumbers
     }
 }
 
-// How long a line's taps and prototype are, which no parameter carries: this call hands the fact over and compiles to nothing.
-fn lengths(taps: &[i16; MOST_TAPS], prototype: &[f32; MOST_CELLS])
-    ensures taps { length taps.now ≡ 128 }
-    ensures prototype { length prototype.now ≡ 1024 }
-{}
-
 // Whether no call on the line is refused by 15.
 pub fn line_valid(l: &Line) -> bool
     ensures { result ≡ L.valid l.now }
@@ -128,8 +90,24 @@ impl Line {
     pub fn open(settings: Settings, taps: &[i16], prototype: &[f32]) -> Result<Line, Refusal>
         ensures answer { told_opened L.zeros result ≡ L.opened (record { settings = settings; taps = taps.now; prototype = prototype.now }) }
     {
-        answer(settings, taps.len(), prototype.len())?;
-        Ok(fresh(settings, taps, prototype))
+        let mut line = zeros();
+        let mut n = numbers_in(&line);
+        // Here and below: a function can't make it, since of a `&mut self` it may hand out one field and no more.
+        let mut lent = Places {
+            integrators: &mut line.cic.integrator_state,
+            combs: &mut line.cic.comb_state,
+            neighbours: &mut line.neighbours,
+            taps: &mut line.fir.taps,
+            fir_delay: &mut line.fir.delay,
+            delays: &mut line.half_band.delays,
+            held: &mut line.half_band.held,
+            counts: &mut line.half_band.counts,
+            delay: &mut line.resampler.delay,
+            prototype: &mut line.resampler.prototype,
+        };
+        open_lent(settings, taps, prototype, &mut n, &mut lent)?;
+        line.put_numbers(n);
+        Ok(line)
     }
 
     // The clock as a call left it.
@@ -140,6 +118,26 @@ impl Line {
         self.fir.wait = clock.wait;
         self.resampler.mu = clock.mu;
         self.cuts = clock.cuts;
+    }
+
+    // The numbers as an opening or a reset left them.
+    fn put_numbers(&mut self, n: LineNumbers)
+        ensures { let l = self.old in
+            self.new ≡ line_together n l.cic.integrator_state l.cic.comb_state l.neighbours l.fir.taps l.fir.delay
+            l.half_band.delays l.half_band.held l.half_band.counts l.resampler.delay l.resampler.prototype }
+    {
+        let s = n.settings;
+        self.thinning = s.thinning;
+        self.cic.stages = s.stages;
+        self.cic.r = s.r;
+        self.fir.tap_count = n.tap_count;
+        self.fir.factor = s.factor;
+        self.half_band.depth = s.depth;
+        self.resampler.phases = s.phases;
+        self.resampler.taps = s.taps;
+        self.resampler.straight = s.straight;
+        self.resampler.step = s.step;
+        self.put_clock(n.clock);
     }
 
     // One step, where the span has a place or not, with the sample at `at` of those lent as the next, if there is one. Refusal 15.
@@ -194,15 +192,21 @@ impl Line {
         ensures answer { told_reset result self.new ≡ L.reset self.old }
         ensures accepted { L.valid self.old ≡ true → number_in result ≡ 0 }
     {
-        if !line_valid(self) {
-            return Err(Refusal::State);
-        }
-        let settings = numbers_in(self).settings;
-        lengths(&self.fir.taps, &self.resampler.prototype);
-        let cells = self.resampler.phases * self.resampler.taps;
-        let taps = &self.fir.taps[..self.fir.tap_count];
-        let prototype = &self.resampler.prototype[..cells];
-        *self = Line::open(settings, taps, prototype)?;
-        Ok(())
+        let mut own = numbers_in(self);
+        let mut lent = Places {
+            integrators: &mut self.cic.integrator_state,
+            combs: &mut self.cic.comb_state,
+            neighbours: &mut self.neighbours,
+            taps: &mut self.fir.taps,
+            fir_delay: &mut self.fir.delay,
+            delays: &mut self.half_band.delays,
+            held: &mut self.half_band.held,
+            counts: &mut self.half_band.counts,
+            delay: &mut self.resampler.delay,
+            prototype: &mut self.resampler.prototype,
+        };
+        let answer = reset_lent(&mut own, &mut lent);
+        self.put_numbers(own);
+        answer
     }
 }

@@ -9,10 +9,8 @@ ghost use Rattle.line.specs.Demand3.{Demand3};
 
 use crate::feed::feed_by;
 use crate::step::{LineStep, step_on};
-use crate::validity::{bits_at, valid_at};
 use chain::arrays::Arrays;
 use chain::clock::Clock;
-use chain::fixed::Fixed;
 use chain::settings::Settings;
 use refusal::{Moved, Refusal};
 
@@ -22,19 +20,6 @@ pub struct LineNumbers {
     pub settings: Settings,
     pub tap_count: usize,
     pub clock: Clock,
-}
-
-impl LineNumbers {
-    // What no feed changes, with the gain bits that follow.
-    pub(crate) fn fixed(self) -> Fixed
-        ensures { result ≡ N.fixed_in self }
-    {
-        Fixed {
-            settings: self.settings,
-            tap_count: self.tap_count,
-            bits: bits_at(self.settings, self.clock.sample_counter),
-        }
-    }
 }
 
 // One step, where the span has a place or not, with the sample at `at` of those lent as the next, if there is one. Refusal 15.
@@ -51,11 +36,8 @@ pub fn step_lent(
         let after = N.line_in n.new lent.new in
         L.told_step result after ≡ L.step_outcome before place (head_of (drop at samples.now)) }
 {
-    let f = n.fixed();
-    if !valid_at(f, n.clock, lent.counts) {
-        return Err(Refusal::State);
-    }
-    let step = step_on(f, &mut n.clock, lent, samples, at, place);
+    let own = n.checked(lent.counts)?;
+    let step = step_on(own, &mut n.clock, lent, samples, at, place);
     Ok(step)
 }
 
@@ -78,12 +60,9 @@ pub fn feed_lent(
         let after = N.line_in n.new lent.new in
         Demand3 before samples.now out.old out.new (told_on none_moved result after) }
 {
-    let f = n.fixed();
-    if !valid_at(f, n.clock, lent.counts) {
-        return Err(Refusal::State);
-    }
+    let own = n.checked(lent.counts)?;
     let mut clock = n.clock;
-    let moved = feed_by(f, &mut clock, lent, samples, out);
+    let moved = feed_by(own, &mut clock, lent, samples, out);
     n.clock = clock;
     Ok(moved)
 }

@@ -6,30 +6,22 @@ ghost use Rattle.line.specs.Line as L;
 
 use chain::settings::Settings;
 use float::settings::{in_limits, step_in_line};
-use half_band::MOST_STAGES;
-use integer::gain::{bits_of, gain_of};
-use integer::limits::{MAX_BITS, factor_ok, stages_ok};
+use half_band::MOST_DEPTH;
+use integer::gain::scaling_bits;
+use integer::limits::settings_answer;
 use nonrecursive::Thinning;
 use nonrecursive::thinning::factor_for;
 use refusal::Refusal;
 
-#[tactic(auto, unfolding(nonrecursive::specs::EitherKind::settings_number))]
+#[tactic(auto, unfolding(nonrecursive::specs::EitherKind::settings_number, integer::specs::Opening::settings_number, integer::specs::Gain::scaling_bits))]
 fn thinning_answer(thinning: Thinning, stages: usize, r: usize) -> Result<(), Refusal>
     ensures { number_in result ≡ settings_number thinning stages r }
 {
-    if !stages_ok(stages) {
-        return Err(Refusal::Stages);
-    }
-    if !factor_ok(r) {
-        return Err(Refusal::Factor);
-    }
+    settings_answer(stages, r)?;
     if !factor_for(thinning, r) {
         return Err(Refusal::PowerOfTwo);
     }
-    let bits = bits_of(gain_of(stages, r));
-    if MAX_BITS < bits {
-        return Err(Refusal::GainBits);
-    }
+    scaling_bits(stages, r)?;
     Ok(())
 }
 
@@ -37,7 +29,7 @@ fn thinning_answer(thinning: Thinning, stages: usize, r: usize) -> Result<(), Re
 fn depth_answer(depth: usize) -> Result<(), Refusal>
     ensures { number_in result ≡ L.depth_number depth }
 {
-    if MOST_STAGES < depth {
+    if MOST_DEPTH < depth {
         return Err(Refusal::Depth);
     }
     Ok(())

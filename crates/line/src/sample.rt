@@ -1,25 +1,25 @@
 // A sample on its way through sections 1 to 5, the clock and the arrays lent.
 ghost use Rattle.std.specs.Prelude.{◌≡◌, List, Float};
 ghost use Rattle.theory.specs.Tally.{held_sum};
-ghost use Rattle.integer.specs.Gain.{gain_bits};
 ghost use Rattle.nonrecursive.specs.EitherKind as E;
 ghost use Rattle.q15.specs.FirDecimator.{fir_sum_out};
 ghost use Rattle.half_band.specs.HbfStream.{stream_of, hbf_stream};
-ghost use Rattle.line.specs.Outputs.{most_cuts};
 ghost use Rattle.chain.specs.Chain as C;
 ghost use Rattle.line.specs.Line as L;
+ghost use Rattle.chain.specs.Cuts.{most_cuts};
 ghost use Rattle.chain.specs.Parts as P;
 ghost use Rattle.chain.specs.Lending as A;
 ghost use Rattle.chain.specs.Lending.{Same, ThinnerStays};
 ghost use Rattle.line.specs.Together as T;
 
+use crate::validity::Checked;
 use chain::arrays::Arrays;
 use chain::clock::{Clock, held_sum};
 use chain::fixed::Fixed;
 use float::due::shift_in;
 use float::q15_to_f32;
-use float::settings::MOST_TAPS as MOST_PHASE_TAPS;
-use half_band::{DEC_CASCADE_DELAYS, MOST_STAGES, hbf_stream_at};
+use float::settings::MOST_PHASE_TAPS;
+use half_band::{DEC_CASCADE_DELAYS, MOST_DEPTH, hbf_stream_at};
 use integer::gain::scaled;
 use nonrecursive::thinning::thin_at;
 use q15::{Q15, cut_q15, fir_at};
@@ -48,8 +48,8 @@ fn resampler_in(
 fn stages_in(
     depth: usize,
     delays: &mut [f32; DEC_CASCADE_DELAYS],
-    held: &mut [f32; MOST_STAGES],
-    counts: &mut [usize; MOST_STAGES],
+    held: &mut [f32; MOST_DEPTH],
+    counts: &mut [usize; MOST_DEPTH],
     level: f32,
 ) -> Option<f32>
     ensures out { result ≡ hbf_stream.out (stream_of depth delays.old held.old counts.old) level }
@@ -71,10 +71,8 @@ fn half_band_in(f: Fixed, mu: &mut f32, lent: &mut Arrays<'_>, level: f32) -> Op
         (A.half_band_in f lent.new, A.resampler_in f mu.new lent.new) }
 {
     let made = stages_in(f.settings.depth, lent.delays, lent.held, lent.counts, level);
-    match made {
-        None => None,
-        Some(y) => resampler_in(f, mu, lent.delay, y),
-    }
+    let y = made?;
+    resampler_in(f, mu, lent.delay, y)
 }
 
 // A value into the FIR, and what it makes, counted where it was cut, into the half-band stages.
@@ -88,28 +86,25 @@ fn fir_in(f: Fixed, clock: &mut Clock, lent: &mut Arrays<'_>, value: Q15) -> Opt
 {
     let settings = f.settings.fir(f.tap_count);
     let made = fir_at(lent.fir_delay, lent.taps, settings, &mut clock.wait, value);
-    match made {
-        None => None,
-        Some(y) => {
-            clock.cuts = held_sum(clock.cuts, u32::from(y.cut));
-            let level = q15_to_f32(y.value);
-            half_band_in(f, &mut clock.mu, lent, level)
-        }
-    }
+    let y = made?;
+    clock.cuts = held_sum(clock.cuts, u32::from(y.cut));
+    let level = q15_to_f32(y.value);
+    half_band_in(f, &mut clock.mu, lent, level)
 }
 
 // A sample into the decimator of the line's kind, and what it makes, scaled and cut, into the FIR.
 pub(crate) fn sample_in(
     by_neighbours: bool,
-    f: Fixed,
+    own: Checked,
     clock: &mut Clock,
     lent: &mut Arrays<'_>,
     x: i32,
 ) -> Option<f32>
-    requires { (f.bits ≡ gain_bits f.settings.stages f.settings.r) × (E.kind_of by_neighbours ≡ f.settings.thinning) }
+    requires { E.kind_of by_neighbours ≡ own.fixed.settings.thinning }
     ensures same { Same lent.old lent.new }
-    ensures takes { T.Takes L.line (T.line_held f clock.old lent.old) x result (T.line_held f clock.new lent.new) }
+    ensures takes { T.Takes L.line (T.line_held own.fixed clock.old lent.old) x result (T.line_held own.fixed clock.new lent.new) }
 {
+    let f = own.fixed;
     let s = f.settings;
     let made = thin_at(
         by_neighbours,
@@ -121,12 +116,8 @@ pub(crate) fn sample_in(
         lent.neighbours,
         x,
     );
-    match made {
-        None => None,
-        Some(v) => {
-            let first = cut_q15(i64::from(scaled(v, f.bits)));
-            clock.cuts = held_sum(clock.cuts, u32::from(first.cut));
-            fir_in(f, clock, lent, first.value)
-        }
-    }
+    let v = made?;
+    let first = cut_q15(i64::from(scaled(v, f.bits)));
+    clock.cuts = held_sum(clock.cuts, u32::from(first.cut));
+    fir_in(f, clock, lent, first.value)
 }

@@ -1,7 +1,6 @@
 // 01, section 6: "One step of the line: a full span stops it; else a due output is written; else the next sample is taken ..; else it stops."
 ghost use Rattle.std.specs.Prelude.{◌≡◌, true, drop};
 ghost use Rattle.theory.specs.Feeds.{step, head_of};
-ghost use Rattle.integer.specs.Gain.{gain_bits};
 ghost use Rattle.nonrecursive.specs.EitherKind as E;
 ghost use Rattle.float.specs.PolyphaseResamp.{in_limits};
 ghost use Rattle.chain.specs.Lending.{Same};
@@ -9,6 +8,7 @@ ghost use Rattle.line.specs.Line as L;
 ghost use Rattle.line.specs.Together as T;
 
 use crate::sample::sample_in;
+use crate::validity::Checked;
 use chain::arrays::Arrays;
 use chain::clock::Clock;
 use chain::fixed::Fixed;
@@ -38,24 +38,25 @@ fn sums_neighbours(thinning: Thinning) -> bool
     thinning == Thinning::Neighbours
 }
 
-// One step, the clock and the arrays lent.
+// One step, the clock and the arrays lent. The samples and a place of them: of the next sample alone, as an option, four goals did not close, since the laws of a step speak of both.
 pub(crate) fn step_on(
-    f: Fixed,
+    own: Checked,
     clock: &mut Clock,
     lent: &mut Arrays<'_>,
     samples: &[i32],
     at: usize,
     place: bool,
 ) -> LineStep
-    requires { (f.bits ≡ gain_bits f.settings.stages f.settings.r)
-        × (T.due_at f clock.old.mu ≡ true → in_limits f.settings.phases f.settings.taps ≡ true) }
+    requires { let s = own.fixed.settings in
+        T.due_at own.fixed clock.old.mu ≡ true → in_limits s.phases s.taps ≡ true }
     ensures same { Same lent.old lent.new }
-    ensures steps { T.stepped_in f (L.event_of result) clock.new lent.new
-        ≡ step L.line place (T.line_held f clock.old lent.old) (head_of (drop at samples.now)) }
+    ensures steps { T.stepped_in own.fixed (L.event_of result) clock.new lent.new
+        ≡ step L.line place (T.line_held own.fixed clock.old lent.old) (head_of (drop at samples.now)) }
 {
     if !place {
         return LineStep::Stopped;
     }
+    let f = own.fixed;
     if due(f, clock.mu) {
         let setting = f.settings.resampler();
         let y = setting.interpolate(lent.prototype, lent.delay, clock.mu);
@@ -67,7 +68,7 @@ pub(crate) fn step_on(
     }
     let x = samples[at];
     let by_neighbours = sums_neighbours(f.settings.thinning);
-    let made = sample_in(by_neighbours, f, clock, lent, x);
+    let made = sample_in(by_neighbours, own, clock, lent, x);
     match made {
         None => LineStep::Took,
         Some(y) => LineStep::TookAndWrote(y),

@@ -222,3 +222,22 @@ module _ (centre minus : Bool) (c : List Float) (long : ℕ) (tape : List Float)
       (p
       ∙ ap (window_values centre minus c long tape) n
       ∙ few_values long tape (unwrap_or src d) (min (length d) 32) (omega (arith, b)) (omega (arith, on.all)) ahead centre minus c end (omega (arith, w.most, few)))
+
+-- ---- the outputs of `groups_back`, along one line
+abbrev pub output_along : Bool → Bool → List Float → ℕ → List Float → ℕ → Float
+output_along centre minus c long line i = centred_value centre minus c (take (suc long) (drop i line))
+
+module _ (centre minus : Bool) (c : List Float) (long : ℕ) (line d e : List Float) (end : ℕ) (w : Written (output_along centre minus c long line) d e end) where
+  -- the group before `end` is written
+  pub group_along : 16 ≤ end → (y part : List Float) → y ≡ window_values centre minus c long (drop (end - 16) line) 16 → part ≡ put_in_front y (take (end - (end - 16)) (drop (end - 16) e))
+      → Written (output_along centre minus c long line) d (take (end - 16) e ++ (part ++ drop (end - (end - 16)) (drop (end - 16) e))) (end - 16)
+  group_along whole y part q p =
+      group_back (output_along centre minus c long line) d e end w y part (end - 16) (omega arith) (omega (arith, whole, ap length q, values_long centre minus c long (drop (end - 16) line) 16))
+      (λ k i. ap (λ (l : List Float). get_or l k nan) q ∙ output_at centre minus c long line 16 (end - 16) k (omega (arith, i, whole))) p
+
+  -- and those in front
+  pub all_along : (part : List Float) → part ≡ window_values centre minus c long line (length (take end e)) → part ++ drop end e ≡ window_values centre minus c long line (length d)
+  unfolding window_values
+  all_along part p =
+      all_back (output_along centre minus c long line) d e end w part
+      (p ∙ ap (window_values centre minus c long line) (length-take-le end e (omega (arith, w.most, back_long (output_along centre minus c long line) d e end w))))

@@ -1,17 +1,16 @@
 -- Outputs by groups of any size: those of a group are a part of all, and two groups, of which the second ends with all, are all of them.
-use mathlib.Core.Path.{◌≡◌, sym, ap, ap₂, ◌∙◌}
+use mathlib.Core.Path.{◌≡◌, sym, ap, ◌∙◌}
 use mathlib.Core.Bool.{Bool}
 use mathlib.Core.List.{List, ◌++◌}
 use Prim.Native.Nat.{ℕ, suc, ◌+◌, ◌-◌, ◌≤◌, min}
 use native.Mathlib.Omega.{arith}
 use lib.ListN.{take, drop}
-use lib.Seq.{take-add, take-take, take_all, drop_at, drop-drop}
+use lib.Seq.{take-add, take-take, drop_at, drop-drop}
 use lib.Ieee.{Float}
 use Rattle.theory.specs.Lists.{listed}
 use Rattle.theory.proofs.Listed.{length_listed}
 use Rattle.q15.proofs.Filling.{listed_more, listed_ext, least_listed}
 use Rattle.linear_phase.specs.Windows.{centred_value, window_values}
-use Rattle.linear_phase.proofs.SideBySide.{values_long}
 
 -- w of n outputs, from the k-th on
 listed_part : {A : Type 0} (g : ℕ → A) (n k w : ℕ) → k + w ≤ n → listed w (λ j. g (k + j)) ≡ take w (drop k (listed n g))

@@ -18,7 +18,7 @@ use Rattle.linear_phase.specs.LinearPhase.{pair}
 use Rattle.linear_phase.specs.Windows.{window_acc, centred_value, window_sums, pairs_onto, pairs_added, no_sums, centres_added, window_values}
 
 -- the k-th of n
-pub listed_at : {B : Type 0} (z : B) (n : ℕ) (g : ℕ → B) (k : ℕ) → k < n → get_or (listed n g) k z ≡ g k
+listed_at : {B : Type 0} (z : B) (n : ℕ) (g : ℕ → B) (k : ℕ) → k < n → get_or (listed n g) k z ≡ g k
 listed_at z zero g k h = absurd (omega arith)
 listed_at {B} z (suc n) g k h = elim (dec_lt k n) [
   | yes l ↦ (get_or-append (listed n g) (g n ∷ []) z k (omega (arith, length_listed n g)) ∙ listed_at z n g k l)

@@ -18,7 +18,8 @@ use Rattle.half_band.specs.HalfBand.{earlier}
 use Rattle.half_band.specs.Windows.{slid}
 use Rattle.half_band.specs.HbfIntCascade.{joined}
 use Rattle.half_band.proofs.Earlier.{earlier_same, last_of, length_last_of, slid_last, place_of}
-use Rattle.half_band.proofs.WholeLists.{listed_same, every_value}
+use Rattle.q15.proofs.Filling.{listed_ext}
+use Rattle.half_band.proofs.WholeLists.{every_value}
 use Rattle.linear_phase.specs.LinearPhase.{reach, pair, phase_acc, phase_output, phase_filtered}
 use Rattle.linear_phase.specs.Windows.{window_acc, centred_value, has_centre, window_value, linear_phase}
 use Rattle.linear_phase.specs.LinearPhaseFir.{block_outs}
@@ -100,7 +101,7 @@ module _ (odd antisymmetric : Bool) (c : List Float) (some_taps : 1 ≤ length c
   from_zeros w =
       ap (λ (d : List Float). outs (linear_phase odd antisymmetric c) d w) (sym (append-nil (replicate L zero32)))
       ∙ every_value (linear_phase odd antisymmetric c) (last_of L) (λ v. window_value odd antisymmetric c (last_of (suc L) v)) next_at out_at w
-      ∙ listed_same (length w) (λ k. window_value odd antisymmetric c (last_of (suc L) (take (suc k) w))) (phase_output odd antisymmetric c w) each
+      ∙ listed_ext (length w) (λ k. window_value odd antisymmetric c (last_of (suc L) (take (suc k) w))) (phase_output odd antisymmetric c w) each
     where
       next_at : (v : List Float) (x : Float) → slid (last_of L v) (x ∷ []) ≡ last_of L (v ++ (x ∷ []))
       next_at v x = let m : length c ≤ L = enough in slid_last L v (x ∷ []) (omega arith)

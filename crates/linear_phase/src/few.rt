@@ -35,8 +35,8 @@ pub(crate) fn singles(tape: &[f32], fir: Folded<'_>, span: &mut [f32])
     requires { fir.long + length span.old ≤ length tape.now }
     ensures { span.new ≡ W.window_values fir.entry.centre fir.entry.minus fir.entry.taps.now fir.entry.long tape.now (length span.old) }
 {
-    for i in 0..span.len() {
-        span[i] = value_at(&tape[i..], fir);
+    for (i, place) in span.iter_mut().enumerate() {
+        *place = value_at(&tape[i..], fir);
     }
 }
 

@@ -1,14 +1,13 @@
 // A block of samples through a delay of the last ones, the oldest first.
-ghost use Rattle.std.specs.Prelude.{◌≡◌, true, false, ◌++◌, ◌+◌, ◌-◌, ◌*◌, ◌≤◌, ◌<◌, min, length, take, drop, replicate, unwrap_or, option_copied};
+ghost use Rattle.std.specs.Prelude.{◌≡◌, true, false, ◌++◌, ◌+◌, ◌-◌, ◌*◌, ◌≤◌, ◌<◌, min, length, take, drop, unwrap_or, option_copied};
 ghost use Rattle.theory.specs.Sections.{state, outs};
-ghost use Rattle.float.specs.F32.{zero32};
 ghost use Rattle.linear_phase.specs.LinearPhase as P;
 ghost use Rattle.linear_phase.specs.Windows as W;
 
 use crate::few::few_outputs;
 use crate::kinds::{Folded, Kind};
 use crate::lanes::{LANES, outputs_back, put_all, samples_of};
-use crate::limits::{LINEAR_PHASE_DELAYS, MOST_LINEAR_PHASE_TAPS};
+use crate::limits::LINEAR_PHASE_DELAYS;
 use crate::moves::{copy_few, move_past, taken};
 use float::span::{lay, put_at_end};
 
@@ -163,15 +162,4 @@ pub(crate) fn filter_few<const T: usize>(
     move_past(&mut delay[..long], lent);
     let fir = Folded::of(taps, long, kind);
     few_outputs(tape, fir, span);
-}
-
-// The taps in front, and zeros behind them.
-pub(crate) fn padded(taps: &[f32]) -> [f32; MOST_LINEAR_PHASE_TAPS]
-    requires { length taps.now ≤ 23 }
-    ensures { result ≡ taps.now ++ replicate (23 - length taps.now) zero32 }
-{
-    let m = taps.len();
-    let mut own = [0.0f32; MOST_LINEAR_PHASE_TAPS];
-    own[..m].copy_from_slice(taps);
-    own
 }

@@ -16,8 +16,8 @@ fn add_pairs(acc: &mut [f32], old: &[f32], new: &[f32], tap: f32, minus: bool)
     requires { (length acc.old ≤ length old.now) × (length acc.old ≤ length new.now) }
     ensures { acc.new ≡ W.pairs_added minus tap old.now new.now acc.old }
 {
-    for j in 0..acc.len() {
-        acc[j] += pair(minus, new[j], old[j]) * tap;
+    for (j, sum) in acc.iter_mut().enumerate() {
+        *sum += pair(minus, new[j], old[j]) * tap;
     }
 }
 
@@ -26,8 +26,8 @@ fn add_centres(acc: &mut [f32], centres: &[f32])
     requires { length acc.old ≤ length centres.now }
     ensures { acc.new ≡ W.centres_added centres.now acc.old }
 {
-    for j in 0..acc.len() {
-        acc[j] += centres[j];
+    for (j, sum) in acc.iter_mut().enumerate() {
+        *sum += centres[j];
     }
 }
 
@@ -36,10 +36,9 @@ fn sums_at(acc: &mut [f32], line: &[f32], fir: Folded<'_>)
     requires { (fir.long + length acc.old ≤ length line.now) × (acc.old ≡ W.no_sums (length acc.old)) }
     ensures { acc.new ≡ W.window_sums fir.entry.minus fir.entry.taps.now fir.entry.long line.now (length acc.old) (length fir.entry.taps.now) }
 {
-    let taps = fir.taps;
     let long = fir.long;
-    for t in 0..taps.len() {
-        add_pairs(acc, &line[t..], &line[long - t..], taps[t], fir.minus);
+    for (t, tap) in fir.taps.iter().enumerate() {
+        add_pairs(acc, &line[t..], &line[long - t..], *tap, fir.minus);
     }
 }
 
@@ -65,13 +64,13 @@ fn group_at(line: &[f32], from: usize, fir: Folded<'_>) -> [f32; LANES]
     y
 }
 
-// All of a group in front of a span. By hand: with copy_from_slice, three outputs of a filter take 24 instructions more.
+// All of a group in front of a span. Place by place: with copy_from_slice, three outputs of a filter take 24 instructions more.
 pub(crate) fn put_group(span: &mut [f32], y: &[f32])
     requires { length y.now ≤ length span.old }
     ensures { span.new ≡ W.put_in_front y.now span.old }
 {
-    for j in 0..y.len() {
-        span[j] = y[j];
+    for (j, x) in y.iter().enumerate() {
+        span[j] = *x;
     }
 }
 

@@ -4,10 +4,10 @@ ghost use Rattle.refusal.specs.Outcome.{told, told_on, told_opened, told_reset, 
 ghost use Rattle.float.specs.F32.{zero32};
 ghost use Rattle.linear_phase.specs.LinearPhaseFir as P;
 
-use crate::filter::padded;
 use crate::kinds::Kind;
 use crate::lent::Half;
 use crate::limits::{LINEAR_PHASE_DELAYS, MOST_LINEAR_PHASE_TAPS};
+use q15::padding::padded;
 use refusal::Refusal;
 use refusal::rows::outside;
 
@@ -86,6 +86,7 @@ pub fn block_at(
 
 impl LinearPhaseFir {
     // An opening with the lent taps, one half of them. Refusal 19: not 1 to 23 of them.
+    #[tactic(auto, unfolding(refusal::specs::Rows::outside))]
     pub fn new(odd: bool, antisymmetric: bool, taps: &[f32]) -> Result<LinearPhaseFir, Refusal>
         ensures answer { told_opened P.phase_none result ≡ P.phase_opening odd antisymmetric taps.now }
         ensures streams { number_in result ≡ 0 → P.PhaseStreams odd antisymmetric taps.now (told_opened P.phase_none result).state }
@@ -97,7 +98,7 @@ impl LinearPhaseFir {
             m: taps.len(),
             odd,
             antisymmetric,
-            taps: padded(taps),
+            taps: padded(taps, 0.0),
             delay: [0.0f32; LINEAR_PHASE_DELAYS],
         })
     }
@@ -195,7 +196,7 @@ impl LinearPhaseFir {
         ensures answer { told_reset result self.new ≡ P.phase_reset self.old }
     {
         Half::of(self.m, self.kind())?;
-        let taps = padded(&self.taps[..self.m]);
+        let taps = padded(&self.taps[..self.m], 0.0);
         self.taps = taps;
         self.delay = [0.0f32; LINEAR_PHASE_DELAYS];
         Ok(())

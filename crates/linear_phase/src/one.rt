@@ -15,6 +15,7 @@ pub(crate) fn sum_with(delay: &[f32], taps: &[f32], antisymmetric: bool, x: f32)
 {
     let long = delay.len();
     let mut acc = 0.0f32 + pair(antisymmetric, x, delay[0]) * taps[0];
+    // By the number: it begins at 1, and is a place of the taps, and of the delay from both ends.
     for t in 1..taps.len() {
         acc += pair(antisymmetric, delay[long - t], delay[t]) * taps[t];
     }

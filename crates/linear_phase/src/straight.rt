@@ -1,4 +1,4 @@
-// Blocks no shorter than a short delay, with a copy of the code for each length of a filter. Outputs whose windows begin in the delay are made on a tape; all others along the samples one by one: the
+// Blocks no shorter than a short delay, with a copy of the code for each length of a filter. Outputs whose windows begin in the delay are made on a tape, all others along the samples: the
 // compiler knows the window, and makes several at once.
 ghost use Rattle.std.specs.Prelude.{◌≡◌, true, ◌++◌, ◌+◌, ◌≤◌, length, take, drop};
 ghost use Rattle.theory.specs.Sections.{state, outs};
@@ -7,7 +7,7 @@ ghost use Rattle.linear_phase.specs.Windows as W;
 
 use crate::few::singles;
 use crate::kinds::{Folded, Kind};
-use crate::lanes::{outputs_at, put_group};
+use crate::lanes::{LANES, outputs_at, put_group};
 use crate::moves::{copy_taken, taken};
 
 // Places for the longest of these delays and as many samples.
@@ -28,6 +28,25 @@ fn first_outputs<const N: usize>(tape: &[f32], fir: Folded<'_>, span: &mut [f32]
     let mut y = [0.0f32; N];
     outputs_at(&mut y, tape, fir);
     put_group(span, &y);
+}
+
+// Outputs at the windows from the front of the samples on: whole groups from the end on, and one by one what is left in front. So no load stands a little behind a store that
+// was just made: where samples and span have the same place in their pages, the processor takes the one for the other, and waits.
+#[inline(always)]
+fn groups_back(src: &[f32], fir: Folded<'_>, span: &mut [f32])
+    requires { fir.long + length span.old ≤ length src.now }
+    ensures { span.new ≡ W.window_values fir.entry.centre fir.entry.minus fir.entry.taps.now fir.entry.long src.now (length span.old) }
+{
+    // By hand: it goes by groups from the end on, and `end` tells what is left in front.
+    let mut end = span.len();
+    while LANES <= end {
+        let at = end - LANES;
+        let mut y = [0.0f32; LANES];
+        outputs_at(&mut y, &src[at..], fir);
+        put_group(&mut span[at..end], &y);
+        end = at;
+    }
+    singles(src, fir, &mut span[..end]);
 }
 
 // The taps go to an array of this function: no store to the span can be one to it.
@@ -58,7 +77,7 @@ fn straight<const M: usize, const LONG: usize, const CENTRE: bool>(
     copy_taken::<LONG>(&mut tape[LONG..LONG + LONG], src);
     let newest = src.len() - LONG;
     copy_taken::<LONG>(&mut delay[..LONG], &src[newest..]);
-    singles(src, fir, &mut span[LONG..]);
+    groups_back(src, fir, &mut span[LONG..]);
     first_outputs::<LONG>(&tape, fir, &mut span[..LONG]);
 }
 

@@ -15,7 +15,8 @@ use Rattle.theory.specs.Feeds.{Fed, took_then, less, feed}
 use Rattle.theory.proofs.Sections.{state_append, outs_append, state_keeps}
 use Rattle.theory.proofs.FeedLoop.{join}
 use Rattle.theory.proofs.FeedRules.{feed_full, feed_end}
-use Rattle.theory.proofs.Batches.{feed_takes, join_none, join_took, feed_alone}
+use Rattle.theory.proofs.FeedLoop.{join_zero}
+use Rattle.theory.proofs.Batches.{feed_takes, join_took, feed_alone}
 use Rattle.integer.proofs.TakenWhole.{goes_on}
 use Rattle.nonrecursive.specs.NonrecursiveDecimator.{nonrecursive_of, valid_at, valid, nonrecursive, machine, fed_block, block, block_span}
 use Rattle.nonrecursive.specs.declared.nonrecursive_decimator.NonrecursiveDecimator.{NonrecursiveDecimator}
@@ -65,7 +66,7 @@ module _ {S : Type 0} (f : Section S ℤ ℤ) where
   then g ys n = join g.taken g.written (feed m g.line (drop g.taken ys) (n - length g.written))
 
   idle_then : (s : S) (ys : List ℤ) (n : ℕ) → feed m s ys n ≡ join 0 [] (feed m s ys (n - 0))
-  idle_then s ys n = ap (feed m s ys) (sym (sub-zero n)) ∙ sym (join_none m (feed m s ys (n - 0)))
+  idle_then s ys n = ap (feed m s ys) (sym (sub-zero n)) ∙ sym (join_zero (feed m s ys (n - 0)))
 
   pub feed_cut : (s : S) (xs zs : List ℤ) (n : ℕ) → feed m s (xs ++ zs) n ≡ then (feed m s xs n) (xs ++ zs) n
   feed_cut s [] zs zero = idle_then s zs 0 ∙ ap (λ (g : Fed S ℤ). then g zs 0) (sym (feed_full m s []))

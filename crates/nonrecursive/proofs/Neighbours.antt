@@ -2,7 +2,7 @@
 -- neighbours are known in closed form, and a sample goes as far as the factors of two in its count reach.
 use mathlib.Core.Path.{◌≡◌, refl, sym, ap, ap₂, ◌∙◌}
 use mathlib.Core.Bool.{Bool, cond}
-use mathlib.Core.List.{List, [], ◌∷◌, ◌++◌, append_assoc}
+use mathlib.Core.List.{List, [], ◌++◌, append_assoc}
 use Rattle.std.specs.Prelude.{None, Some}
 use Prim.Native.Nat.{ℕ, zero, suc, ◌+◌, ◌*◌, ◌/◌, ◌%◌, ◌^◌, ◌≤◌, ◌<◌}
 use native.Mathlib.Nat.{div-one, mod-one, suc-mul}
@@ -18,24 +18,19 @@ use lib.Pow.{mod-pow-add, shr-shr}
 use mir.Syntax.{w32}
 use Rattle.theory.specs.Wrap.{wrap}
 use Rattle.theory.proofs.Wrap.{wrap_add}
-use Rattle.integer.specs.Stages.{Passed}
+use Rattle.integer.specs.Stages.{Passed, kept, sum32}
 use Rattle.integer.specs.MovingSums.{Signal, delay, fold}
 use Rattle.nonrecursive.specs.Nonrecursive.{paired, halved}
 use Rattle.nonrecursive.specs.NonrecursiveDecimator.{summed, Thinned, behind, thinned}
 use Rattle.integer.proofs.Hogenauer.{fold_commutes}
 use Rattle.nonrecursive.proofs.Nonrecursive.{delay_paired}
-use Rattle.integer.proofs.Towers.{tower, tower_zero}
-
-first : ℤ → Passed ℤ → Passed ℤ
-first a p = record { state = a ∷ p.state; val = p.val }
+use Rattle.integer.proofs.Towers.{tower, in_a_row, tower_zero}
 
 -- the neighbours of one halving: they hold the values before, and a value leaves as the sum of all
 sums_row : (n : ℕ) (h : Signal) (k : ℕ) (rest : List ℤ) → summed n (tower paired n h k ++ rest) (wrap w32 (h (suc k))) ≡ record { state = tower paired n h (suc k) ++ rest; val = wrap w32 (fold n paired h (suc k)) }
-unfolding summed first
-sums_row zero h k rest = refl
-sums_row (suc n) h k rest =
-    ap (λ u. first (wrap w32 (h (suc k))) (summed n (tower paired n (paired h) k ++ rest) u)) (wrap_add w32 (h k) (h (suc k)) ∙ ap (wrap w32) (+ℤ_comm (h k) (h (suc k))))
-    ∙ ap (first (wrap w32 (h (suc k)))) (sums_row n (paired h) k rest)
+unfolding summed
+sums_row n h k rest =
+    in_a_row kept sum32 paired (λ g. g) (λ g. refl) (λ g t. refl) (λ g t. wrap_add w32 (g t) (g (suc t)) ∙ ap (wrap w32) (+ℤ_comm (g t) (g (suc t)))) n h k rest
 
 tower_long : (n : ℕ) (h : Signal) (k : ℕ) → length (tower paired n h k) ≡ n
 tower_long zero h k = refl

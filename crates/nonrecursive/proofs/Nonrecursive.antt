@@ -12,19 +12,15 @@ use lib.Pow.{pow_pos}
 use mir.Syntax.{w32}
 use Rattle.theory.specs.Lists.{listed}
 use Rattle.theory.specs.Wrap.{wrap}
-use Rattle.theory.proofs.Integers.{sums}
 use Rattle.integer.specs.MovingSums.{Signal, signal_of, delay, moving_sum, fold}
 use Rattle.integer.specs.MovingSums as M
 use Rattle.nonrecursive.specs.Nonrecursive.{paired, seconds, halved, nonrecursive_sums}
-use Rattle.integer.proofs.Hogenauer.{fold_commutes}
+use Rattle.integer.proofs.Hogenauer.{interchange, fold_commutes}
 
 -- f t + f (t − 2) + .., r summands
 abbrev spaced : ℕ → Signal → Signal
 spaced zero f t = pos 0
 spaced (suc r) f t = f t +ℤ spaced r (delay (delay f)) t
-
-interchange : (a b c d : ℤ) → (a +ℤ b) +ℤ (c +ℤ d) ≡ (a +ℤ c) +ℤ (b +ℤ d)
-interchange a b c d = simp sums
 
 delay_seconds : (f : Signal) → delay (seconds f) ≡ seconds (delay (delay f))
 delay_seconds f = fun_ext go

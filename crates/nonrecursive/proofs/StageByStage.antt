@@ -14,32 +14,21 @@ use lib.ListN.{length, take, drop, length-drop, length-append, take-append-drop}
 use lib.Pow.{pow_pos}
 use lib.Seq.{take_at, drop_at, take_all, length-take-le}
 use Rattle.theory.specs.Sections.{Section, onto, state, outs}
-use Rattle.integer.specs.Stages.{Passed, row, kept, sum32}
-use Rattle.integer.proofs.Row.{long_kept, behind}
+use Rattle.integer.specs.Stages.{Passed, kept, sum32}
+use Rattle.integer.proofs.Row.{long_kept, behind, same_fronts}
 use Rattle.nonrecursive.specs.NonrecursiveDecimator.{summed, Thinned, thinned, next_place}
 use Rattle.nonrecursive.specs.NonrecursiveDecimator as D
 use Rattle.nonrecursive.specs.Tape.{pairs, lined}
 use Rattle.nonrecursive.proofs.NonrecursiveStreaming.{place_next}
 
--- a row goes by its own stages alone
-row_val : {A : Type 0} (keep out : A → A → A) (n : ℕ) (s : List A) (v : A) → (row keep out n s v).val ≡ (row keep out n (take n s) v).val
-row_val keep out zero s v = refl
-row_val keep out (suc n) [] v = refl
-row_val keep out (suc n) (a ∷ s) v = row_val keep out n s (out a v)
-
-row_front : {A : Type 0} (keep out : A → A → A) (n : ℕ) (s : List A) (v : A) → take n (row keep out n s v).state ≡ (row keep out n (take n s) v).state
-row_front keep out zero s v = refl
-row_front keep out (suc n) [] v = refl
-row_front keep out (suc n) (a ∷ s) v = ap (λ (l : List _). keep a v ∷ l) (row_front keep out n s (out a v))
-
 module _ (N : ℕ) where
   summed_val : (u v : List ℤ) (x : ℤ) → take N u ≡ take N v → (summed N u x).val ≡ (summed N v x).val
   unfolding summed
-  summed_val u v x e = row_val kept sum32 N u x ∙ ap (λ (l : List ℤ). (row kept sum32 N l x).val) e ∙ sym (row_val kept sum32 N v x)
+  summed_val u v x e = (same_fronts kept sum32 N u v x e).0
 
   summed_front : (u v : List ℤ) (x : ℤ) → take N u ≡ take N v → take N (summed N u x).state ≡ take N (summed N v x).state
   unfolding summed
-  summed_front u v x e = row_front kept sum32 N u x ∙ ap (λ (l : List ℤ). (row kept sum32 N l x).state) e ∙ sym (row_front kept sum32 N v x)
+  summed_front u v x e = (same_fronts kept sum32 N u v x e).1
 
   pub summed_long : (s : List ℤ) (x : ℤ) → length (summed N s x).state ≡ length s
   unfolding summed

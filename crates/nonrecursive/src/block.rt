@@ -8,14 +8,17 @@ ghost use Rattle.nonrecursive.specs.NonrecursiveDecimator as D;
 ghost use Rattle.nonrecursive.specs.Tape.{pairs, lined, put};
 
 use crate::nonrecursive_decimator::{
-    MAX_NEIGHBOURS, nonrecursive_at, state_answer, sum_neighbours,
+    MOST_NEIGHBOURS, nonrecursive_at, state_answer, sum_neighbours,
 };
 use refusal::{Moved, NONE_MOVED, Refusal};
 
 // The most values of a chunk.
 const TAPE: usize = 256;
 
-// Pairs of values at the front of the tape each hand one on, in their order.
+// The stages and the factor stay apart below, as a state's fields are lent: a halving takes the one, the count of frames the other.
+
+// Pairs of values at the front of the tape each hand one on, in their order. How many stands beside the tape: lent exactly its values instead, a block of three stages at r = 16 takes a fifth more
+// time. By the pair's number: what a pair hands on is written before later pairs are read.
 fn halve_on(stages: usize, neighbours: &mut [i32], tape: &mut [i32], count: usize)
     requires { count * 2 ≤ length tape.old }
     ensures { let halved = pairs stages neighbours.old (take (count * 2) tape.old) in
@@ -71,7 +74,8 @@ fn put_sum(dst: &mut [i32], at: usize, sum: Option<i32>) -> usize
     at
 }
 
-// Sums of r values each, of the tape's front: halving by halving, until the factor is used up.
+// Sums of r values each, of the tape's front: halving by halving, until the factor is used up. No range over the halvings' number by `ilog2`: tried, and blocks of three stages at r = 16
+// take 3 to 24 % more time, as the code comes to lie.
 fn thin_tape(stages: usize, r: usize, neighbours: &mut [i32], tape: &mut [i32], count: usize)
     requires { (D.power_of_two r ≡ true) × (count * r ≤ length tape.old) × (D.halvings r * stages ≤ length neighbours.old) }
     ensures { let thinned = lined stages (D.halvings r) neighbours.old (take (count * r) tape.old) in
@@ -91,7 +95,7 @@ fn one_by_one(
     stages: usize,
     r: usize,
     place: &mut usize,
-    neighbours: &mut [i32; MAX_NEIGHBOURS],
+    neighbours: &mut [i32; MOST_NEIGHBOURS],
     src: &[i32],
     dst: &mut [i32],
 ) -> Moved
@@ -128,7 +132,8 @@ fn blank() -> [i32; TAPE]
     [0; TAPE]
 }
 
-// Samples to the front of the tape, each read by itself: so it is known to be an i32.
+// Samples to the front of the tape, each read by itself: so it is known to be an i32. By the sample's number: in a zip with `iter_mut` a proof sees an iterator
+// in place of the tape.
 fn lay(tape: &mut [i32], samples: &[i32])
     requires { length samples.now ≤ length tape.old }
     ensures { take (length samples.now) tape.new ≡ map (wrap w32) samples.now }
@@ -142,7 +147,7 @@ fn lay(tape: &mut [i32], samples: &[i32])
 fn chunk(
     stages: usize,
     r: usize,
-    neighbours: &mut [i32; MAX_NEIGHBOURS],
+    neighbours: &mut [i32; MOST_NEIGHBOURS],
     src: &[i32],
     dst: &mut [i32],
 )
@@ -157,11 +162,12 @@ fn chunk(
     dst.copy_from_slice(&tape[..count]);
 }
 
-// Whole frames, where the place is 0: as many as the samples and the span have room for. No range: a turn has as many as the tape holds of those that are left.
+// Whole frames, where the place is 0: as many as the samples and the span have room for. No range: a turn has as many as the tape holds of those that are left. By
+// positions: they are the counts that it answers, and would stand beside the parts that src and dst are split into.
 fn frames(
     stages: usize,
     r: usize,
-    neighbours: &mut [i32; MAX_NEIGHBOURS],
+    neighbours: &mut [i32; MOST_NEIGHBOURS],
     src: &[i32],
     dst: &mut [i32],
 ) -> Moved
@@ -195,7 +201,7 @@ fn whole_frames(
     stages: usize,
     r: usize,
     place: usize,
-    neighbours: &mut [i32; MAX_NEIGHBOURS],
+    neighbours: &mut [i32; MOST_NEIGHBOURS],
     src: &[i32],
     dst: &mut [i32],
 ) -> Moved
@@ -228,7 +234,7 @@ pub fn block_at(
     stages: usize,
     r: usize,
     place: &mut usize,
-    neighbours: &mut [i32; MAX_NEIGHBOURS],
+    neighbours: &mut [i32; MOST_NEIGHBOURS],
     src: &[i32],
     dst: &mut [i32],
 ) -> Result<Moved, Refusal>

@@ -17,13 +17,13 @@ use integer::stages::{Stage, pass};
 use refusal::{Moved, Refusal};
 
 // 8 stages for each of the 12 halvings of 4,096.
-pub const MAX_NEIGHBOURS: usize = 96;
+pub const MOST_NEIGHBOURS: usize = 96;
 
 #[derive(Drop)]
 pub struct NonrecursiveDecimator {
     pub stages: usize,
     pub r: usize,
-    pub neighbours: [i32; MAX_NEIGHBOURS],
+    pub neighbours: [i32; MOST_NEIGHBOURS],
     pub place: usize,
 }
 
@@ -48,7 +48,8 @@ pub(crate) fn sum_neighbours(stages: usize, neighbours: &mut [i32], input: i32) 
     pass::<Neighbour>(stages, neighbours, input)
 }
 
-// A value goes through the halvings of r: the first of two ends at its halving, the second goes on. No range: r is halved until it is used up.
+// A value goes through the halvings of r: the first of two ends at its halving, the second goes on. No range over their number by
+// `ilog2`: tried, and a sample by itself takes 8 % more time.
 fn thin(stages: usize, r: usize, place: usize, neighbours: &mut [i32], input: i32) -> Option<i32>
     ensures { (neighbours.new ≡ (D.thinned stages (D.halvings r) neighbours.old place input).state) × (result ≡ (D.thinned stages (D.halvings r) neighbours.old place input).out) }
 {
@@ -74,7 +75,7 @@ pub fn nonrecursive_at(
     stages: usize,
     r: usize,
     place: &mut usize,
-    neighbours: &mut [i32; MAX_NEIGHBOURS],
+    neighbours: &mut [i32; MOST_NEIGHBOURS],
     input: i32,
 ) -> Option<i32>
     ensures out { result ≡ (D.nonrecursive).out (D.nonrecursive_of stages r neighbours.old place.old) input }
@@ -118,6 +119,38 @@ pub(crate) fn state_answer(stages: usize, r: usize, place: usize) -> Result<(), 
     Ok(())
 }
 
+// `NonrecursiveDecimator::process_sample` for the C function, which is lent the state's fields: a sample does not pay for moving them.
+#[tactic(auto, unfolding(crate::specs::NonrecursiveDecimator::step))]
+pub fn sample_lent(
+    stages: usize,
+    r: usize,
+    place: &mut usize,
+    neighbours: &mut [i32; MOST_NEIGHBOURS],
+    input: i32,
+) -> Result<Option<i32>, Refusal>
+    ensures answer { told_on None result (D.nonrecursive_of stages r neighbours.new place.new) ≡ D.step (D.nonrecursive_of stages r neighbours.old place.old) input }
+{
+    state_answer(stages, r, *place)?;
+    Ok(nonrecursive_at(stages, r, place, neighbours, input))
+}
+
+// `NonrecursiveDecimator::process_sample_scaled`, likewise. Refusal 3 is looked at on every call: it goes by the settings alone.
+#[tactic(auto, unfolding(crate::specs::NonrecursiveDecimator::scaled_step, crate::specs::NonrecursiveDecimator::scaled_nonrecursive, integer::specs::Gain::scaling_bits))]
+pub fn scaled_sample_lent(
+    stages: usize,
+    r: usize,
+    place: &mut usize,
+    neighbours: &mut [i32; MOST_NEIGHBOURS],
+    input: i32,
+) -> Result<Option<i32>, Refusal>
+    ensures answer { told_on None result (D.nonrecursive_of stages r neighbours.new place.new) ≡ D.scaled_step (D.nonrecursive_of stages r neighbours.old place.old) input }
+{
+    state_answer(stages, r, *place)?;
+    let bits = scaling_bits(stages, r)?;
+    let sum = nonrecursive_at(stages, r, place, neighbours, input);
+    Ok(sum.map(|sum| scaled(sum, bits)))
+}
+
 // The methods are the CIC decimator's, of two lines each: a trait over both would ask each for its section, its validity and its settings first.
 impl NonrecursiveDecimator {
     // One that has taken nothing in yet. A refused opening leaves that of 0 and 0, which is zeros.
@@ -127,7 +160,7 @@ impl NonrecursiveDecimator {
         NonrecursiveDecimator {
             stages,
             r,
-            neighbours: [0; MAX_NEIGHBOURS],
+            neighbours: [0; MOST_NEIGHBOURS],
             place: 0,
         }
     }
@@ -161,11 +194,11 @@ impl NonrecursiveDecimator {
         Ok(bits_of(self.gain()?))
     }
 
-    fn next_sum(&mut self, input: i32) -> Option<i32>
-        ensures out { result ≡ (D.nonrecursive).out self.old input }
-        ensures next { self.new ≡ (D.nonrecursive).next self.old input }
+    // Two calls, this one and the scaled one, as 01's decimator has: each hands the fields to the leaf of its name.
+    pub fn process_sample(&mut self, input: i32) -> Result<Option<i32>, Refusal>
+        ensures answer { told_on None result self.new ≡ D.step self.old input }
     {
-        nonrecursive_at(
+        sample_lent(
             self.stages,
             self.r,
             &mut self.place,
@@ -174,22 +207,16 @@ impl NonrecursiveDecimator {
         )
     }
 
-    #[tactic(auto, unfolding(crate::specs::NonrecursiveDecimator::step))]
-    pub fn process_sample(&mut self, input: i32) -> Result<Option<i32>, Refusal>
-        ensures answer { told_on None result self.new ≡ D.step self.old input }
-    {
-        state_answer(self.stages, self.r, self.place)?;
-        Ok(self.next_sum(input))
-    }
-
-    // Refusal 3 is looked at on every call: it goes by the settings alone.
-    #[tactic(auto, unfolding(crate::specs::NonrecursiveDecimator::scaled_step, crate::specs::NonrecursiveDecimator::scaled_nonrecursive, integer::specs::Gain::scaling_bits))]
     pub fn process_sample_scaled(&mut self, input: i32) -> Result<Option<i32>, Refusal>
         ensures answer { told_on None result self.new ≡ D.scaled_step self.old input }
     {
-        state_answer(self.stages, self.r, self.place)?;
-        let bits = scaling_bits(self.stages, self.r)?;
-        Ok(self.next_sum(input).map(|sum| scaled(sum, bits)))
+        scaled_sample_lent(
+            self.stages,
+            self.r,
+            &mut self.place,
+            &mut self.neighbours,
+            input,
+        )
     }
 
     // Samples of src become sums in dst while dst has a place.

@@ -3,9 +3,9 @@ ghost use Rattle.std.specs.Prelude.{◌≡◌, ◌++◌, length, drop};
 ghost use Rattle.nonrecursive.specs.EitherKind as E;
 
 use crate::block::block_at;
-use crate::nonrecursive_decimator::{MAX_NEIGHBOURS, nonrecursive_at, power_of_two};
+use crate::nonrecursive_decimator::{MOST_NEIGHBOURS, nonrecursive_at, power_of_two};
 use integer::cic_decimator::{block_at as cic_block_at, sample_at, valid};
-use integer::limits::MAX_STAGES;
+use integer::limits::MOST_STAGES;
 use refusal::{Moved, NONE_MOVED};
 
 // The CIC decimator, or sums of neighbours.
@@ -40,9 +40,9 @@ pub fn thin_at(
     stages: usize,
     r: usize,
     sample_counter: &mut usize,
-    integrators: &mut [i32; MAX_STAGES],
-    combs: &mut [i32; MAX_STAGES],
-    neighbours: &mut [i32; MAX_NEIGHBOURS],
+    integrators: &mut [i32; MOST_STAGES],
+    combs: &mut [i32; MOST_STAGES],
+    neighbours: &mut [i32; MOST_NEIGHBOURS],
     input: i32,
 ) -> Option<i32>
     ensures { let kind = E.kind_of by_neighbours in
@@ -63,9 +63,9 @@ pub fn thin_block_at(
     stages: usize,
     r: usize,
     sample_counter: &mut usize,
-    integrators: &mut [i32; MAX_STAGES],
-    combs: &mut [i32; MAX_STAGES],
-    neighbours: &mut [i32; MAX_NEIGHBOURS],
+    integrators: &mut [i32; MOST_STAGES],
+    combs: &mut [i32; MOST_STAGES],
+    neighbours: &mut [i32; MOST_NEIGHBOURS],
     src: &[i32],
     dst: &mut [i32],
 ) -> Moved

@@ -42,7 +42,8 @@ use Rattle.float.specs.declared.polyphase_resamp.PolyphaseResampF32.{PolyphaseRe
 use Rattle.float.proofs.PolyphaseOutput.{outputs_alike}
 use Rattle.std.proofs.lemmas.Bool.{and_parts}
 use Rattle.parking.specs.Parked.{neighbour_count}
-use Rattle.parking.proofs.Fronts.{front_at, drop_front, row_front}
+use Rattle.integer.proofs.Row.{same_fronts}
+use Rattle.parking.proofs.Fronts.{front_at, drop_front}
 use Rattle.parking.proofs.Thinned.{thinned_long, thinned_front}
 use Rattle.parking.proofs.Whole.{stored_long, moved_long}
 use Rattle.parking.proofs.WholeFloats.{shifted_long}
@@ -52,17 +53,11 @@ use Rattle.parking.proofs.Alike.{AlikeSection, Alike}
 
 integrated_front : (n : ℕ) (s t : List ℤ) (x : ℤ) → take n s ≡ take n t → ((integrated n s x).val ≡ (integrated n t x).val) × (take n (integrated n s x).state ≡ take n (integrated n t x).state)
 unfolding integrated
-integrated_front n s t x e =
-    let a = row_front _ _ n s x in
-    let b = row_front _ _ n t x in
-    (a.0 ∙ ap (λ (l : List ℤ). (integrated n l x).val) e ∙ sym b.0, a.1 ∙ ap (λ (l : List ℤ). (integrated n l x).state) e ∙ sym b.1)
+integrated_front n s t x e = same_fronts _ _ n s t x e
 
 combed_front : (n : ℕ) (s t : List ℤ) (x : ℤ) → take n s ≡ take n t → ((combed n s x).val ≡ (combed n t x).val) × (take n (combed n s x).state ≡ take n (combed n t x).state)
 unfolding combed
-combed_front n s t x e =
-    let a = row_front _ _ n s x in
-    let b = row_front _ _ n t x in
-    (a.0 ∙ ap (λ (l : List ℤ). (combed n l x).val) e ∙ sym b.0, a.1 ∙ ap (λ (l : List ℤ). (combed n l x).state) e ∙ sym b.1)
+combed_front n s t x e = same_fronts _ _ n s t x e
 
 pub record CicSame (d e : CicDecimator) : Type 0 where
   pub stages : d.stages ≡ e.stages

@@ -1,17 +1,15 @@
 -- What parking answers, by whether the line is valid and the span has room.
-use mathlib.Core.Path.{◌≡◌, refl, ap, ◌∙◌}
+use mathlib.Core.Path.{◌≡◌, refl, ap}
 use mathlib.Core.Bool.{Bool, true, false}
-use mathlib.Core.List.{List}
+use mathlib.Core.List.{List, ◌++◌}
 use Prim.Native.Nat.{ℕ, ◌≤◌, ◌<◌}
 use native.Mathlib.Omega.{arith}
 use borrow.Author.Tests.{lt-leb, le-leb}
-use lib.ListN.{length}
+use lib.ListN.{length, drop}
 use Rattle.std.specs.Prelude.{Ok, Err}
 use Rattle.refusal.specs.Outcome.{Answer, count_answer}
 use Rattle.refusal.specs.Table.{number_of}
 use Rattle.refusal.specs.declared.Refusal.{Refusal}
-use Rattle.sheet.specs.Laid.{laid}
-use Rattle.sheet.proofs.Laying.{laid_front}
 use Rattle.refusal.proofs.Table.{number_positive}
 use Rattle.line.specs.Line.{valid}
 use Rattle.line.specs.declared.gauge_line.Line.{Line}
@@ -63,6 +61,6 @@ module _ (l : Line) where
     unfolding sheet_answer
     room_answer n e h = let t = le-leb (length (parked_line panel l)) (length span) (omega arith) in rw e (rw t at (answer_is l (length span) v))
 
-    pub room_span : (n : ℕ) → n ≡ length (parked_line panel l) → n ≤ length span → (s : List ℕ) → s ≡ laid 0 (parked_line panel l) span → s ≡ park_span panel l span
+    pub room_span : (n : ℕ) → n ≡ length (parked_line panel l) → n ≤ length span → (s : List ℕ) → s ≡ parked_line panel l → s ++ drop n span ≡ park_span panel l span
     unfolding sheet_span
-    room_span n e h s f = let t = le-leb (length (parked_line panel l)) (length span) (omega arith) in f ∙ laid_front (parked_line panel l) span ∙ (rw t at (span_is l span v))
+    room_span n e h s f = let t = le-leb (length (parked_line panel l)) (length span) (omega arith) in rw (f, e) (rw t at (span_is l span v))

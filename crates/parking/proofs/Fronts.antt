@@ -1,5 +1,5 @@
--- Lists with the same front, and rows of stages, which go by theirs.
-use mathlib.Core.Path.{◌≡◌, refl, sym, ap, ◌∙◌}
+-- Lists with the same front, and rows of stages whose states are typed.
+use mathlib.Core.Path.{◌≡◌, sym, ap, ◌∙◌}
 use mathlib.Core.List.{List, [], ◌∷◌}
 use Prim.Native.Nat.{ℕ, zero, suc, ◌-◌, ◌<◌}
 use native.Mathlib.Omega.{arith}
@@ -16,14 +16,6 @@ drop_front n zero s = ap (λ (k : ℕ). take k s) (let q : n - 0 ≡ n = omega a
 drop_front zero (suc m) s = ap (λ (k : ℕ). take k (drop (suc m) s)) (let q : 0 - suc m ≡ 0 = omega arith in q)
 drop_front (suc n) (suc m) [] = take-nil (suc n - suc m)
 drop_front (suc n) (suc m) (x ∷ s) = ap (λ (k : ℕ). take k (drop m s)) (let q : suc n - suc m ≡ n - m = omega arith in q) ∙ drop_front n m s
-
--- a row of n stages goes by the first n states
-pub row_front : {A : Type 0} (keep out : A → A → A) (n : ℕ) (s : List A) (v : A) → ((row keep out n s v).val ≡ (row keep out n (take n s) v).val) × (take n (row keep out n s v).state ≡ (row keep out n (take n s) v).state)
-row_front keep out zero s v = (refl, refl)
-row_front keep out (suc n) [] v = (refl, refl)
-row_front {A} keep out (suc n) (a ∷ s) v =
-    let r = row_front keep out n s (out a v) in
-    (r.0, ap (λ (l : List A). keep a v ∷ l) r.1)
 
 -- a row whose values G become states P
 pub row_typed : {A : Type 0} (P G : A → Type 0) (keep out : A → A → A) → ((a v : A) → G v → P (keep a v)) → ((a v : A) → G v → G (out a v)) → (n : ℕ) (s : List A) (v : A) → All P s → G v

@@ -3,21 +3,19 @@ use mathlib.Core.Path.{◌≡◌, refl, sym, ap, ◌∙◌}
 use mathlib.Core.List.{List, [], ◌∷◌, ◌++◌, append_assoc, append-nil}
 use Prim.Native.Nat.{ℕ, ◌+◌, ◌≤◌}
 use native.Mathlib.Omega.{arith}
-use lib.ListN.{length, take, length-append}
+use lib.ListN.{length, take}
 use Rattle.std.specs.Prelude as std
 use Rattle.std.proofs.lemmas.List.Sums.{sum_by-cons}
 use Rattle.nonrecursive.specs.declared.thinning.Thinning.{Thinning}
 use Rattle.nonrecursive.specs.declared.thinning.Thinning.TheVariants as thinning
 use Rattle.line.specs.declared.gauge_line.Line.{Line}
-use Rattle.sheet.specs.Laid.{laid}
 use Rattle.sheet.specs.Sheet.{present, bytes16, count_word, pairs_from, written, data_from, sum, directory_in}
 use Rattle.sheet.proofs.Laying.{pairs_length}
 use Rattle.sheet.proofs.Writing.{directory_is}
-use Rattle.words.specs.Puts.{Puts}
-use Rattle.words.proofs.Putting.{puts_then}
+use Rattle.words.proofs.Loops.{laid_whole}
 use Rattle.parking.specs.Parked.{Settings, settings_bytes, sizes, thin_sizes, flat, lengths_of, parked}
 use Rattle.parking.specs.Entries.{tap_bytes, delay_bytes, stages_bytes, prototype_bytes, resampler_bytes, neighbours_bytes, entries_by}
-use Rattle.parking.specs.Told.{Fine, settings_by, count_by, sizes_by, parts, first_by, first_bytes, last_by, last_bytes}
+use Rattle.parking.specs.Told.{Fine, settings_by, count_by, sizes_by, all_sizes, parts, first_by, first_bytes, last_by, last_bytes}
 use Rattle.parking.proofs.WholeSheet.{lengths_of_lem, thin_lengths_of, depth_flat, thin_flat}
 use Rattle.parking.proofs.ParkedLine.{sheet_long, thin_long, sizes_most, thin_most}
 
@@ -80,8 +78,13 @@ module _ (l : Line) (f : Fine l) where
       rw (n, e, flat_by l.thinning)
 
   -- of the sizes that the code has
-  pub sizes_are : (n : ℕ) (xs : List ℕ) (q : Settings) → n ≡ count_by l.thinning → take (count_by l.thinning) xs ≡ sizes_by l.thinning q → q ≡ settings_by l → take n xs ≡ sizes_by l.thinning (settings_by l)
-  sizes_are n xs q e g h = ap (λ (k : ℕ). take k xs) e ∙ g ∙ ap (sizes_by l.thinning) h
+  front_sizes : (k : Thinning) (q : Settings) → take (count_by k) (all_sizes k q) ≡ sizes_by k q
+  unfolding sizes thin_sizes
+  front_sizes thinning.Integrators q = refl
+  front_sizes thinning.Neighbours q = refl
+
+  pub sizes_are : (n : ℕ) (xs : List ℕ) (q : Settings) → n ≡ count_by l.thinning → xs ≡ all_sizes l.thinning q → q ≡ settings_by l → take n xs ≡ sizes_by l.thinning (settings_by l)
+  sizes_are n xs q e g h = rw (e, g, h) (front_sizes l.thinning (settings_by l))
 
   pub sum_few : (xs : List ℕ) → xs ≡ sizes_by l.thinning (settings_by l) → std.sum xs ≤ 6000
   sum_few xs e = let m = most_by l.thinning in rw (sum_is xs, e) m
@@ -89,9 +92,14 @@ module _ (l : Line) (f : Fine l) where
   pub long_of : (xs : List ℕ) → xs ≡ sizes_by l.thinning (settings_by l) → length (parked present (parts l)) ≡ data_from (count_by l.thinning) + std.sum xs
   long_of xs e = rw (sum_is xs, e) (long_by l.thinning)
 
-  -- the directory, put in front
-  pub directory_put : (lengths s t : List ℕ) (total : ℕ) → lengths ≡ sizes_by l.thinning (settings_by l) → total ≡ sum lengths → data_from (count_by l.thinning) ≤ length s
-      → t ≡ directory_in present total lengths s → Puts 0 (directory_by l) s t (data_from (count_by l.thinning))
+  all_sum : (k : Thinning) (q : Settings) → std.sum (all_sizes k q) ≡ sum (sizes_by k q)
+  unfolding sum sizes thin_sizes
+  all_sum thinning.Integrators q = omega arith
+  all_sum thinning.Neighbours q = omega arith
+
+  -- the directory, in as many places as it has
+  pub directory_put : (lengths s t : List ℕ) (total : ℕ) → lengths ≡ sizes_by l.thinning (settings_by l) → total ≡ sum lengths → length s ≡ data_from (count_by l.thinning)
+      → t ≡ directory_in present total lengths s → t ≡ directory_by l
   directory_put lengths s t total e g h d =
       let n : length lengths ≡ count_by l.thinning = ap length e ∙ sizes_long l.thinning (settings_by l) in
       let m = most_by l.thinning in
@@ -99,43 +107,19 @@ module _ (l : Line) (f : Fine l) where
       let c = count_most l.thinning in
       let p = pairs_length (data_from (count_by l.thinning)) (sizes_by l.thinning (settings_by l)) in
       let z = sizes_long l.thinning (settings_by l) in
-      record {
-        span = d ∙ directory_is present total lengths s (omega arith) (omega arith) (sym g) (omega arith) ∙ rw (n, e);
-        place = omega arith;
-      }
+      d ∙ directory_is present total lengths s (omega arith) (omega arith) (sym g) (omega arith) ∙ rw (n, e) (laid_whole (directory_by l) s (omega arith))
 
-  pub settings_long : (q : Settings) → length (settings_bytes q) ≡ 24
-  unfolding settings_bytes
-  settings_long q = refl
+  -- and what is left for the entries
+  pub behind_long : (n m : ℕ) → n ≡ length (parked present (parts l)) → m + data_from (count_by l.thinning) ≡ n → m ≡ std.sum (all_sizes l.thinning (settings_by l))
+  behind_long n m e h = let a = long_by l.thinning in let b = all_sum l.thinning (settings_by l) in omega arith
 
-  -- what each part of the sheet needs of a span with room for the whole
-  pub room_by : (n : ℕ) → length (parked present (parts l)) ≤ n
-      → data_from (count_by l.thinning) + (24 + (length (first_bytes l) + (length (tap_bytes l.fir ++ delay_bytes l.fir)
-      + (length (stages_bytes l.half_band l.half_band.depth) + (length (prototype_bytes l.resampler ++ resampler_bytes l.resampler) + length (last_bytes l)))))) ≤ n
-  room_by n h =
-      let p = pairs_length (data_from (count_by l.thinning)) (sizes_by l.thinning (settings_by l)) in
-      let z = sizes_long l.thinning (settings_by l) in
-      let w = ap length whole_by in
-      let k = length-append (directory_by l) (behind_by l) in
-      let s : length (settings_bytes (settings_by l)) ≡ 24 = unfold settings_bytes in refl in
-      let a = length-append (settings_bytes (settings_by l)) (first_bytes l ++ ((tap_bytes l.fir ++ delay_bytes l.fir) ++ (stages_bytes l.half_band l.half_band.depth ++ ((prototype_bytes l.resampler ++ resampler_bytes l.resampler) ++ last_bytes l)))) in
-      let b = length-append (first_bytes l) ((tap_bytes l.fir ++ delay_bytes l.fir) ++ (stages_bytes l.half_band l.half_band.depth ++ ((prototype_bytes l.resampler ++ resampler_bytes l.resampler) ++ last_bytes l))) in
-      let c = length-append (tap_bytes l.fir ++ delay_bytes l.fir) (stages_bytes l.half_band l.half_band.depth ++ ((prototype_bytes l.resampler ++ resampler_bytes l.resampler) ++ last_bytes l)) in
-      let d = length-append (stages_bytes l.half_band l.half_band.depth) ((prototype_bytes l.resampler ++ resampler_bytes l.resampler) ++ last_bytes l) in
-      let e = length-append (prototype_bytes l.resampler ++ resampler_bytes l.resampler) (last_bytes l) in
-      omega arith
+  pub room_by : (n : ℕ) → n ≡ length (parked present (parts l)) → data_from (count_by l.thinning) ≤ n
+  room_by n e = let a = long_by l.thinning in omega arith
 
-  -- all parts, put one behind the other
-  pub line_put :
-      {s₀ s₁ s₂ s₃ s₄ s₅ s₆ s₇ : List ℕ} {p₂ p₃ p₄ p₅ p₆ p₇ : ℕ}
-      → Puts 0 (directory_by l) s₀ s₁ (data_from (count_by l.thinning))
-      → Puts (data_from (count_by l.thinning)) (settings_bytes (settings_by l)) s₁ s₂ p₂
-      → Puts p₂ (first_bytes l) s₂ s₃ p₃ → Puts p₃ (tap_bytes l.fir ++ delay_bytes l.fir) s₃ s₄ p₄
-      → Puts p₄ (stages_bytes l.half_band l.half_band.depth) s₄ s₅ p₅ → Puts p₅ (prototype_bytes l.resampler ++ resampler_bytes l.resampler) s₅ s₆ p₆
-      → Puts p₆ (last_bytes l) s₆ s₇ p₇
-      → length (parked present (parts l)) ≤ length s₀ → s₇ ≡ laid 0 (parked present (parts l)) s₀
-  line_put {s₀} a b c d e g h room =
-      let w = whole_by in
-      let k = ap length w in
-      let r : 0 + length (directory_by l ++ behind_by l) ≤ length s₀ = omega arith in
-      (puts_then a (puts_then b (puts_then c (puts_then d (puts_then e (puts_then g (λ i. h)))))) r).span ∙ ap (λ (x : List ℕ). laid 0 x s₀) w
+  pub entries_put : (xs a b c d e g : List ℕ) → xs ≡ a ++ (b ++ (c ++ (d ++ (e ++ g)))) → a ≡ settings_bytes (settings_by l) → b ≡ first_bytes l → c ≡ tap_bytes l.fir ++ delay_bytes l.fir → d ≡ stages_bytes l.half_band l.half_band.depth
+      → e ≡ prototype_bytes l.resampler ++ resampler_bytes l.resampler → g ≡ last_bytes l → xs ≡ flat (parts l)
+  entries_put xs a b c d e g h i j k m n o = h ∙ rw (i, j, k, m, n, o) (sym (flat_by l.thinning))
+
+  -- all of it
+  pub line_put : (a b : List ℕ) → a ≡ directory_by l → b ≡ flat (parts l) → a ++ b ≡ parked present (parts l)
+  line_put a b e f = rw (e, f) (ap (λ (z : List ℕ). directory_by l ++ z) (flat_by l.thinning) ∙ whole_by)

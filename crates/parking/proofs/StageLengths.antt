@@ -29,16 +29,6 @@ module _ (s : HbfStream) (l : length s.delays ≡ 480) where
       let b : k < 5 = omega arith in
       length-append (stages_bytes s k) (stage_bytes s k) ∙ ap₂ {C = ℕ} (λ (a b : ℕ). a + b) (stages_long k (omega arith)) (stage_long k b) ∙ sym (bytes_more k b)
 
--- a stage of the first n has its place among their bytes
-pub stages_room : (s : HbfStream) (k n : ℕ) → k < n → length (stages_bytes s k) + length (stage_bytes s k) ≤ length (stages_bytes s n)
-stages_room s k zero h = absurd (omega arith)
-stages_room s k (suc n) h =
-    let l : length (stages_bytes s (suc n)) ≡ length (stages_bytes s n) + length (stage_bytes s n) = unfold stages_bytes in length-append (stages_bytes s n) (stage_bytes s n) in
-    elim (dec_lt k n) [
-      | yes b ↦ (let r = stages_room s k n b in omega arith)
-      | no b ↦ (let e : k ≡ n = omega arith in rw e (omega arith))
-    ]
-
 -- more stages have more bytes
 pub bytes_mono : (k n : ℕ) → n ≤ 5 → k ≤ n → half_band_bytes k ≤ half_band_bytes n
 bytes_mono k zero f h = let e : k ≡ 0 = omega arith in rw e (omega arith)

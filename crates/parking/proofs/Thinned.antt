@@ -17,14 +17,15 @@ use lib.Seq.{take-add, take-take, drop-drop, drop-append-add, take-append-add, l
 use mir.Syntax.{w32}
 use mir.Val.{SFits}
 use Rattle.theory.proofs.Wrap.{wrap_fits}
-use Rattle.integer.specs.Stages.{row, kept, sum32}
+use Rattle.integer.specs.Stages.{kept, sum32}
 use Rattle.nonrecursive.specs.NonrecursiveDecimator.{halvings_up_to, halvings, summed, behind, Thinned, thinned}
 use Rattle.nonrecursive.proofs.StageByStage.{summed_long}
 use Rattle.words.specs.Fields.{All}
 use Rattle.parking.specs.Parked.{neighbour_count}
 use Rattle.words.proofs.Fields.{all_take, all_drop, all_append}
-use Rattle.parking.proofs.Behind.{row_behind}
-use Rattle.parking.proofs.Fronts.{drop_front, row_front, row_typed, row_value}
+use Rattle.integer.proofs.Row.{same_fronts}
+use Rattle.integer.proofs.Row as Row
+use Rattle.parking.proofs.Fronts.{drop_front, row_typed, row_value}
 
 -- ---- how many
 
@@ -77,14 +78,11 @@ few_neighbours N r n h = mul-le-mul n (halvings_few r h)
 module _ (N : ℕ) where
   summed_behind : (s : List ℤ) (v : ℤ) → drop N (summed N s v).state ≡ drop N s
   unfolding summed
-  summed_behind s v = row_behind kept sum32 N s v
+  summed_behind s v = Row.behind kept sum32 N s v
 
   summed_front : (s t : List ℤ) (v : ℤ) → take N s ≡ take N t → ((summed N s v).val ≡ (summed N t v).val) × (take N (summed N s v).state ≡ take N (summed N t v).state)
   unfolding summed
-  summed_front s t v e =
-      let a = row_front kept sum32 N s v in
-      let b = row_front kept sum32 N t v in
-      (a.0 ∙ ap (λ (l : List ℤ). (row kept sum32 N l v).val) e ∙ sym b.0, a.1 ∙ ap (λ (l : List ℤ). (row kept sum32 N l v).state) e ∙ sym b.1)
+  summed_front s t v e = same_fronts kept sum32 N s t v e
 
   summed_typed : (s : List ℤ) (v : ℤ) → All (SFits w32) s → SFits w32 v → All (SFits w32) (summed N s v).state
   unfolding summed

@@ -44,8 +44,8 @@ use Rattle.float.specs.Level.{level}
 use Rattle.float.specs.PolyphaseResamp.{in_line, valid_in_line, valid_in_line_at}
 use Rattle.float.specs.PolyphaseResamp as R
 use Rattle.float.specs.declared.polyphase_resamp.PolyphaseResampF32.{PolyphaseResampF32}
-use Rattle.line.specs.Outputs.{most_cuts}
 use Rattle.chain.specs.Chain.{Parts, from3, from4, chain}
+use Rattle.chain.specs.Cuts.{most_cuts}
 use Rattle.line.specs.Line.{thinner_of, parts_of, cuts_for, sum_cut, line, half_band_fine, valid, fed_line, feed_outcome, feed_span}
 use Rattle.line.specs.Demand3.{History, none_yet, fed}
 use Rattle.line.specs.declared.gauge_line.Line.{Line}

@@ -1,5 +1,5 @@
 -- The same for the sections on floats: the half-band cascade and the resampler.
-use mathlib.Core.Path.{◌≡◌, refl, sym, ◌∙◌, subst}
+use mathlib.Core.Path.{◌≡◌, refl, sym, ◌∙◌, subst, ap}
 use mathlib.Core.Bool.{Bool, true, false, cond}
 use mathlib.Core.List.{List, [], ◌∷◌, ◌++◌}
 use Rattle.std.specs.Prelude.{Option, None, Some}
@@ -11,7 +11,7 @@ use lib.Dec.{T, leb, eqb}
 use lib.Ieee.{Float, binary32, nan}
 use lib.Ieee.Bits.{of_bits-fits}
 use lib.Ieee.Fits.{add-fits, sub-fits, mul-fits, nan-fits}
-use lib.ListN.{length, take, drop, replicate, length-append, length-drop}
+use lib.ListN.{length, take, drop, replicate, length-append, length-drop, set}
 use lib.Seq.{drop-set-lt, length-take-le, take_all}
 use Rattle.half_band.specs.HbfTaps.{hbf_taps, stage_taps, decimation}
 use Rattle.half_band.specs.Windows.{slid, dec_value}
@@ -127,22 +127,24 @@ module _ (taps : ℕ → List Float) where
   through_given (suc n) k None s g = tt
   through_given (suc n) k (Some x) s g = through_given n (suc k) ((half (taps k)).out (stage_in taps k s) x) _ (half_given (taps k) (stage_in taps k s) x)
 
-  -- what is held behind the stages
-  through_held : (n k : ℕ) (o : Option Float) (s : HbfStream) (m : ℕ) → k + n ≤ m → drop m (through taps n k o s).state.held ≡ drop m s.held
-  unfolding through with_stage
-  through_held zero k o s m h = refl
-  through_held (suc n) k None s m h = refl
-  through_held (suc n) k (Some x) s m h =
-      through_held n (suc k) ((half (taps k)).out (stage_in taps k s) x) (with_stage taps k ((half (taps k)).next (stage_in taps k s) x) s) m (omega arith)
-      ∙ drop-set-lt m s.held k ((half (taps k)).next (stage_in taps k s) x).held (omega arith)
+  -- what stands behind the stages in a row of a part of each: the held samples, and the counts
+  module _ {A : Type 0} (of : HbfStream → List A) (part : Half → A) (put : (k : ℕ) (h : Half) (s : HbfStream) → of (with_stage taps k h s) ≡ set (of s) k (part h)) where
+    through_rest : (n k : ℕ) (o : Option Float) (s : HbfStream) (m : ℕ) → k + n ≤ m → drop m (of (through taps n k o s).state) ≡ drop m (of s)
+    unfolding through
+    through_rest zero k o s m h = refl
+    through_rest (suc n) k None s m h = refl
+    through_rest (suc n) k (Some x) s m h =
+        let t = (half (taps k)).next (stage_in taps k s) x in
+        through_rest n (suc k) ((half (taps k)).out (stage_in taps k s) x) (with_stage taps k t s) m (omega arith)
+        ∙ ap (λ (l : List A). drop m l) (put k t s) ∙ drop-set-lt m (of s) k (part t) (omega arith)
 
-  through_counts : (n k : ℕ) (o : Option Float) (s : HbfStream) (m : ℕ) → k + n ≤ m → drop m (through taps n k o s).state.counts ≡ drop m s.counts
-  unfolding through with_stage
-  through_counts zero k o s m h = refl
-  through_counts (suc n) k None s m h = refl
-  through_counts (suc n) k (Some x) s m h =
-      through_counts n (suc k) ((half (taps k)).out (stage_in taps k s) x) (with_stage taps k ((half (taps k)).next (stage_in taps k s) x) s) m (omega arith)
-      ∙ drop-set-lt m s.counts k ((half (taps k)).next (stage_in taps k s) x).count (omega arith)
+  through_held : (n : ℕ) (o : Option Float) (s : HbfStream) → drop n (through taps n 0 o s).state.held ≡ drop n s.held
+  unfolding with_stage
+  through_held n o s = through_rest (λ (s : HbfStream). s.held) (λ (h : Half). h.held) (λ k h s. refl) n 0 o s n (omega arith)
+
+  through_counts : (n : ℕ) (o : Option Float) (s : HbfStream) → drop n (through taps n 0 o s).state.counts ≡ drop n s.counts
+  unfolding with_stage
+  through_counts n o s = through_rest (λ (s : HbfStream). s.counts) (λ (h : Half). h.count) (λ k h s. refl) n 0 o s n (omega arith)
 
 -- what n stages leave alone: the gap behind each window, and all behind the stages
 module _ (n : ℕ) (few : n ≤ 5) where
@@ -203,8 +205,8 @@ module _ (s : HbfStream) (x : Float) (n : ℕ) (few : n ≤ 5) (p : IsFloat x) (
             sym (all_of n few s'.delays sized'.delays)
             ∙ beside_through c5 decimation_five n 0 (Some x) s few' w.sized (96 * n) (480 - 96 * n) (λ i u v. beside_rest n few i (omega arith))
             ∙ all_of n few s.delays w.sized.delays ∙ w.behind;
-        held_rest = through_held c5 n 0 (Some x) s n (omega arith) ∙ w.held_rest;
-        counts_rest = through_counts c5 n 0 (Some x) s n (omega arith) ∙ w.counts_rest;
+        held_rest = through_held c5 n (Some x) s ∙ w.held_rest;
+        counts_rest = through_counts c5 n (Some x) s ∙ w.counts_rest;
         delays_typed = typed.delays;
         held_typed = typed.held;
       }

@@ -37,8 +37,9 @@ use Rattle.float.specs.Level.{level}
 use Rattle.float.specs.PolyphaseResamp.{in_line, in_limits, within, is_on, valid_in_line, valid_in_line_at, packed}
 use Rattle.float.specs.PolyphaseResamp as R
 use Rattle.float.specs.declared.polyphase_resamp.PolyphaseResampF32.{PolyphaseResampF32}
-use Rattle.line.specs.Outputs.{Opening, most_cuts}
+use Rattle.line.specs.Outputs.{Opening}
 use Rattle.chain.specs.Chain.{Parts, from3, from4, from5, chain}
+use Rattle.chain.specs.Cuts.{most_cuts}
 use Rattle.line.specs.Line.{thinner_of, parts_of, cuts_at, line, half_band_fine, valid, resampler_fresh, fresh, opened}
 use Rattle.line.specs.Demand3.{History, none_yet, fed, line_of}
 use Rattle.line.specs.declared.gauge_line.Line.{Line}

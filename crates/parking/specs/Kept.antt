@@ -1,10 +1,7 @@
 -- A line as its caller keeps it, its numbers and its arrays lent to be read; and its numbers as they are parked.
 use Rattle.std.specs.Prelude.{cond, false, eqb}
-use Rattle.integer.specs.CicDecimator.{decimator_of}
-use Rattle.q15.specs.FirDecimator.{fir_state}
-use Rattle.half_band.specs.HbfStream.{stream_of}
 use Rattle.float.specs.F32.{zero32}
-use Rattle.float.specs.PolyphaseResamp as R
+use Rattle.line.specs.Placed.{line_together}
 use Rattle.line.specs.declared.gauge_line.Line.{Line}
 use Rattle.line.specs.declared.lent.LineNumbers.{LineNumbers}
 use Rattle.parking.specs.declared.kept.KeptLine.{KeptLine}
@@ -12,17 +9,7 @@ use Rattle.parking.specs.declared.kept.KeptLine.{KeptLine}
 -- the line of these numbers and the arrays of k
 abbrev pub line_by : LineNumbers → KeptLine → Line
 line_by n k =
-    let s = n.settings in
-    let c = n.clock in
-    record {
-      thinning = s.thinning;
-      cic = decimator_of s.stages s.r k.integrators.now k.combs.now c.sample_counter;
-      neighbours = k.neighbours.now;
-      fir = fir_state k.taps.now n.tap_count s.factor k.fir_delay.now c.wait;
-      half_band = stream_of s.depth k.delays.now k.held.now k.counts.now;
-      resampler = R.together s.straight s.phases s.taps c.mu s.step k.delay.now k.prototype.now;
-      cuts = c.cuts;
-    }
+    line_together n k.integrators.now k.combs.now k.neighbours.now k.taps.now k.fir_delay.now k.delays.now k.held.now k.counts.now k.delay.now k.prototype.now
 
 abbrev pub line_kept : KeptLine → Line
 line_kept k = line_by k.numbers k

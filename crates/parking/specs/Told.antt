@@ -1,9 +1,9 @@
 -- What the code's settings tell, and a line's entries by the kind of thinning: those of neighbours have an empty first one and one more.
-use Rattle.std.specs.Prelude.{◌≡◌, ◌<◌, length, List, [], ℕ}
+use Rattle.std.specs.Prelude.{◌≡◌, ◌<◌, ◌+◌, ◌*◌, length, List, [], ◌∷◌, ℕ}
 use Rattle.nonrecursive.specs.declared.thinning.Thinning.{Thinning}
 use Rattle.nonrecursive.specs.declared.thinning.Thinning.TheVariants as thinning
 use Rattle.line.specs.declared.gauge_line.Line.{Line}
-use Rattle.parking.specs.Parked.{Settings, sizes, thin_sizes}
+use Rattle.parking.specs.Parked.{Settings, sizes, thin_sizes, half_band_bytes, neighbour_count}
 use Rattle.parking.specs.Entries.{fir_on, resampler_on, cic_bytes, neighbours_bytes, settings_in, entries_by}
 use Rattle.words.specs.Fields.{IsFloat}
 use Rattle.parking.specs.Limits.{InLimits, ArrayLengths}
@@ -31,6 +31,20 @@ count_by thinning.Neighbours = 8
 abbrev pub sizes_by : Thinning → Settings → List ℕ
 sizes_by thinning.Integrators q = sizes q
 sizes_by thinning.Neighbours q = thin_sizes q
+
+-- how long the CIC entry is, and the entry of the neighbours
+abbrev pub first_size : Thinning → ℕ → ℕ
+first_size thinning.Integrators stages = 2 + 8 * stages
+first_size thinning.Neighbours stages = 0
+
+abbrev pub last_size : Thinning → ℕ → ℕ → ℕ
+last_size thinning.Integrators stages r = 0
+last_size thinning.Neighbours stages r = 2 + 4 * neighbour_count stages r
+
+-- the sizes of eight entries, of which the last is empty where the kind has seven
+abbrev pub all_sizes : Thinning → Settings → List ℕ
+all_sizes k q =
+    24 ∷ first_size k q.stages ∷ (2 * q.taps) ∷ (2 + 2 * q.taps) ∷ half_band_bytes q.depth ∷ (4 * (q.phases * q.cells)) ∷ (4 + 4 * q.cells) ∷ last_size k q.stages q.r ∷ []
 
 -- the line with its parts that are off as zeros, and its entries
 abbrev pub on : Line → Line

@@ -1,141 +1,157 @@
-// The entries of a line, each laid behind what stands before it.
+// The entries of a line, each written into a span that is as long as it is.
 ghost use Rattle.std.specs.Prelude.{◌≡◌, ◌++◌, ◌+◌, ◌*◌, ◌≤◌, ◌<◌, length};
 ghost use Rattle.q15.specs.FirDecimator.{most_taps};
 ghost use Rattle.sheet.specs.Sheet.{bytes16};
 ghost use Rattle.words.specs.Fields.{joined};
-ghost use Rattle.words.specs.Puts.{Puts};
 ghost use Rattle.parking.specs.Entries as E;
 ghost use Rattle.parking.specs.Kept.{line_kept};
 ghost use Rattle.parking.specs.Parked as P;
-ghost use Rattle.parking.specs.Told.{numbers_of, first_bytes, last_bytes};
+ghost use Rattle.parking.specs.Told.{numbers_of, first_bytes, first_size, last_bytes, last_size};
 
 use crate::kept::KeptLine;
-use crate::put::{put, put_all};
-use crate::settings::{ParkedSettings, halvings, window};
+use crate::put::put_all;
+use crate::settings::{ParkedSettings, half_band_bytes, halvings, window};
 use nonrecursive::Thinning;
 use sheet::fields::bytes16;
+use sheet::lay;
 use words::bits_of_f32;
 
 // Numbers of 16 bits.
-fn put_numbers(span: &mut [u8], at: usize, numbers: &[usize]) -> usize
-    requires { at + 2 * length numbers.now ≤ length span.old }
-    ensures { Puts at (joined bytes16 numbers.now) span.old span.new result }
+fn put_numbers(span: &mut [u8], numbers: &[usize])
+    requires { length span.old ≡ 2 * length numbers.now }
+    ensures { span.new ≡ joined bytes16 numbers.now }
 {
     for (i, n) in numbers.iter().enumerate() {
-        put(span, at + 2 * i, &bytes16(*n));
+        lay(span, 2 * i, &bytes16(*n));
     }
-    at + 2 * numbers.len()
 }
 
-pub(crate) fn put_settings(span: &mut [u8], at: usize, q: &ParkedSettings) -> usize
-    requires { at + 24 ≤ length span.old }
-    ensures { Puts at (P.settings_bytes (numbers_of q.now)) span.old span.new result }
+pub(crate) fn put_settings(span: &mut [u8], q: &ParkedSettings)
+    requires { length span.old ≡ 24 }
+    ensures { span.new ≡ P.settings_bytes (numbers_of q.now) }
 {
     let numbers = [
         q.stages, q.r, q.taps, q.factor, q.depth, q.phases, q.cells, q.straight,
     ];
-    let at = put_numbers(span, at, &numbers);
-    let at = put(span, at, &q.step.to_le_bytes());
-    put(span, at, &q.cuts.to_le_bytes())
+    let (front, behind) = span.split_at_mut(16);
+    let (step, cuts) = behind.split_at_mut(4);
+    put_numbers(front, &numbers);
+    step.copy_from_slice(&q.step.to_le_bytes());
+    cuts.copy_from_slice(&q.cuts.to_le_bytes());
 }
 
-fn put_cic(span: &mut [u8], at: usize, k: &KeptLine<'_>) -> usize
-    requires { let d = (line_kept k.now).cic in (d.stages ≤ 8) × (at + length (E.cic_bytes d) ≤ length span.old) }
-    ensures { Puts at (E.cic_bytes (line_kept k.now).cic) span.old span.new result }
+#[tactic(auto, unfolding(crate::specs::Entries::cic_bytes))]
+fn put_cic(span: &mut [u8], k: &KeptLine<'_>)
+    requires { let d = (line_kept k.now).cic in (d.stages ≤ 8) × (length span.old ≡ 2 + 8 * d.stages) }
+    ensures { span.new ≡ E.cic_bytes (line_kept k.now).cic }
 {
     let n = k.numbers.settings.stages;
     let integrators = k.integrators;
     let combs = k.combs;
-    let at = put(span, at, &bytes16(k.numbers.clock.sample_counter));
-    let at = put_all(span, at, &integrators[..n]);
-    put_all(span, at, &combs[..n])
+    let (counter, behind) = span.split_at_mut(2);
+    let (front, back) = behind.split_at_mut(4 * n);
+    counter.copy_from_slice(&bytes16(k.numbers.clock.sample_counter));
+    put_all(front, &integrators[..n]);
+    put_all(back, &combs[..n]);
 }
 
 // The CIC entry, of a line of neighbours an empty one.
-#[tactic(auto, using(words::proofs::Putting::puts_none))]
-pub(crate) fn put_first(span: &mut [u8], at: usize, k: &KeptLine<'_>) -> usize
-    requires { (k.now.numbers.settings.stages ≤ 8) × (at + length (first_bytes (line_kept k.now)) ≤ length span.old) }
-    ensures { Puts at (first_bytes (line_kept k.now)) span.old span.new result }
+pub(crate) fn put_first(span: &mut [u8], k: &KeptLine<'_>)
+    requires { let l = line_kept k.now in (l.cic.stages ≤ 8) × (length span.old ≡ first_size l.thinning l.cic.stages) }
+    ensures { span.new ≡ first_bytes (line_kept k.now) }
 {
     match k.numbers.settings.thinning {
-        Thinning::Integrators => put_cic(span, at, k),
-        Thinning::Neighbours => at,
+        Thinning::Integrators => put_cic(span, k),
+        Thinning::Neighbours => {}
     }
 }
 
 // The entries of FIR taps and FIR delay.
-pub(crate) fn put_fir(span: &mut [u8], at: usize, k: &KeptLine<'_>) -> usize
-    requires { let f = (line_kept k.now).fir in (f.tap_count ≤ most_taps) × (at + length (E.tap_bytes f ++ E.delay_bytes f) ≤ length span.old) }
-    ensures { let f = (line_kept k.now).fir in Puts at (E.tap_bytes f ++ E.delay_bytes f) span.old span.new result }
+#[tactic(auto, unfolding(crate::specs::Entries::tap_bytes, crate::specs::Entries::delay_bytes))]
+pub(crate) fn put_fir(span: &mut [u8], k: &KeptLine<'_>)
+    requires { let f = (line_kept k.now).fir in (f.tap_count ≤ most_taps) × (length span.old ≡ 2 * f.tap_count + (2 + 2 * f.tap_count)) }
+    ensures { let f = (line_kept k.now).fir in span.new ≡ E.tap_bytes f ++ E.delay_bytes f }
 {
     let n = k.numbers.tap_count;
     let taps = k.taps;
     let delay = k.fir_delay;
-    let at = put_all(span, at, &taps[..n]);
-    let at = put(span, at, &bytes16(k.numbers.clock.wait));
-    put_all(span, at, &delay[..n])
+    let (front, behind) = span.split_at_mut(2 * n);
+    let (wait, back) = behind.split_at_mut(2);
+    put_all(front, &taps[..n]);
+    wait.copy_from_slice(&bytes16(k.numbers.clock.wait));
+    put_all(back, &delay[..n]);
 }
 
 // One of the half-band stages.
-fn put_stage(span: &mut [u8], at: usize, stage: usize, k: &KeptLine<'_>) -> usize
-    requires { let s = (line_kept k.now).half_band in (stage < 5) × (length s.held ≡ 5) × (at + length (E.stage_bytes s stage) ≤ length span.old) }
-    ensures { Puts at (E.stage_bytes (line_kept k.now).half_band stage) span.old span.new result }
+#[tactic(auto, unfolding(crate::specs::Entries::stage_bytes))]
+fn put_stage(span: &mut [u8], stage: usize, k: &KeptLine<'_>)
+    requires { (stage < 5) × (length (line_kept k.now).half_band.held ≡ 5) × (length span.old ≡ 6 + 4 * E.window_of stage) }
+    ensures { span.new ≡ E.stage_bytes (line_kept k.now).half_band stage }
 {
     let from = 96 * stage;
     let counts = k.counts;
     let held = k.held;
     let delays = k.delays;
-    let at = put(span, at, &bytes16(counts[stage]));
-    let at = put(span, at, &bits_of_f32(held[stage]).to_le_bytes());
-    put_all(span, at, &delays[from..from + window(stage)])
+    let (count, behind) = span.split_at_mut(2);
+    let (sample, back) = behind.split_at_mut(4);
+    count.copy_from_slice(&bytes16(counts[stage]));
+    sample.copy_from_slice(&bits_of_f32(held[stage]).to_le_bytes());
+    put_all(back, &delays[from..from + window(stage)]);
 }
 
-// The half-band entry.
-pub(crate) fn put_half_band(span: &mut [u8], at: usize, k: &KeptLine<'_>) -> usize
-    requires { let s = (line_kept k.now).half_band in (s.depth ≤ 5) × (length s.held ≡ 5) × (at + length (E.stages_bytes s s.depth) ≤ length span.old) }
-    ensures { let s = (line_kept k.now).half_band in Puts at (E.stages_bytes s s.depth) span.old span.new result }
+// The half-band entry. By the stages' numbers, since by these go their places.
+pub(crate) fn put_half_band(span: &mut [u8], k: &KeptLine<'_>)
+    requires { let s = (line_kept k.now).half_band in (s.depth ≤ 5) × (length s.held ≡ 5) × (length span.old ≡ P.half_band_bytes s.depth) }
+    ensures { let s = (line_kept k.now).half_band in span.new ≡ E.stages_bytes s s.depth }
 {
-    let mut behind = at;
     for stage in 0..k.numbers.settings.depth {
-        behind = put_stage(span, behind, stage, k);
+        put_stage(
+            &mut span[half_band_bytes(stage)..half_band_bytes(stage + 1)],
+            stage,
+            k,
+        );
     }
-    behind
 }
 
 // The entries of the prototype and the resampler.
-pub(crate) fn put_resampler(span: &mut [u8], at: usize, k: &KeptLine<'_>) -> usize
+#[tactic(auto, unfolding(crate::specs::Entries::prototype_bytes, crate::specs::Entries::resampler_bytes))]
+pub(crate) fn put_resampler(span: &mut [u8], k: &KeptLine<'_>)
     requires { let p = (line_kept k.now).resampler in
-        (p.phases ≤ 64) × (p.taps ≤ 16) × (at + length (E.prototype_bytes p ++ E.resampler_bytes p) ≤ length span.old) }
-    ensures { let p = (line_kept k.now).resampler in Puts at (E.prototype_bytes p ++ E.resampler_bytes p) span.old span.new result }
+        (p.phases ≤ 64) × (p.taps ≤ 16) × (length span.old ≡ 4 * (p.phases * p.taps) + (4 + 4 * p.taps)) }
+    ensures { let p = (line_kept k.now).resampler in span.new ≡ E.prototype_bytes p ++ E.resampler_bytes p }
 {
     let s = k.numbers.settings;
+    let cells = s.phases * s.taps;
     let prototype = k.prototype;
     let delay = k.delay;
-    let at = put_all(span, at, &prototype[..s.phases * s.taps]);
-    let at = put(span, at, &bits_of_f32(k.numbers.clock.mu).to_le_bytes());
-    put_all(span, at, &delay[..s.taps])
+    let (front, behind) = span.split_at_mut(4 * cells);
+    let (mu, back) = behind.split_at_mut(4);
+    put_all(front, &prototype[..cells]);
+    mu.copy_from_slice(&bits_of_f32(k.numbers.clock.mu).to_le_bytes());
+    put_all(back, &delay[..s.taps]);
 }
 
 // "its place and then N neighbours for each halving"
-fn put_neighbours(span: &mut [u8], at: usize, k: &KeptLine<'_>) -> usize
-    requires { let l = line_kept k.now in (l.cic.stages ≤ 8) × (l.cic.r ≤ 4096) × (at + length (E.neighbours_bytes l.cic l.neighbours) ≤ length span.old) }
-    ensures { let l = line_kept k.now in Puts at (E.neighbours_bytes l.cic l.neighbours) span.old span.new result }
+#[tactic(auto, unfolding(crate::specs::Entries::neighbours_bytes, crate::specs::Parked::neighbour_count))]
+fn put_neighbours(span: &mut [u8], k: &KeptLine<'_>)
+    requires { let d = (line_kept k.now).cic in (d.stages ≤ 8) × (d.r ≤ 4096) × (length span.old ≡ 2 + 4 * P.neighbour_count d.stages d.r) }
+    ensures { let l = line_kept k.now in span.new ≡ E.neighbours_bytes l.cic l.neighbours }
 {
     let s = k.numbers.settings;
     let n = s.stages * halvings(s.r);
     let neighbours = k.neighbours;
-    let at = put(span, at, &bytes16(k.numbers.clock.sample_counter));
-    put_all(span, at, &neighbours[..n])
+    let (place, behind) = span.split_at_mut(2);
+    place.copy_from_slice(&bytes16(k.numbers.clock.sample_counter));
+    put_all(behind, &neighbours[..n]);
 }
 
 // The entry that a line of neighbours has more.
-#[tactic(auto, using(words::proofs::Putting::puts_none))]
-pub(crate) fn put_last(span: &mut [u8], at: usize, k: &KeptLine<'_>) -> usize
-    requires { let l = line_kept k.now in (l.cic.stages ≤ 8) × (l.cic.r ≤ 4096) × (at + length (last_bytes l) ≤ length span.old) }
-    ensures { Puts at (last_bytes (line_kept k.now)) span.old span.new result }
+pub(crate) fn put_last(span: &mut [u8], k: &KeptLine<'_>)
+    requires { let l = line_kept k.now in (l.cic.stages ≤ 8) × (l.cic.r ≤ 4096) × (length span.old ≡ last_size l.thinning l.cic.stages l.cic.r) }
+    ensures { span.new ≡ last_bytes (line_kept k.now) }
 {
     match k.numbers.settings.thinning {
-        Thinning::Integrators => at,
-        Thinning::Neighbours => put_neighbours(span, at, k),
+        Thinning::Integrators => {}
+        Thinning::Neighbours => put_neighbours(span, k),
     }
 }

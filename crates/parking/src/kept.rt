@@ -2,24 +2,24 @@
 ghost use Rattle.std.specs.Prelude.{◌≡◌};
 ghost use Rattle.parking.specs.Kept.{line_kept};
 
-use float::settings::{MOST_CELLS, MOST_TAPS as MOST_PHASE_TAPS};
-use half_band::{DEC_CASCADE_DELAYS, MOST_STAGES};
-use integer::limits::MAX_STAGES;
+use float::settings::{MOST_CELLS, MOST_PHASE_TAPS};
+use half_band::{DEC_CASCADE_DELAYS, MOST_DEPTH};
+use integer::limits::MOST_STAGES;
 use line::{Line, LineNumbers, numbers_in};
-use nonrecursive::nonrecursive_decimator::MAX_NEIGHBOURS;
+use nonrecursive::nonrecursive_decimator::MOST_NEIGHBOURS;
 use q15::MOST_TAPS;
 
 #[derive(Clone, Copy)]
 pub struct KeptLine<'a> {
     pub numbers: LineNumbers,
-    pub integrators: &'a [i32; MAX_STAGES],
-    pub combs: &'a [i32; MAX_STAGES],
-    pub neighbours: &'a [i32; MAX_NEIGHBOURS],
+    pub integrators: &'a [i32; MOST_STAGES],
+    pub combs: &'a [i32; MOST_STAGES],
+    pub neighbours: &'a [i32; MOST_NEIGHBOURS],
     pub taps: &'a [i16; MOST_TAPS],
     pub fir_delay: &'a [i16; MOST_TAPS],
     pub delays: &'a [f32; DEC_CASCADE_DELAYS],
-    pub held: &'a [f32; MOST_STAGES],
-    pub counts: &'a [usize; MOST_STAGES],
+    pub held: &'a [f32; MOST_DEPTH],
+    pub counts: &'a [usize; MOST_DEPTH],
     pub delay: &'a [f32; MOST_PHASE_TAPS],
     pub prototype: &'a [f32; MOST_CELLS],
 }

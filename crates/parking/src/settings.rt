@@ -1,14 +1,14 @@
 // What stands in the settings entry, and the lengths that it makes.
-ghost use Rattle.std.specs.Prelude.{◌≡◌, ◌<◌, ◌≤◌, take, sum};
+ghost use Rattle.std.specs.Prelude.{◌≡◌, ◌<◌, ◌≤◌, sum};
 ghost use Rattle.nonrecursive.specs.NonrecursiveDecimator as D;
 ghost use Rattle.parking.specs.Entries as E;
 ghost use Rattle.parking.specs.Limits.{InWords};
 ghost use Rattle.parking.specs.Parked as P;
 ghost use Rattle.parking.specs.Kept.{line_by};
-ghost use Rattle.parking.specs.Told.{numbers_of, count_by, settings_by, sizes_by};
+ghost use Rattle.parking.specs.Told.{numbers_of, count_by, settings_by, all_sizes};
 ghost use Rattle.parking.specs.declared.kept.KeptLine.{KeptLine};
 
-use half_band::MOST_STAGES;
+use half_band::MOST_DEPTH;
 use line::LineNumbers;
 use nonrecursive::Thinning;
 use words::bits_of_f32;
@@ -22,22 +22,23 @@ pub struct ParkedSettings {
     pub depth: usize,
     pub phases: usize,
     pub cells: usize,
+    // The entry's word, which in a sheet may be any: over 1 is refused by row 15 when it is taken up.
     pub straight: usize,
     pub step: u32,
     pub cuts: u32,
 }
 
 // The delays of each half-band stage, 4M.
-const WINDOWS: [usize; MOST_STAGES] = [12, 16, 20, 40, 92];
+const WINDOWS: [usize; MOST_DEPTH] = [12, 16, 20, 40, 92];
 
 // The bytes of the half-band entry at each depth: 6 + 16M for a stage.
-const HALF_BAND_BYTES: [usize; MOST_STAGES + 1] = [0, 54, 124, 210, 376, 750];
+const HALF_BAND_BYTES: [usize; MOST_DEPTH + 1] = [0, 54, 124, 210, 376, 750];
 
 // How many delays half-band stage k has; a stage that there is not has none.
 pub fn window(k: usize) -> usize
     ensures { result ≡ E.window_of k }
 {
-    if k < MOST_STAGES { WINDOWS[k] } else { 0 }
+    if k < MOST_DEPTH { WINDOWS[k] } else { 0 }
 }
 
 // How many bytes the half-band entry has; "a depth over 5 counts as 5".
@@ -45,7 +46,7 @@ pub fn window(k: usize) -> usize
 pub fn half_band_bytes(depth: usize) -> usize
     ensures { result ≡ P.half_band_bytes depth }
 {
-    HALF_BAND_BYTES[depth.min(MOST_STAGES)]
+    HALF_BAND_BYTES[depth.min(MOST_DEPTH)]
 }
 
 // How often r can be halved, rounded down, so that at least 1 is left.
@@ -96,10 +97,10 @@ impl ParkedSettings {
     }
 
     // How long each entry is: the neighbours' comes last, and of another line there is none.
-    #[tactic(auto, unfolding(crate::specs::Parked::sizes, crate::specs::Parked::thin_sizes, crate::specs::Parked::neighbour_count))]
+    #[tactic(auto, unfolding(crate::specs::Parked::neighbour_count))]
     pub(crate) fn sizes(&self, thinning: Thinning) -> [usize; 8]
         requires { InWords (numbers_of self.now) }
-        ensures { take (count_by thinning) result ≡ sizes_by thinning (numbers_of self.now) }
+        ensures { result ≡ all_sizes thinning (numbers_of self.now) }
     {
         let (first, last) = match thinning {
             Thinning::Integrators => (2 + 8 * self.stages, 0),

@@ -1,24 +1,23 @@
 // 02, request 6: "Write a line's settings, taps and whole record as a tap sheet of seven entries"; of eight, by request 13, where neighbours are summed: "the CIC one empty,
 // the last holding its place" and the neighbours.
-ghost use Rattle.std.specs.Prelude.{◌≡◌, ◌≤◌, ◌<◌, length, take};
+ghost use Rattle.std.specs.Prelude.{◌≡◌, ◌≤◌, ◌<◌, length, take, sum, IfOk};
 ghost use Rattle.refusal.specs.Outcome.{count_answer};
-ghost use Rattle.sheet.specs.Laid.{laid};
 ghost use Rattle.sheet.specs.Sheet as S;
 ghost use Rattle.words.specs.Fields.{IsFloat};
 ghost use Rattle.parking.specs.Kept.{line_by, line_kept, fir_numbers, resampler_numbers, numbers_on};
 ghost use Rattle.parking.specs.Older.{ForOlder};
 ghost use Rattle.parking.specs.Parked as P;
 ghost use Rattle.parking.specs.Parking as K;
-ghost use Rattle.parking.specs.Told.{Fine, Lengths, parts};
+ghost use Rattle.parking.specs.Told.{Fine, Lengths, all_sizes, numbers_of, parts, settings_by};
 
 use crate::entries::{put_fir, put_first, put_half_band, put_last, put_resampler, put_settings};
 use crate::kept::KeptLine;
 use crate::settings::{ParkedSettings, entry_count, total};
-use float::settings::{MOST_CELLS, MOST_TAPS as MOST_PHASE_TAPS};
-use half_band::{DEC_CASCADE_DELAYS, MOST_STAGES};
-use integer::limits::MAX_STAGES;
+use float::settings::{MOST_CELLS, MOST_PHASE_TAPS};
+use half_band::{DEC_CASCADE_DELAYS, MOST_DEPTH};
+use integer::limits::MOST_STAGES;
 use line::{Clock, Line, LineNumbers, Settings, numbers_valid};
-use nonrecursive::nonrecursive_decimator::MAX_NEIGHBOURS;
+use nonrecursive::nonrecursive_decimator::MOST_NEIGHBOURS;
 use q15::MOST_TAPS;
 use refusal::Refusal;
 use sheet::lay_directory;
@@ -61,16 +60,17 @@ fn resampler_parked(n: LineNumbers) -> LineNumbers
     n
 }
 
-// What their types say of the fields of a line, which no struct carries: this call hands the facts over and compiles to nothing.
+// What their types say of the fields of a line: this call hands the facts over and compiles to nothing. A ghost field of `KeptLine` would only move it to `KeptLine::of`, which
+// lends a line's arrays: behind `&Line` a proof does not know their lengths.
 fn typed(
-    integrators: &[i32; MAX_STAGES],
-    combs: &[i32; MAX_STAGES],
-    neighbours: &[i32; MAX_NEIGHBOURS],
+    integrators: &[i32; MOST_STAGES],
+    combs: &[i32; MOST_STAGES],
+    neighbours: &[i32; MOST_NEIGHBOURS],
     taps: &[i16; MOST_TAPS],
     fir_delay: &[i16; MOST_TAPS],
     delays: &[f32; DEC_CASCADE_DELAYS],
-    held: &[f32; MOST_STAGES],
-    counts: &[usize; MOST_STAGES],
+    held: &[f32; MOST_DEPTH],
+    counts: &[usize; MOST_DEPTH],
     delay: &[f32; MOST_PHASE_TAPS],
     prototype: &[f32; MOST_CELLS],
     step: f32,
@@ -106,7 +106,7 @@ fn parked<'a>(k: &KeptLine<'a>) -> KeptLine<'a>
     KeptLine { numbers, ..*k }
 }
 
-// Where the data of a sheet of n entries begin.
+// Where the data of a sheet of n entries begin. Beside sheet's own, which asks for few entries too: a public function asks for nothing.
 fn data_from(n: usize) -> usize
     requires { n ≤ 32 }
     ensures { result ≡ S.data_from n }
@@ -125,23 +125,38 @@ fn sheet_len(k: &KeptLine<'_>) -> usize
     data_from(count) + total(&sizes[..count])
 }
 
+// The entries of such a line, one behind the other.
+fn put_entries(span: &mut [u8], sizes: &[usize; 8], q: &ParkedSettings, k: &KeptLine<'_>)
+    requires { let l = line_kept k.now in
+        (Fine l) × (numbers_of q.now ≡ settings_by l) × (sizes.now ≡ all_sizes l.thinning (settings_by l)) × (length span.old ≡ sum (all_sizes l.thinning (settings_by l))) }
+    ensures { span.new ≡ P.flat (parts (line_kept k.now)) }
+{
+    let (settings, behind) = span.split_at_mut(24);
+    let (first, behind) = behind.split_at_mut(sizes[1]);
+    let (fir, behind) = behind.split_at_mut(sizes[2] + sizes[3]);
+    let (half_band, behind) = behind.split_at_mut(sizes[4]);
+    let (resampler, last) = behind.split_at_mut(sizes[5] + sizes[6]);
+    put_settings(settings, q);
+    put_first(first, k);
+    put_fir(fir, k);
+    put_half_band(half_band, k);
+    put_resampler(resampler, k);
+    put_last(last, k);
+}
+
 // The whole sheet of such a line.
 fn put_line(span: &mut [u8], k: &KeptLine<'_>)
-    requires { (Fine (line_kept k.now)) × (length (P.parked S.Rule.present (parts (line_kept k.now))) ≤ length span.old) }
-    ensures { span.new ≡ laid 0 (P.parked S.Rule.present (parts (line_kept k.now))) span.old }
+    requires { (Fine (line_kept k.now)) × (length span.old ≡ length (P.parked S.Rule.present (parts (line_kept k.now)))) }
+    ensures { span.new ≡ P.parked S.Rule.present (parts (line_kept k.now)) }
 {
     let thinning = k.numbers.settings.thinning;
     let q = ParkedSettings::of(k.numbers);
     let count = entry_count(thinning);
     let sizes = q.sizes(thinning);
     let lengths = &sizes[..count];
-    lay_directory(span, lengths, total(lengths));
-    let at = put_settings(span, data_from(count), &q);
-    let at = put_first(span, at, k);
-    let at = put_fir(span, at, k);
-    let at = put_half_band(span, at, k);
-    let at = put_resampler(span, at, k);
-    put_last(span, at, k);
+    let (directory, entries) = span.split_at_mut(data_from(count));
+    lay_directory(directory, lengths, total(lengths));
+    put_entries(entries, &sizes, &q, k);
 }
 
 // `parked_len` of a line whose fields are lent apart.
@@ -158,13 +173,13 @@ pub fn parked_len_kept(k: &KeptLine<'_>) -> Result<usize, Refusal>
 pub fn park_kept(k: &KeptLine<'_>, span: &mut [u8]) -> Result<usize, Refusal>
     ensures answer { count_answer result ≡ K.park_answer P.panel (line_kept k.now) (length span.old) }
     ensures span { span.new ≡ K.park_span P.panel (line_kept k.now) span.old }
-    ensures older { (count_answer result).number ≡ 0 → ForOlder (line_kept k.now) (take (count_answer result).value span.new) }
+    ensures older { IfOk result (λ n. ForOlder (line_kept k.now) (take n span.new)) }
 {
     let size = parked_len_kept(k)?;
     if span.len() < size {
         return Err(Refusal::Entries);
     }
-    put_line(span, &parked(k));
+    put_line(&mut span[..size], &parked(k));
     Ok(size)
 }
 
@@ -180,7 +195,7 @@ pub fn parked_len(line: &Line) -> Result<usize, Refusal>
 pub fn park(line: &Line, span: &mut [u8]) -> Result<usize, Refusal>
     ensures answer { count_answer result ≡ K.park_answer P.panel line.now (length span.old) }
     ensures span { span.new ≡ K.park_span P.panel line.now span.old }
-    ensures older { (count_answer result).number ≡ 0 → ForOlder line.now (take (count_answer result).value span.new) }
+    ensures older { IfOk result (λ n. ForOlder line.now (take n span.new)) }
 {
     park_kept(&KeptLine::of(line), span)
 }

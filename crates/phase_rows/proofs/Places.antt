@@ -1,6 +1,6 @@
 -- The two rearrangements of a prototype are one, with P and T exchanged: a place is a number of two digits, to the bases P and T, and is written anew with the digits exchanged.
 use mathlib.Core.Path.{◌≡◌, refl, sym, ap, ap₂, ◌∙◌, subst}
-use mathlib.Core.Bool.{Bool, true, false}
+use mathlib.Core.Bool.{Bool, true, false, ◌&&◌}
 use mathlib.Core.List.{List, [], ◌∷◌, ◌++◌}
 use Prim.Native.Nat.{ℕ, zero, suc, ◌+◌, ◌*◌, ◌/◌, ◌%◌, ◌≤◌, ◌<◌}
 use native.Mathlib.Nat.{mul_comm, mul-zero, mod-lt, div-add-mod', div-lt_iff_lt-mul}
@@ -11,6 +11,8 @@ use lib.Arith.{digits_lt, digits_div, digits_mod}
 use lib.ListN.{length, get_or, take, get_or-append}
 use lib.Seq.{take-suc, take_all, get_or_at}
 use lib.Ieee.{Float, nan}
+use Rattle.float.specs.PolyphaseResamp.{in_limits}
+use Rattle.float.proofs.PolyphaseOutput.{limits_say}
 use Rattle.theory.specs.Lists.{listed}
 use Rattle.theory.proofs.Listed.{length_listed}
 use Rattle.std.proofs.lemmas.Bool.{and_parts}
@@ -106,10 +108,14 @@ rearranges P T h e =
     }
 
 -- ---- the calls
--- what 13 leaves
-pub lengths_say : (P T n m : ℕ) → lengths_fit P T n m ≡ true → (n ≡ P * T) × (m ≡ P * T)
+-- what 12 and 13 leave, to be turned in either direction
+pub passed : (P T n m : ℕ) → (in_limits P T && lengths_fit P T n m) ≡ true → ((P ≤ 64) × (T ≤ 64) × (n ≡ P * T) × (m ≡ P * T)) × ((T ≤ 64) × (P ≤ 64) × (n ≡ T * P) × (m ≡ T * P))
 unfolding lengths_fit
-lengths_say P T n m h =
-    let b = and_parts (eqb n (P * T)) (eqb m n) h in
-    let e = eqb-true n (P * T) b.0 in
-    (e, eqb-true m n b.1 ∙ e)
+passed P T n m h =
+    let b = and_parts (in_limits P T) (lengths_fit P T n m) h in
+    let l = limits_say P T b.0 in
+    let e = and_parts (eqb n (P * T)) (eqb m n) b.1 in
+    let src = eqb-true n (P * T) e.0 in
+    let dst = eqb-true m n e.1 ∙ src in
+    let turned = mul_comm P T in
+    ((omega (arith, l), omega (arith, l), src, dst), (omega (arith, l), omega (arith, l), src ∙ turned, dst ∙ turned))

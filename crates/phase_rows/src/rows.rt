@@ -35,6 +35,7 @@ fn places(phases: usize, taps: usize, prototype: usize, span: usize) -> Result<u
 }
 
 // A prototype with tap t of phase p at t × P + p, put into rows, one for each phase: tap t of phase p at p × T + t. Refused by 12 and 13.
+#[tactic(auto, using(crate::proofs::Places::passed))]
 pub fn prototype_by_phase(
     phases: usize,
     taps: usize,
@@ -52,6 +53,7 @@ pub fn prototype_by_phase(
 }
 
 // The inverse: rows, one for each phase, put back into a prototype with tap t of phase p at t × P + p. Refused by 12 and 13. Two names of the paper over one turn.
+#[tactic(auto, using(crate::proofs::Places::passed))]
 pub fn prototype_by_tap(
     phases: usize,
     taps: usize,

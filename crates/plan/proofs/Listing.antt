@@ -1,13 +1,10 @@
 -- A plan's result list, filled call by call: what stands in front and then the counts of the calls to come are the counts of all.
-use mathlib.Core.Path.{◌≡◌, refl, sym, ap, ap₂, ◌∙◌}
-use mathlib.Core.List.{List, [], ◌∷◌, ◌++◌, append-nil, append_assoc, map}
-use Prim.Native.Nat.{ℕ, suc, ◌+◌, ◌≤◌, ◌<◌}
-use native.Mathlib.Numerals.{add-one}
-use native.Mathlib.Omega.{arith}
-use lib.ListN.{length, get_or, set, take, drop, length-set, drop_of_length-le}
-use lib.Seq.{take-suc-set, take_all, drop-cons}
+use mathlib.Core.Path.{◌≡◌}
+use mathlib.Core.List.{List, ◌++◌, map}
+use Prim.Native.Nat.{ℕ}
+use lib.ListN.{length, take, drop}
 use Rattle.refusal.specs.declared.Moved.{Moved}
-use Rattle.plan.specs.Ticking.{count_feed, moved_by, count_feeds}
+use Rattle.plan.specs.Ticking.{count_feeds}
 use Rattle.plan.specs.declared.counting.Clock.{Clock}
 
 module _ (get : Moved → ℕ) (c₀ : Clock) (pieces spans : List ℕ) where

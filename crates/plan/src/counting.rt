@@ -17,12 +17,14 @@ pub struct Clock {
     pub left: usize,
     // Samples from one such value to the next.
     pub period: usize,
-    // Whether there is a resampler. Without one a value is written as it comes; step and mu are zeros then, as the definition has them, and no Option.
+    // Whether there is a resampler. Without one a value is written as it comes, and step and mu are zeros. An Option of the two is no plainer: `feed` adds the step
+    // where `is_due` said yes, and would have to look into it again.
     pub on: bool,
     pub step: f32,
     pub mu: f32,
 }
 
+// Beside half_band's own `rate_change`, which no other crate sees: to hand it out takes more lines than this one.
 fn two_to(depth: usize) -> usize
     requires { depth ≤ 5 }
     ensures { result ≡ 2 ^ depth }

@@ -13,6 +13,7 @@ use line::opening::answer;
 use refusal::Refusal;
 
 // Each call of a plan, one after the other.
+// By their numbers: behind a zip with `iter_mut` a proof knows of the lists of counts their lengths alone.
 fn feeds_counted(
     clock: &mut Clock,
     pieces: &[usize],
@@ -33,6 +34,7 @@ fn feeds_counted(
 
 // What each call of a plan would take and write, of a line that is opened with these settings, taps and prototype: the lengths of the pieces and of the spans, and
 // the two lists of counts. All refusals of the opening come before 22. A refused plan leaves both lists as they were lent.
+// Settings, taps and prototype stay three: a struct of them would be put together by the caller in C's interface, and taken apart in the first line.
 pub fn feeding_plan(
     settings: Settings,
     taps: &[i16],

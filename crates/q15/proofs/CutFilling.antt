@@ -23,7 +23,8 @@ pub count_append : (k l : List ℤ) → cut_count w16 (k ++ l) ≡ cut_count w16
 count_append [] l = let q : cut_count w16 l ≡ 0 + cut_count w16 l = omega arith in q
 count_append (z ∷ k) l = ap (λ (n : ℕ). cut_one w16 z + n) (count_append k l) ∙ sym (add_assoc (cut_one w16 z) (cut_count w16 k) (cut_count w16 l))
 
-count_few : (l : List ℤ) → cut_count w16 l ≤ length l
+-- no more are cut than there are
+pub count_few : (l : List ℤ) → cut_count w16 l ≤ length l
 count_few [] = omega arith
 count_few (z ∷ l) = go (is_cut w16 z) (count_few l)
   where

@@ -1,13 +1,13 @@
 -- A span that is filled from the front: i outputs stand there, and the rest is as it was.
 use mathlib.Core.Path.{◌≡◌, refl, sym, ap, ap₂, ◌∙◌}
 use mathlib.Core.List.{List, [], ◌∷◌, ◌++◌, append-nil, append_assoc}
-use Prim.Native.Nat.{ℕ, zero, suc, ◌+◌, ◌-◌, ◌≤◌, ◌<◌, min}
+use Prim.Native.Nat.{ℕ, zero, suc, ◌+◌, ◌≤◌, ◌<◌, min}
 use native.Mathlib.Decide.{dec_le}
 use native.Mathlib.Nat.{min-eq_left, min-eq_right, add-zero, add-suc}
 use native.Mathlib.Numerals.{add-one}
 use native.Mathlib.Omega.{arith}
 use lib.IntN.{ℤ}
-use lib.ListN.{length, get_or, set, take, drop, replicate, length-set, length-append, length-drop, length-replicate, replicate-append-replicate, drop_of_length-le}
+use lib.ListN.{length, get_or, set, take, drop, length-set, length-append, length-drop, drop_of_length-le}
 use lib.Seq.{drop-cons, drop-length, drop-drop, take_at, set_at, append_snoc, take-suc, take_all, take-append-le, drop_at}
 use borrow.Rule.Slice.PartMut.{put_mid}
 use Rattle.theory.specs.Lists.{listed}

@@ -16,7 +16,7 @@ pub struct FirBlock {
     pub cuts: usize,
 }
 
-// What a block of no outputs wrote, as a refused one.
+// What a block of no outputs wrote, as a refused one. No `Default`: the name says why both are 0.
 pub const NONE_WRITTEN: FirBlock = FirBlock {
     written: 0,
     cuts: 0,

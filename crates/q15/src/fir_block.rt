@@ -29,6 +29,8 @@ fn block_fits(n: usize, places: usize) -> bool
     n <= MOST_FIR_BLOCK && n <= places
 }
 
+// No bound stands in the settings: they are the numbers of any state, also of one that row 15 refuses, so each function below asks for the bounds that it needs. No struct of
+// bounds that `is_on_tape` makes: `move_down`, `fir_output` and `windows_of` need the taps' alone, and the first two have it of states off the tape too.
 impl FirSettings {
     // Whether the windows stand on a tape without gaps.
     fn is_on_tape(self, wait: usize) -> bool

@@ -5,11 +5,12 @@ ghost use Rattle.refusal.specs.Outcome.{told_opened, told_reset};
 ghost use Rattle.q15.specs.Fixed.{is_cut};
 ghost use Rattle.q15.specs.PolyphaseDecimate.{window_sum, filtered};
 ghost use Rattle.q15.specs.FirDecimator.{most_taps, fir_state, fir_zeros, stored, moved, fir_next, fir_out, fir_sum_out, cut_in, made_value, made_cut};
-ghost use Rattle.q15.specs.FirDecimator.{settings_of, padded, fresh, fir_opened, fir_reset, fir_step, told_step, Streams};
+ghost use Rattle.q15.specs.FirDecimator.{settings_of, fresh, fir_opened, fir_reset, fir_step, told_step, Streams};
 
 use crate::fir_settings::{FirSettings, MOST_TAPS};
 use crate::fir_sum::fir_sum;
 use crate::fixed::{Cut, Q15, cut_q15};
+use crate::padding::padded;
 use refusal::Refusal;
 
 // A FIR decimator between two samples. The window of the next output stands at the front of the delay; wait counts the samples up to and with the one
@@ -87,30 +88,36 @@ pub fn fir_at(
     Some(y)
 }
 
-// The taps, and zeros behind them.
-fn pad(taps: &[i16]) -> [i16; MOST_TAPS]
-    requires { length taps.now ≤ most_taps }
-    ensures { result ≡ padded taps.now }
-{
-    let mut padded = [0; MOST_TAPS];
-    padded[..taps.len()].copy_from_slice(taps);
-    padded
-}
-
 // A decimator before its first sample.
-#[tactic(auto, unfolding(crate::specs::FirDecimator::fresh))]
+#[tactic(auto, unfolding(crate::specs::FirDecimator::fresh, crate::specs::FirDecimator::padded))]
 fn fresh_state(taps: &[i16], factor: usize) -> FirDecimator
     requires { length taps.now ≤ most_taps }
     ensures { result ≡ fresh taps.now factor }
 {
     let t = taps.len();
     FirDecimator {
-        taps: pad(taps),
+        taps: padded(taps, 0),
         tap_count: t,
         factor,
         delay: [0; MOST_TAPS],
         wait: t,
     }
+}
+
+// `FirDecimator::process_sample` for the C function, which is lent the state's arrays: a sample does not pay for moving them.
+pub fn sample_lent(
+    delay: &mut [i16; MOST_TAPS],
+    taps: &[i16; MOST_TAPS],
+    settings: FirSettings,
+    wait: &mut usize,
+    sample: Q15,
+) -> Result<Option<Cut>, Refusal>
+    ensures answer { let before = fir_state taps.now settings.tap_count settings.factor delay.old wait.old in
+        let after = fir_state taps.now settings.tap_count settings.factor delay.new wait.new in
+        told_step result after ≡ fir_step before sample.0 }
+{
+    settings.state_row(*wait)?;
+    Ok(fir_at(delay, taps, settings, wait, sample))
 }
 
 impl FirDecimator {
@@ -166,14 +173,12 @@ impl FirDecimator {
         ensures answer { told_step result self.new ≡ fir_step self.old sample.0 }
     {
         let settings = self.settings();
-        settings.state_row(self.wait)?;
-        let made = fir_at(
+        sample_lent(
             &mut self.delay,
             &self.taps,
             settings,
             &mut self.wait,
             sample,
-        );
-        Ok(made)
+        )
     }
 }

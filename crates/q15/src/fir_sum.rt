@@ -7,7 +7,7 @@ ghost use Rattle.refusal.specs.Rows.{most_block};
 use crate::fixed::floored_product;
 
 // The sum over k of floor(s[k] × c[k] / 32768), for the taps c. It is kept negated: 65,536 products of -32768 by -32768 make 2^31, which an i32 holds only
-// below zero.
+// below zero. The samples go by their index: over a zip a proof does not know that the numbers fit 16 bits.
 pub(crate) fn fir_sum(s: &[i16], c: &[i16]) -> i64
     requires { (length c.now ≤ length s.now) × (length c.now ≤ most_block) }
     ensures { result ≡ fir_sum (λ k. k) c.now (length c.now) s.now 0 }
@@ -19,7 +19,8 @@ pub(crate) fn fir_sum(s: &[i16], c: &[i16]) -> i64
     -i64::from(negated)
 }
 
-// The sum over t of floor(s[t] × c[t × l + p] / 32768), for the samples s: the taps of phase p of l.
+// The sum over t of floor(s[t] × c[t × l + p] / 32768), for the samples s: the taps of phase p of l. Their index starts at the phase and grows
+// by the factor, as 02 asks (request 3), so that no product by the factor is in the loop.
 pub(crate) fn phase_sum(s: &[i16], c: &[i16], p: usize, l: usize) -> i64
     requires { (p < l) × (length s.now * l ≤ length c.now) × (length s.now ≤ most_block) }
     ensures { (result ≡ fir_sum (λ t. t * l + p) c.now (length s.now) s.now 0) × (up result ≤ 2 ^ 31 + dn result) × (dn result ≤ 2 ^ 31 + up result) }

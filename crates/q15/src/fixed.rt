@@ -14,14 +14,6 @@ pub struct Cut {
     pub cut: bool,
 }
 
-// Whether a number is outside the 16-bit range.
-#[tactic(auto, unfolding(crate::specs::Fixed::is_cut))]
-fn outside_q15(x: i64) -> bool
-    ensures { result ≡ is_cut w16 x }
-{
-    x > 32767 || x < -32768
-}
-
 // The end of the range on the side of a number outside it.
 #[tactic(auto, unfolding(crate::specs::Fixed::is_cut, crate::specs::Fixed::cut))]
 fn nearest_end(x: i64) -> i16
@@ -31,21 +23,20 @@ fn nearest_end(x: i64) -> i16
     if x < 0 { -32768 } else { 32767 }
 }
 
-// Section 2, and the end of every FIR sum: held at the ends of the 16-bit range. One test for both ends, so that the compiler makes several of a block at once: a `clamp`
-// and a comparison take twice as long where taps are few.
+// Section 2, and the end of every FIR sum: held at the ends of the 16-bit range. No `clamp` with a comparison behind it: they take twice as long where taps are few.
 #[tactic(auto, unfolding(crate::specs::Fixed::is_cut, crate::specs::Fixed::cut))]
 pub fn cut_q15(x: i64) -> Cut
     ensures { (result.value.0 ≡ cut w16 x) × (result.cut ≡ is_cut w16 x) }
 {
-    if outside_q15(x) {
-        return Cut {
+    match i16::try_from(x) {
+        Ok(kept) => Cut {
+            value: Q15(kept),
+            cut: false,
+        },
+        Err(_) => Cut {
             value: Q15(nearest_end(x)),
             cut: true,
-        };
-    }
-    Cut {
-        value: Q15(x as i16),
-        cut: false,
+        },
     }
 }
 

@@ -7,6 +7,7 @@ pub mod fir_decimator;
 pub mod fir_settings;
 pub mod fir_sum;
 pub mod fixed;
+pub mod padding;
 pub mod polyphase_decimate;
 pub mod polyphase_interpolate;
 pub mod resample_linear;

@@ -38,16 +38,24 @@ fn interpolated_count(n: usize, k: usize, l: usize, m: usize) -> usize
     m.min(c)
 }
 
+// A filter's taps, tap t of phase p at t × l + p, where an output is made for each of l phases.
+#[derive(Clone, Copy)]
+struct Phased<'a> {
+    coeffs: &'a [i16],
+    l: usize,
+    ghost few: { (1 ≤ l) × (l ≤ most_factor) },
+}
+
 // The first outputs of the sample at whose window this is, one at each place. Answers how many of them were cut.
-fn phases(window: &[i16], coeffs: &[i16], l: usize, places: &mut [i16]) -> u32
-    requires { (length places.old ≤ l) × (l ≤ most_factor) × (length window.now * l ≤ length coeffs.now) × (length window.now ≤ most_block) }
-    ensures span { places.new ≡ listed (length places.old) (phase_output coeffs.now l (length window.now) window.now 0) }
-    ensures cuts { result ≡ cut_count w16 (listed (length places.old) (phase_sum coeffs.now l (length window.now) window.now 0)) }
+fn phases(window: &[i16], by: Phased<'_>, places: &mut [i16]) -> u32
+    requires { (length places.old ≤ by.l) × (length window.now * by.l ≤ length by.coeffs.now) × (length window.now ≤ most_block) }
+    ensures span { places.new ≡ listed (length places.old) (phase_output by.entry.coeffs.now by.entry.l (length window.now) window.now 0) }
+    ensures cuts { result ≡ cut_count w16 (listed (length places.old) (phase_sum by.entry.coeffs.now by.entry.l (length window.now) window.now 0)) }
 {
     let mut cuts = 0;
     for (p, place) in places.iter_mut().enumerate() {
-        let sum = phase_sum(window, coeffs, p, l);
-        let scaled = l as i64 * sum;
+        let sum = phase_sum(window, by.coeffs, p, by.l);
+        let scaled = by.l as i64 * sum;
         let made = cut_q15(scaled);
         *place = made.value.0;
         cuts += u32::from(made.cut);
@@ -55,16 +63,17 @@ fn phases(window: &[i16], coeffs: &[i16], l: usize, places: &mut [i16]) -> u32
     cuts
 }
 
-// The same of a sample x where a phase has one tap: with no sum, and 32 bits wide, the compiler makes several at once.
-fn one_tap(x: i16, coeffs: &[i16], l: usize, places: &mut [i16]) -> u32
-    requires { (length places.old ≤ length coeffs.now) × (length places.old ≤ l) × (l ≤ most_factor) }
-    ensures span { places.new ≡ listed (length places.old) (λ p. cut w16 (pos l *ℤ floored_product x (at coeffs.now p))) }
-    ensures cuts { result ≡ cut_count w16 (listed (length places.old) (λ p. pos l *ℤ floored_product x (at coeffs.now p))) }
+// The same of a sample x where a phase has one tap: with no sum, and 32 bits wide, the compiler makes several at once. By the
+// tap's number: in a zip with `iter_mut` a proof sees an iterator in place of the places.
+fn one_tap(x: i16, by: Phased<'_>, places: &mut [i16]) -> u32
+    requires { (length places.old ≤ length by.coeffs.now) × (length places.old ≤ by.l) }
+    ensures span { places.new ≡ listed (length places.old) (λ p. cut w16 (pos by.entry.l *ℤ floored_product x (at by.entry.coeffs.now p))) }
+    ensures cuts { result ≡ cut_count w16 (listed (length places.old) (λ p. pos by.entry.l *ℤ floored_product x (at by.entry.coeffs.now p))) }
 {
     let mut cuts = 0;
     for (p, place) in places.iter_mut().enumerate() {
-        let product = floored_product(x, coeffs[p]);
-        let scaled = l as i32 * product;
+        let product = floored_product(x, by.coeffs[p]);
+        let scaled = by.l as i32 * product;
         let made = cut_q15(i64::from(scaled));
         *place = made.value.0;
         cuts += u32::from(made.cut);
@@ -73,30 +82,31 @@ fn one_tap(x: i16, coeffs: &[i16], l: usize, places: &mut [i16]) -> u32
 }
 
 // `phases`, by the number of taps.
-fn outputs_of(window: &[i16], coeffs: &[i16], l: usize, places: &mut [i16]) -> u32
-    requires { (length places.old ≤ l) × (l ≤ most_factor) × (length window.now * l ≤ length coeffs.now) × (length window.now ≤ most_block) }
-    ensures span { places.new ≡ listed (length places.old) (phase_output coeffs.now l (length window.now) window.now 0) }
-    ensures cuts { result ≡ cut_count w16 (listed (length places.old) (phase_sum coeffs.now l (length window.now) window.now 0)) }
+fn outputs_of(window: &[i16], by: Phased<'_>, places: &mut [i16]) -> u32
+    requires { (length places.old ≤ by.l) × (length window.now * by.l ≤ length by.coeffs.now) × (length window.now ≤ most_block) }
+    ensures span { places.new ≡ listed (length places.old) (phase_output by.entry.coeffs.now by.entry.l (length window.now) window.now 0) }
+    ensures cuts { result ≡ cut_count w16 (listed (length places.old) (phase_sum by.entry.coeffs.now by.entry.l (length window.now) window.now 0)) }
 {
     match window {
-        [x] => one_tap(*x, coeffs, l, places),
-        _ => phases(window, coeffs, l, places),
+        [x] => one_tap(*x, by, places),
+        _ => phases(window, by, places),
     }
 }
 
-// An output at each place, by k taps to a phase. Answers how many of them were cut.
-fn interpolate(src: &[i16], coeffs: &[i16], l: usize, k: usize, dst: &mut [i16]) -> u32
-    requires { (0 < l) × (l ≤ most_factor) × (k * l ≤ length coeffs.now) × (k ≤ most_block) × (length src.now ≤ most_block) × (length dst.old ≤ most_block)
-        × ((i p : ℕ) → i * l + p < length dst.old → i + k ≤ length src.now) }
-    ensures span { dst.new ≡ listed (length dst.old) (λ j. phase_output coeffs.now l k src.now (j / l) (j % l)) }
-    ensures cuts { result ≡ cut_count w16 (listed (length dst.old) (λ j. phase_sum coeffs.now l k src.now (j / l) (j % l))) }
+// An output at each place, by k taps to a phase. Answers how many of them were cut. By the sample's number: of what stands behind chunks_mut a proof knows the
+// lengths alone.
+fn interpolate(src: &[i16], by: Phased<'_>, k: usize, dst: &mut [i16]) -> u32
+    requires { (k * by.l ≤ length by.coeffs.now) × (length src.now ≤ most_block) × (length dst.old ≤ most_block)
+        × ((i p : ℕ) → i * by.l + p < length dst.old → i + k ≤ length src.now) }
+    ensures span { dst.new ≡ listed (length dst.old) (λ j. phase_output by.entry.coeffs.now by.entry.l k src.now (j / by.entry.l) (j % by.entry.l)) }
+    ensures cuts { result ≡ cut_count w16 (listed (length dst.old) (λ j. phase_sum by.entry.coeffs.now by.entry.l k src.now (j / by.entry.l) (j % by.entry.l))) }
 {
     let count = dst.len();
     let mut from = 0;
     let mut cuts = 0;
-    for i in 0..count.div_ceil(l) {
-        let past = count.min(from + l);
-        let more = outputs_of(&src[i..i + k], coeffs, l, &mut dst[from..past]);
+    for i in 0..count.div_ceil(by.l) {
+        let past = count.min(from + by.l);
+        let more = outputs_of(&src[i..i + k], by, &mut dst[from..past]);
         cuts += more;
         from = past;
     }
@@ -121,6 +131,10 @@ pub fn polyphase_interpolate_q15(
     interpolate_rows(interpolation_factor, t, n, m)?;
     let k = t / interpolation_factor;
     let written = interpolated_count(n, k, interpolation_factor, m);
-    let cuts = interpolate(src, coeffs, interpolation_factor, k, &mut dst[..written]) as usize;
+    let by = Phased {
+        coeffs,
+        l: interpolation_factor,
+    };
+    let cuts = interpolate(src, by, k, &mut dst[..written]) as usize;
     Ok(FirBlock { written, cuts })
 }

@@ -73,10 +73,8 @@ fn resample(src: &[i16], ratio: usize, dst: &mut [i16])
     requires { (0 < length src.now) × (length src.now ≤ most_block) × (ratio < 2 ^ 31) × (length dst.old ≤ most_block) }
     ensures { dst.new ≡ listed (length dst.old) (λ i. linear_at src.now (i * ratio)) }
 {
-    let mut position = 0;
-    for place in dst.iter_mut() {
-        *place = linear_at(src, position).0;
-        position += ratio;
+    for (i, place) in dst.iter_mut().enumerate() {
+        *place = linear_at(src, i * ratio).0;
     }
 }
 

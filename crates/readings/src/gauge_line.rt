@@ -6,7 +6,7 @@ use refusal::{Moved, Refusal};
 use std::io;
 use std::io::Write;
 
-// The first so many levels of a span.
+// The first so many levels of a span, by `take`: a part `span[..written]` would want a bound of a count that was only told.
 fn levels<W: Write>(out: &mut W, span: &[f32], written: usize) -> io::Result<()> {
     for level in span.iter().take(written) {
         hundredths(out, *level)?;

@@ -6,7 +6,7 @@ ghost use Rattle.records.specs.Comparison.{float_of, bits_of, same_bits};
 
 use words::{bits_of_f32, f32_of_bits};
 
-pub trait Element: Copy {
+pub trait Element: Copy + PartialEq {
     // What a word stands for.
     ghost meant: { ℕ → Self };
 
@@ -16,11 +16,14 @@ pub trait Element: Copy {
     fn from_word(word: u32) -> Self
         ensures { result ≡ meant word };
 
+    // With no default: its clause is each type's own `recorded`, which one over `==` would meet by a law beside, one for each type.
     fn is_recorded_as(self, word: u32) -> bool
         ensures { result ≡ recorded self word };
 
     // Whether two values would be the same answer.
-    fn is_same(self, other: Self) -> bool;
+    fn is_same(self, other: Self) -> bool {
+        self == other
+    }
 }
 
 impl Element for u32 {
@@ -35,10 +38,6 @@ impl Element for u32 {
     fn is_recorded_as(self, word: u32) -> bool {
         word == self
     }
-
-    fn is_same(self, other: u32) -> bool {
-        self == other
-    }
 }
 
 impl Element for i32 {
@@ -52,10 +51,6 @@ impl Element for i32 {
 
     fn is_recorded_as(self, word: u32) -> bool {
         i32::from_word(word) == self
-    }
-
-    fn is_same(self, other: i32) -> bool {
-        self == other
     }
 }
 
@@ -72,10 +67,6 @@ impl Element for i16 {
     fn is_recorded_as(self, word: u32) -> bool {
         i16::from_word(word) == self
     }
-
-    fn is_same(self, other: i16) -> bool {
-        self == other
-    }
 }
 
 // The low 8 bits.
@@ -90,10 +81,6 @@ impl Element for u8 {
 
     fn is_recorded_as(self, word: u32) -> bool {
         u8::from_word(word) == self
-    }
-
-    fn is_same(self, other: u8) -> bool {
-        self == other
     }
 }
 

@@ -18,10 +18,12 @@ pub struct Lent<'a> {
 
 impl Lent<'_> {
     pub fn element<T: Element>(&self, i: usize) -> T {
-        T::from_word(match self.listed.get(i) {
-            Some(word) => *word,
-            None => self.patterned((i % 4294967296) as u32),
-        })
+        T::from_word(
+            self.listed
+                .get(i)
+                .copied()
+                .unwrap_or_else(|| self.patterned((i % 4294967296) as u32)),
+        )
     }
 
     fn patterned(&self, i: u32) -> u32 {

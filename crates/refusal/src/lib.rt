@@ -41,7 +41,7 @@ pub struct Moved {
     pub written: usize,
 }
 
-// What a refused feed or block moved.
+// What a refused feed or block moved. No `Default`: the name says which call moved nothing, where `unwrap_or_default` tells zeros alone.
 pub const NONE_MOVED: Moved = Moved {
     taken: 0,
     written: 0,

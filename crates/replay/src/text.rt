@@ -39,7 +39,7 @@ impl From<AllocError> for ReadError {
     }
 }
 
-// The value of a digit.
+// The value of a digit. By hand: `to_digit` takes capitals too, which no word is written with.
 fn digit(b: u8) -> Option<u32>
     ensures spelled { IfSome result (λ d. (d < 16) × (b ≡ digit_glyph false d)) }
     ensures value { (d : ℕ) → d < 16 → b ≡ digit_glyph false d → result ≡ Some d }
@@ -59,8 +59,8 @@ fn parse_word(text: &[u8], separator: u8) -> Option<u32>
         return None;
     }
     let mut value: u32 = 0;
-    for i in 0..8 {
-        value = value * 16 + digit(text[i])?;
+    for b in &text[..8] {
+        value = value * 16 + digit(*b)?;
     }
     Some(value)
 }
@@ -72,7 +72,7 @@ fn separator(i: usize, count: usize) -> u8
     if i + 1 < count { BLANK } else { LINE_END }
 }
 
-// The words of a text, as many as fit it.
+// The words of a text, as many as fit it. By their numbers, which say the byte behind each: over `chunks_exact` with `enumerate` the proof did not close.
 fn parse(text: &[u8], alloc: Global) -> Result<Option<Vec<u32>>, AllocError>
     ensures { IfOk result (λ found. IfSome found (λ words. (length words.items ≡ length text.now / 9)
         × (take (length words.items * 9) text.now ≡ words_text (length text.now / 9) (length words.items) words.items))) }
@@ -88,7 +88,7 @@ fn parse(text: &[u8], alloc: Global) -> Result<Option<Vec<u32>>, AllocError>
     Ok(Some(words))
 }
 
-// One read, tried again where a signal interrupts it.
+// One read, tried again where a signal interrupts it: no more often than a loop with an end allows.
 fn read_some<R: io::Read>(source: &mut R, buf: &mut [u8]) -> io::Result<usize>
     ensures bound { ReadsAtMost result buf.new }
     ensures bytes { ReadConsumes (R.remaining source.old) (R.remaining source.new) result buf.new }
@@ -102,7 +102,8 @@ fn read_some<R: io::Read>(source: &mut R, buf: &mut [u8]) -> io::Result<usize>
     source.read(buf)
 }
 
-// Reads until `buf` is full or the input ends, and answers how many bytes it put at the front of it.
+// Reads until `buf` is full or the input ends, and answers how many bytes it put at the front of it. A read that gives nothing ends
+// it, so as many turns as there are places do; over a `while` with a measure the proof's check does not come to an end.
 fn read_full<R: io::Read>(source: &mut R, buf: &mut [u8]) -> io::Result<usize>
     ensures within { IfOk result (λ n. n ≤ length buf.new) }
     ensures consumed { IfOk result (λ n. Consumes (R.remaining source.old) (R.remaining source.new) (take n buf.new)) }
@@ -148,17 +149,11 @@ pub(crate) fn read_record<R: io::Read>(
     if got == 0 {
         return Ok(None);
     }
-    let Some(count) = parse_word(&header[..got], BLANK) else {
-        return Err(ReadError::Broken);
-    };
+    let count = parse_word(&header[..got], BLANK).ok_or(ReadError::Broken)?;
     if count > MOST_WORDS {
         return Err(ReadError::Broken);
     }
-    let Some(text) = read_text(source, count as usize * WIDTH, alloc)? else {
-        return Err(ReadError::Broken);
-    };
-    let Some(words) = parse(&text, alloc)? else {
-        return Err(ReadError::Broken);
-    };
+    let text = read_text(source, count as usize * WIDTH, alloc)?.ok_or(ReadError::Broken)?;
+    let words = parse(&text, alloc)?.ok_or(ReadError::Broken)?;
     Ok(Some(words))
 }

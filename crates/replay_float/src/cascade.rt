@@ -1,4 +1,5 @@
-// The cascades of half-band converters. Each operation takes the words behind its code: its inputs, then the answers.
+// The cascades of half-band converters. Each operation takes the words behind its code: its inputs, then the answers. Twice, since the two share no trait: one type for both
+// would want a trait that names each method here once more, for either.
 use half_band::{HbfDecCascade, HbfIntCascade};
 use records::block::Block;
 use records::record::Words;

@@ -1,6 +1,6 @@
 -- What a number says of the sheet, and which number the tests on the way give: by cases of the tests.
 use mathlib.Core.Path.{◌≡◌, refl, sym, ap, ◌∙◌}
-use mathlib.Core.Bool.{Bool, true, false, cond, true≢false}
+use mathlib.Core.Bool.{Bool, true, false, cond}
 use mathlib.Core.List.{List, []}
 use Prim.Native.Nat.{ℕ, ◌+◌, ◌≤◌, ◌<◌}
 use native.Mathlib.Omega.{arith}
@@ -12,15 +12,11 @@ use Rattle.std.specs.Prelude.{Ok, Err}
 use Rattle.refusal.specs.Outcome.{Answer, told}
 use Rattle.refusal.specs.Table.{number_of}
 use Rattle.refusal.specs.declared.Refusal.{Refusal}
-use Rattle.refusal.proofs.Limits.{first_none}
+use Rattle.refusal.proofs.Limits.{cond_false, first_none}
 use Rattle.refusal.proofs.Table.{number_positive}
 use Rattle.sheet.specs.Sheet.{Rule, count_of, empty_first, most_entries, data_from, offset, size, directory_broken, entries_fine, reader_number, entry_number, part_at, entry, entry_offset, no_place, place_answer}
 use Rattle.sheet.specs.declared.directory.Place.{Place}
 use Rattle.sheet.proofs.Passing.{entry_inside}
-
-neither : (s t : Bool) → cond s true t ≡ false → (s ≡ false) × (t ≡ false)
-neither true t e = absurd (true≢false e)
-neither false t e = (refl, e)
 
 -- the directory is whole
 pub record Whole (rule : Rule) (b : List ℕ) : Type 0 where
@@ -31,8 +27,8 @@ pub record Whole (rule : Rule) (b : List ℕ) : Type 0 where
 pub whole : (rule : Rule) (b : List ℕ) → directory_broken rule b ≡ false → Whole rule b
 unfolding directory_broken
 whole rule b e =
-    let p = neither (ltb (length b) 2) (cond (ltb most_entries (count_of rule b)) true (ltb (length b) (data_from (count_of rule b)))) e in
-    let q = neither (ltb most_entries (count_of rule b)) (ltb (length b) (data_from (count_of rule b))) p.1 in
+    let p = cond_false (ltb (length b) 2) (cond (ltb most_entries (count_of rule b)) true (ltb (length b) (data_from (count_of rule b)))) e in
+    let q = cond_false (ltb most_entries (count_of rule b)) (ltb (length b) (data_from (count_of rule b))) p.1 in
     record {
       two = ltb-false (length b) 2 p.0;
       most = ltb-false most_entries (count_of rule b) q.0;

@@ -111,7 +111,7 @@ fn in_data(entry: Place, from: usize, past: usize) -> bool
     from <= entry.offset && entry.offset + entry.size <= past
 }
 
-// Whether every entry lies in the data and may stand behind those before it.
+// Whether every entry lies in the data and may stand behind those before it. By their numbers, by which their pairs are found.
 fn entries_fine(bytes: &[u8], n: usize, first: bool) -> bool
     requires { (n ≤ 32) × (S.data_from n ≤ length bytes.now) }
     ensures { result ≡ S.entries_fine first bytes.now n }

@@ -2,7 +2,7 @@
 use mathlib.Core.Path.{◌≡◌, refl, sym, ap, ap₂, ◌∙◌}
 use mathlib.Core.Bool.{Bool, true, false, cond, ◌&&◌, true≢false}
 use mathlib.Core.List.{List, [], ◌∷◌}
-use Prim.Native.Nat.{ℕ, zero, suc, ◌+◌, ◌*◌, ◌≤◌, min}
+use Prim.Native.Nat.{ℕ, zero, suc, ◌+◌, ◌*◌, ◌≤◌, ◌<◌, min}
 use native.Mathlib.Omega.{arith}
 use borrow.Author.Tests.{eqb-true, leb-true}
 use lib.Dec.{eqb, leb, eqb-suc-zero}
@@ -19,6 +19,10 @@ use Rattle.line.proofs.Lawful.{to_parts}
 use Rattle.theory.specs.Lists.{listed}
 use Rattle.refusal.specs.Outcome.{Opened}
 use Rattle.line.specs.declared.gauge_line.Line.{Line}
+use Rattle.nonrecursive.specs.declared.thinning.Thinning.{Thinning}
+use Rattle.nonrecursive.specs.declared.thinning.Thinning.TheVariants as thinning
+use Rattle.half_band.specs.declared.hbf_stream.HbfStream.{HbfStream}
+use Rattle.parking.specs.Told.{count_by, sizes_by}
 use Rattle.sheet.specs.Sheet.{present, le16, le32, count_of, sheet_number, offset, size, part_at}
 use Rattle.sheet.proofs.Laying.{laid_none}
 use Rattle.words.specs.Fields.{is_float, floats_at, values_at, All}
@@ -219,53 +223,56 @@ none_there : (e : List ℕ) → length e ≡ 0 → e ≡ []
 none_there [] h = refl
 none_there (x ∷ e) h = absurd (omega (arith, h))
 
-thin_stages : (e₀ e₁ e₂ e₃ e₄ e₅ e₆ e₇ : List ℕ) → L.valid (line_from (e₀ ∷ e₁ ∷ e₂ ∷ e₃ ∷ e₄ ∷ e₅ ∷ e₆ ∷ e₇ ∷ [])) ≡ true → (settings_of e₀).depth ≤ 5
-unfolding line_from line_with half_band_from
-thin_stages e₀ e₁ e₂ e₃ e₄ e₅ e₆ e₇ v = half_depth (half_band_from (settings_of e₀) e₄) (to_parts (line_from (e₀ ∷ e₁ ∷ e₂ ∷ e₃ ∷ e₄ ∷ e₅ ∷ e₆ ∷ e₇ ∷ [])) v).1.1.1.1.0
+half_of : (b : Bool) (x y : Line) (h : HbfStream) → x.half_band ≡ h → y.half_band ≡ h → (cond b x y).half_band ≡ h
+half_of true x y h e f = e
+half_of false x y h e f = f
 
-few_stages : (e₀ e₁ e₂ e₃ e₄ e₅ e₆ : List ℕ) → L.valid (line_from (e₀ ∷ e₁ ∷ e₂ ∷ e₃ ∷ e₄ ∷ e₅ ∷ e₆ ∷ [])) ≡ true → (settings_of e₀).depth ≤ 5
-unfolding line_from line_with half_band_from
-few_stages e₀ e₁ e₂ e₃ e₄ e₅ e₆ v = half_depth (half_band_from (settings_of e₀) e₄) (to_parts (line_from (e₀ ∷ e₁ ∷ e₂ ∷ e₃ ∷ e₄ ∷ e₅ ∷ e₆ ∷ [])) v).1.1.1.1.0
+half_read : (es : List (List ℕ)) → (line_from es).half_band ≡ half_band_from (settings_of (get_or es 0 [])) (get_or es 4 [])
+unfolding line_from line_with
+half_read es = half_of (eqb (length es) 8) _ _ _ refl refl
 
-pub seven_again : (es : List (List ℕ)) → All (All Byte) es → length es ≡ 7 → same (lengths_of es) (sizes (settings_of (get_or es 0 []))) ≡ true → L.valid (line_from es) ≡ true → written es ≡ true → line_entries (line_from es) ≡ es
-seven_again (e₀ ∷ e₁ ∷ e₂ ∷ e₃ ∷ e₄ ∷ e₅ ∷ e₆ ∷ []) a n s v w =
-    entries_again e₀ e₁ e₂ e₃ e₄ e₅ e₆
-    (record { a₀ = a.0; a₂ = a.1.1.0; a₃ = a.1.1.1.0; a₄ = a.1.1.1.1.0; a₅ = a.1.1.1.1.1.0; a₆ = a.1.1.1.1.1.1.0 })
-    (lengths_told e₀ e₁ e₂ e₃ e₄ e₅ e₆ (same_says _ _ s))
-    (fields_told e₀ e₁ e₂ e₃ e₄ e₅ e₆ w)
-    (few_stages e₀ e₁ e₂ e₃ e₄ e₅ e₆ v)
-    a.1.0 (cic_told e₀ e₁ e₂ e₃ e₄ e₅ e₆ (same_says _ _ s))
-seven_again [] a n s v w = absurd (omega (arith, n))
-seven_again (e₀ ∷ []) a n s v w = absurd (omega (arith, n))
-seven_again (e₀ ∷ e₁ ∷ []) a n s v w = absurd (omega (arith, n))
-seven_again (e₀ ∷ e₁ ∷ e₂ ∷ []) a n s v w = absurd (omega (arith, n))
-seven_again (e₀ ∷ e₁ ∷ e₂ ∷ e₃ ∷ []) a n s v w = absurd (omega (arith, n))
-seven_again (e₀ ∷ e₁ ∷ e₂ ∷ e₃ ∷ e₄ ∷ []) a n s v w = absurd (omega (arith, n))
-seven_again (e₀ ∷ e₁ ∷ e₂ ∷ e₃ ∷ e₄ ∷ e₅ ∷ []) a n s v w = absurd (omega (arith, n))
-seven_again (e₀ ∷ e₁ ∷ e₂ ∷ e₃ ∷ e₄ ∷ e₅ ∷ e₆ ∷ e₇ ∷ es) a n s v w = absurd (omega (arith, n))
+few_stages : (es : List (List ℕ)) → L.valid (line_from es) ≡ true → (settings_of (get_or es 0 [])).depth ≤ 5
+unfolding half_band_from
+few_stages es v = rw (half_read es) at (half_depth (line_from es).half_band (to_parts (line_from es) v).1.1.1.1.0)
 
 eight_fields : (e₀ e₁ e₂ e₃ e₄ e₅ e₆ e₇ : List ℕ) → written (e₀ ∷ e₁ ∷ e₂ ∷ e₃ ∷ e₄ ∷ e₅ ∷ e₆ ∷ e₇ ∷ []) ≡ true → written (e₀ ∷ e₁ ∷ e₂ ∷ e₃ ∷ e₄ ∷ e₅ ∷ e₆ ∷ []) ≡ true
 unfolding written
 eight_fields e₀ e₁ e₂ e₃ e₄ e₅ e₆ e₇ w = w
 
-eight_again : (es : List (List ℕ)) → All (All Byte) es → length es ≡ 8 → same (lengths_of es) (thin_sizes (settings_of (get_or es 0 []))) ≡ true → L.valid (line_from es) ≡ true → written es ≡ true → line_entries (line_from es) ≡ es
-eight_again (e₀ ∷ e₁ ∷ e₂ ∷ e₃ ∷ e₄ ∷ e₅ ∷ e₆ ∷ e₇ ∷ []) a n s v w =
-    let t = thin_told e₀ e₁ e₂ e₃ e₄ e₅ e₆ e₇ (same_says _ _ s) in
+seven_or_more : (k : Thinning) → 7 ≤ count_by k
+seven_or_more thinning.Integrators = omega arith
+seven_or_more thinning.Neighbours = omega arith
+
+short : (k : Thinning) (n : ℕ) → n ≡ count_by k → n < 7 → ⊥
+short k n e h = let m = seven_or_more k in omega arith
+
+-- as many as the kind has
+again_by : (k : Thinning) (es : List (List ℕ)) → All (All Byte) es → length es ≡ count_by k → lengths_of es ≡ sizes_by k (settings_of (get_or es 0 [])) → L.valid (line_from es) ≡ true → written es ≡ true → line_entries (line_from es) ≡ es
+again_by thinning.Integrators (e₀ ∷ e₁ ∷ e₂ ∷ e₃ ∷ e₄ ∷ e₅ ∷ e₆ ∷ []) a n s v w =
+    entries_again e₀ e₁ e₂ e₃ e₄ e₅ e₆
+    (record { a₀ = a.0; a₂ = a.1.1.0; a₃ = a.1.1.1.0; a₄ = a.1.1.1.1.0; a₅ = a.1.1.1.1.1.0; a₆ = a.1.1.1.1.1.1.0 })
+    (lengths_told e₀ e₁ e₂ e₃ e₄ e₅ e₆ s)
+    (fields_told e₀ e₁ e₂ e₃ e₄ e₅ e₆ w)
+    (few_stages (e₀ ∷ e₁ ∷ e₂ ∷ e₃ ∷ e₄ ∷ e₅ ∷ e₆ ∷ []) v)
+    a.1.0 (cic_told e₀ e₁ e₂ e₃ e₄ e₅ e₆ s)
+again_by thinning.Neighbours (e₀ ∷ e₁ ∷ e₂ ∷ e₃ ∷ e₄ ∷ e₅ ∷ e₆ ∷ []) a n s v w = absurd (omega (arith, n))
+again_by thinning.Neighbours (e₀ ∷ e₁ ∷ e₂ ∷ e₃ ∷ e₄ ∷ e₅ ∷ e₆ ∷ e₇ ∷ []) a n s v w =
+    let t = thin_told e₀ e₁ e₂ e₃ e₄ e₅ e₆ e₇ s in
     thin_again e₀ e₁ e₂ e₃ e₄ e₅ e₆
     (record { a₀ = a.0; a₂ = a.1.1.0; a₃ = a.1.1.1.0; a₄ = a.1.1.1.1.0; a₅ = a.1.1.1.1.1.0; a₆ = a.1.1.1.1.1.1.0 })
     t.0
     (fields_told e₀ e₁ e₂ e₃ e₄ e₅ e₆ (eight_fields e₀ e₁ e₂ e₃ e₄ e₅ e₆ e₇ w))
-    (thin_stages e₀ e₁ e₂ e₃ e₄ e₅ e₆ e₇ v)
+    (few_stages (e₀ ∷ e₁ ∷ e₂ ∷ e₃ ∷ e₄ ∷ e₅ ∷ e₆ ∷ e₇ ∷ []) v)
     e₇ a.1.1.1.1.1.1.1.0 (none_there e₁ t.1.0) t.1.1
-eight_again [] a n s v w = absurd (omega (arith, n))
-eight_again (e₀ ∷ []) a n s v w = absurd (omega (arith, n))
-eight_again (e₀ ∷ e₁ ∷ []) a n s v w = absurd (omega (arith, n))
-eight_again (e₀ ∷ e₁ ∷ e₂ ∷ []) a n s v w = absurd (omega (arith, n))
-eight_again (e₀ ∷ e₁ ∷ e₂ ∷ e₃ ∷ []) a n s v w = absurd (omega (arith, n))
-eight_again (e₀ ∷ e₁ ∷ e₂ ∷ e₃ ∷ e₄ ∷ []) a n s v w = absurd (omega (arith, n))
-eight_again (e₀ ∷ e₁ ∷ e₂ ∷ e₃ ∷ e₄ ∷ e₅ ∷ []) a n s v w = absurd (omega (arith, n))
-eight_again (e₀ ∷ e₁ ∷ e₂ ∷ e₃ ∷ e₄ ∷ e₅ ∷ e₆ ∷ []) a n s v w = absurd (omega (arith, n))
-eight_again (e₀ ∷ e₁ ∷ e₂ ∷ e₃ ∷ e₄ ∷ e₅ ∷ e₆ ∷ e₇ ∷ e₈ ∷ es) a n s v w = absurd (omega (arith, n))
+again_by thinning.Integrators (e₀ ∷ e₁ ∷ e₂ ∷ e₃ ∷ e₄ ∷ e₅ ∷ e₆ ∷ e₇ ∷ es) a n s v w = absurd (omega (arith, n))
+again_by thinning.Neighbours (e₀ ∷ e₁ ∷ e₂ ∷ e₃ ∷ e₄ ∷ e₅ ∷ e₆ ∷ e₇ ∷ e₈ ∷ es) a n s v w = absurd (omega (arith, n))
+again_by k [] a n s v w = absurd (short k 0 n (omega arith))
+again_by k (e₀ ∷ []) a n s v w = absurd (short k 1 n (omega arith))
+again_by k (e₀ ∷ e₁ ∷ []) a n s v w = absurd (short k 2 n (omega arith))
+again_by k (e₀ ∷ e₁ ∷ e₂ ∷ []) a n s v w = absurd (short k 3 n (omega arith))
+again_by k (e₀ ∷ e₁ ∷ e₂ ∷ e₃ ∷ []) a n s v w = absurd (short k 4 n (omega arith))
+again_by k (e₀ ∷ e₁ ∷ e₂ ∷ e₃ ∷ e₄ ∷ []) a n s v w = absurd (short k 5 n (omega arith))
+again_by k (e₀ ∷ e₁ ∷ e₂ ∷ e₃ ∷ e₄ ∷ e₅ ∷ []) a n s v w = absurd (short k 6 n (omega arith))
 
 -- of either count
 any_again : (es : List (List ℕ)) → All (All Byte) es → shaped panel es ≡ true → L.valid (line_from es) ≡ true → written es ≡ true → line_entries (line_from es) ≡ es
@@ -273,8 +280,8 @@ unfolding shaped
 any_again es a s v w = go (eqb (length es) 7) refl (eqb (length es) 8) refl
   where
     go : (b : Bool) → eqb (length es) 7 ≡ b → (c : Bool) → eqb (length es) 8 ≡ c → line_entries (line_from es) ≡ es
-    go true p c t = seven_again es a (eqb-true (length es) 7 p) (rw p at s) v w
-    go false p true t = eight_again es a (eqb-true (length es) 8 t) (rw (p, t) at s) v w
+    go true p c t = again_by thinning.Integrators es a (eqb-true (length es) 7 p) (same_says _ _ (rw p at s)) v w
+    go false p true t = again_by thinning.Neighbours es a (eqb-true (length es) 8 t) (same_says _ _ (rw (p, t) at s)) v w
     go false p false t = (let z : false ≡ true = rw (p, t) at s in absurd (true≢false (sym z)))
 
 -- ---- the sheet

@@ -1,6 +1,6 @@
 -- What is read from an entry of the right length is written as it stood: words of any width by one law, then each part of a line.
 use mathlib.Core.Path.{◌≡◌, refl, sym, ap, ap₂, ◌∙◌, subst}
-use mathlib.Core.Bool.{Bool, true}
+use mathlib.Core.Bool.{true}
 use mathlib.Core.List.{List, [], ◌∷◌, ◌++◌, append_assoc, append-nil}
 use Prim.Native.Nat.{ℕ, zero, suc, ◌+◌, ◌*◌, ◌-◌, ◌%◌, ◌/◌, ◌≤◌, ◌<◌}
 use native.Mathlib.Numerals.{add-one}
@@ -16,10 +16,11 @@ use mir.Facts.{of_z-to_z}
 use Rattle.nonrecursive.specs.NonrecursiveDecimator.{most_neighbours}
 use Rattle.q15.specs.FirDecimator.{most_taps}
 use Rattle.std.proofs.lemmas.Bool.{and_parts}
-use Rattle.sheet.specs.Sheet.{le16, le32, bytes16, bytes32, every}
+use Rattle.sheet.specs.Sheet.{le16, le32, bytes16, bytes32}
 use Rattle.sheet.specs.Laid.{laid}
 use Rattle.sheet.proofs.Laying.{laid_front, laid_length}
 use Rattle.words.specs.Fields.{i16_bytes, i32_bytes, f32_bytes, joined, i16_at, i32_at, f32_at, values_at, is_float, floats_at, All}
+use Rattle.sheet.proofs.Passing.{every_at}
 use Rattle.parking.specs.Parked.{Settings, settings_bytes, settings_of, half_band_bytes, neighbour_count}
 use Rattle.parking.specs.Entries.{cic_bytes, neighbours_bytes, tap_bytes, delay_bytes, window_of, stage_bytes, stages_bytes, prototype_bytes, resampler_bytes, cic_from, place_from, neighbours_from, fir_from, counts_from, held_from, delays_from, resampler_from, stages_written}
 use Rattle.words.proofs.Fields.{all_get_d, values_length}
@@ -124,18 +125,9 @@ module _ {A : Type 0} {bytes : A → List ℕ} {read : List ℕ → ℕ → A} {
       (values_again n (at + w) (omega arith) (λ i l. subst (Fine b) (let q : at + w * suc i ≡ at + w + w * i = omega arith in q) (f (suc i) (omega arith))))
       ∙ r.writes b at a g (subst (Fine b) z (f 0 (omega arith)))
 
--- every word of a run is fine
-pub each_float : (n : ℕ) (p : ℕ → Bool) → every n p ≡ true → (i : ℕ) → i < n → p i ≡ true
-unfolding every
-each_float zero p e i h = absurd (omega arith)
-each_float (suc n) p e i h = elim (dec_lt i n) [
-  | yes l ↦ each_float n p (and_parts (every n p) (p n) e).0 i l
-  | no l ↦ (let q : n ≡ i = omega arith in subst (λ (k : ℕ). p k ≡ true) q (and_parts (every n p) (p n) e).1)
-]
-
 pub floats_fine : (b : List ℕ) (at n : ℕ) → floats_at b at n ≡ true → (i : ℕ) → i < n → FloatAt b (at + 4 * i)
 unfolding floats_at
-floats_fine b at n e = each_float n (λ i. is_float (le32 b (at + 4 * i))) e
+floats_fine b at n e = every_at n (λ i. is_float (le32 b (at + 4 * i))) e
 
 -- values laid over zeros, and taken from there
 pub front_again : {A : Type 0} (vs s : List A) (n : ℕ) → length vs ≡ n → take n (laid 0 vs s) ≡ vs

@@ -12,11 +12,12 @@ use Rattle.theory.specs.Lists.{listed}
 use Rattle.theory.proofs.Listed.{length_listed}
 use Rattle.refusal.specs.Outcome.{Opened}
 use Rattle.q15.specs.FirDecimator.{most_taps}
+use Rattle.q15.proofs.Filling.{listed_ext}
 use Rattle.line.specs.Line as L
 use Rattle.line.specs.declared.gauge_line.Line.{Line}
 use Rattle.std.proofs.lemmas.Bool.{and_parts}
 use Rattle.line.proofs.Lawful.{to_parts}
-use Rattle.sheet.specs.Sheet.{present, le32, count_of, sheet_number, reader_number, part_at, kept_bytes, kept_count}
+use Rattle.sheet.specs.Sheet.{present, entry, le32, count_of, sheet_number, reader_number, part_at, kept_bytes, kept_count}
 use Rattle.refusal.specs.Table.{number_of}
 use Rattle.refusal.specs.declared.Refusal.{Refusal}
 use Rattle.sheet.proofs.Answering.{entry_part, entry_handed, refused_number}
@@ -279,35 +280,22 @@ module _ (e₀ e₁ e₂ e₃ e₄ e₅ e₆ e₇ : List ℕ) where
       (by_tests (eqb (length e₀) 24) (thin_long_as (settings_of e₀) (length e₁) (length e₂) (length e₃) (length e₄) (length e₅) (length e₆) (length e₇)) (fine_in (thin_line_of (settings_of e₀) e₂ e₃ e₄ e₅ e₆ e₇) (settings_of e₀) e₃ e₄ e₅ e₆) (thin_line_of (settings_of e₀) e₂ e₃ e₄ e₅ e₆ e₇) L.zeros)
 
 module _ (b : List ℕ) where
-  thin_part_of : sheet_number present b ≡ 0 → count_of present b ≡ 8 → (k : ℕ) → k < 8 → part_at b k ≡ thin_entry_in b k
+  -- a sheet's entries are those that a reader of its count is handed
+  part_of : (n : ℕ) → sheet_number present b ≡ 0 → count_of present b ≡ n → (k : ℕ) → k < n → part_at b k ≡ entry present b n k
   unfolding sheet_number part_at
-  thin_part_of z n k h =
-      let r : reader_number present b 8 ≡ 0 = ap (reader_number present b) (sym n) ∙ z in
-      sym (entry_part present b 8 k (sym (entry_handed present b 8 k r h)))
+  part_of n z e k h =
+      let r : reader_number present b n ≡ 0 = ap (reader_number present b) (sym e) ∙ z in
+      sym (entry_part present b n k (sym (entry_handed present b n k r h)))
 
-  thin_entries_are : sheet_number present b ≡ 0 → count_of present b ≡ 8 → entries_of present b ≡ eight (thin_entry_in b 0) (thin_entry_in b 1) (thin_entry_in b 2) (thin_entry_in b 3) (thin_entry_in b 4) (thin_entry_in b 5) (thin_entry_in b 6) (thin_entry_in b 7)
+  entries_are : (n : ℕ) → sheet_number present b ≡ 0 → count_of present b ≡ n → entries_of present b ≡ listed n (entry present b n)
   unfolding entries_of
-  thin_entries_are z n =
-      ap (λ (k : ℕ). listed k (part_at b)) n
-      ∙ rw (thin_part_of z n 0 (omega arith), thin_part_of z n 1 (omega arith), thin_part_of z n 2 (omega arith), thin_part_of z n 3 (omega arith), thin_part_of z n 4 (omega arith), thin_part_of z n 5 (omega arith), thin_part_of z n 6 (omega arith), thin_part_of z n 7 (omega arith))
+  entries_are n z e = ap (λ (k : ℕ). listed k (part_at b)) e ∙ listed_ext n (part_at b) (entry present b n) (part_of n z e)
 
   pub taken_eight : sheet_number present b ≡ 0 → count_of present b ≡ 8 → thin_opened_from (thin_entry_in b 0) (thin_entry_in b 1) (thin_entry_in b 2) (thin_entry_in b 3) (thin_entry_in b 4) (thin_entry_in b 5) (thin_entry_in b 6) (thin_entry_in b 7) ≡ taken_up panel b
-  taken_eight z n = eight_taken (thin_entry_in b 0) (thin_entry_in b 1) (thin_entry_in b 2) (thin_entry_in b 3) (thin_entry_in b 4) (thin_entry_in b 5) (thin_entry_in b 6) (thin_entry_in b 7) b z (thin_entries_are z n)
-
-  part_of : sheet_number present b ≡ 0 → count_of present b ≡ 7 → (k : ℕ) → k < 7 → part_at b k ≡ entry_in b k
-  unfolding sheet_number part_at
-  part_of z n k h =
-      let r : reader_number present b 7 ≡ 0 = ap (reader_number present b) (sym n) ∙ z in
-      sym (entry_part present b 7 k (sym (entry_handed present b 7 k r h)))
-
-  entries_are : sheet_number present b ≡ 0 → count_of present b ≡ 7 → entries_of present b ≡ seven (entry_in b 0) (entry_in b 1) (entry_in b 2) (entry_in b 3) (entry_in b 4) (entry_in b 5) (entry_in b 6)
-  unfolding entries_of
-  entries_are z n =
-      ap (λ (k : ℕ). listed k (part_at b)) n
-      ∙ rw (part_of z n 0 (omega arith), part_of z n 1 (omega arith), part_of z n 2 (omega arith), part_of z n 3 (omega arith), part_of z n 4 (omega arith), part_of z n 5 (omega arith), part_of z n 6 (omega arith))
+  taken_eight z n = eight_taken (thin_entry_in b 0) (thin_entry_in b 1) (thin_entry_in b 2) (thin_entry_in b 3) (thin_entry_in b 4) (thin_entry_in b 5) (thin_entry_in b 6) (thin_entry_in b 7) b z (entries_are 8 z n)
 
   pub taken_seven : sheet_number present b ≡ 0 → count_of present b ≡ 7 → opened_from (entry_in b 0) (entry_in b 1) (entry_in b 2) (entry_in b 3) (entry_in b 4) (entry_in b 5) (entry_in b 6) ≡ taken_up panel b
-  taken_seven z n = seven_taken (entry_in b 0) (entry_in b 1) (entry_in b 2) (entry_in b 3) (entry_in b 4) (entry_in b 5) (entry_in b 6) b z (entries_are z n)
+  taken_seven z n = seven_taken (entry_in b 0) (entry_in b 1) (entry_in b 2) (entry_in b 3) (entry_in b 4) (entry_in b 5) (entry_in b 6) b z (entries_are 7 z n)
 
   -- what a reader keeps of a sheet that is not refused
   pub all_kept : 0 ≡ sheet_number present b → (kept_bytes present b ≡ b) × (kept_count present b ≡ count_of present b)

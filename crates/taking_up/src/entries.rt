@@ -22,10 +22,7 @@ pub(crate) struct Entries<'a> {
 fn part<'a>(sheet: TapSheet<'a>, k: usize) -> &'a [u8]
     ensures { result.now ≡ S.entry S.Rule.present sheet.entry.bytes.now sheet.entry.count k }
 {
-    match sheet.entry(k) {
-        Ok(part) => part,
-        Err(_) => &[],
-    }
+    sheet.entry(k).unwrap_or(&[])
 }
 
 impl<'a> Entries<'a> {

@@ -2,6 +2,7 @@
 #![tactic(auto)]
 
 mod entries;
+mod parked;
 mod reading;
 mod rows;
 mod taking;

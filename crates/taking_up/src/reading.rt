@@ -1,9 +1,8 @@
 // A parked sheet read: its settings, the lengths that they ask for, and the parts of its line.
 ghost use Rattle.std.specs.Prelude.{◌≡◌, true, ◌&&◌, ◌+◌, ◌*◌, ◌≤◌, ◌<◌, length, replicate};
 ghost use Rattle.q15.specs.FirDecimator.{most_taps};
-ghost use Rattle.float.specs.F32.{zero32};
 ghost use Rattle.sheet.specs.Laid.{laid};
-ghost use Rattle.words.specs.Fields.{values_at, f32_at};
+ghost use Rattle.words.specs.Fields.{values_at};
 ghost use Rattle.parking.specs.Entries as E;
 ghost use Rattle.parking.specs.Limits.{InWords};
 ghost use Rattle.parking.specs.Parked as P;
@@ -12,15 +11,15 @@ ghost use Rattle.parking.specs.Told.{numbers_of};
 
 use crate::rows::{are_floats, get_all};
 use float::PolyphaseResampF32;
-use float::settings::{MOST_CELLS, MOST_TAPS as MOST_PHASE_TAPS};
-use half_band::{DEC_CASCADE_DELAYS, HbfStream, MOST_STAGES};
+use float::settings::MOST_PHASE_TAPS;
+use half_band::{DEC_CASCADE_DELAYS, HbfStream, MOST_DEPTH};
 use integer::CicDecimator;
-use integer::limits::MAX_STAGES;
-use nonrecursive::nonrecursive_decimator::MAX_NEIGHBOURS;
+use integer::limits::MOST_STAGES;
+use nonrecursive::nonrecursive_decimator::MOST_NEIGHBOURS;
 use parking::settings::{ParkedSettings, half_band_bytes, halvings, window};
 use q15::{FirDecimator, MOST_TAPS};
 use sheet::fields::{le16_at, le32_at};
-use words::f32_of_bits;
+use words::{Word, f32_of_bits};
 
 // The settings entry.
 #[tactic(auto, unfolding(parking::specs::Parked::settings_of))]
@@ -47,12 +46,23 @@ pub(crate) fn settings_from(e: &[u8]) -> ParkedSettings
 pub(crate) fn in_limits(q: ParkedSettings) -> bool
     ensures { result ≡ T.in_limits (numbers_of q) }
 {
-    q.stages <= MAX_STAGES
+    q.stages <= MOST_STAGES
         && q.r <= 4096
         && q.taps <= MOST_TAPS
-        && q.depth <= MOST_STAGES
+        && q.depth <= MOST_DEPTH
         && q.phases <= 64
         && q.cells <= MOST_PHASE_TAPS
+}
+
+// n values from a place on, and zeros behind them.
+#[tactic(auto, unfolding(sheet::specs::Laid::laid))]
+fn values_from<W: Word, const N: usize>(e: &[u8], at: usize, n: usize, zero: W) -> [W; N]
+    requires { (n ≤ N) × (at + W.SIZE * n ≤ length e.now) }
+    ensures { result ≡ laid 0 (values_at W.value_at W.SIZE e.now at n) (replicate N zero) }
+{
+    let mut values = [zero; N];
+    get_all(e, at, &mut values[..n]);
+    values
 }
 
 // The place of a line of neighbours; its integrators and combs are off.
@@ -63,22 +73,19 @@ pub(crate) fn place_from(q: ParkedSettings, e: &[u8]) -> CicDecimator
     CicDecimator {
         stages: q.stages,
         r: q.r,
-        integrator_state: [0; MAX_STAGES],
-        comb_state: [0; MAX_STAGES],
+        integrator_state: [0; MOST_STAGES],
+        comb_state: [0; MOST_STAGES],
         sample_counter: usize::from(le16_at(e, 0)),
     }
 }
 
 // Its neighbours, and zeros behind those that the factor's halvings use.
 #[tactic(auto, unfolding(parking::specs::Entries::neighbours_from, parking::specs::Parked::neighbour_count, sheet::specs::Laid::laid), using(parking::proofs::Thinned::few_neighbours))]
-pub(crate) fn neighbours_from(q: ParkedSettings, e: &[u8]) -> [i32; MAX_NEIGHBOURS]
+pub(crate) fn neighbours_from(q: ParkedSettings, e: &[u8]) -> [i32; MOST_NEIGHBOURS]
     requires { (q.stages ≤ 8) × (q.r ≤ 4096) × (length e.now ≡ 2 + 4 * P.neighbour_count q.stages q.r) }
     ensures { result ≡ E.neighbours_from (numbers_of q) e.now }
 {
-    let n = q.stages * halvings(q.r);
-    let mut neighbours = [0; MAX_NEIGHBOURS];
-    get_all(e, 2, &mut neighbours[..n]);
-    neighbours
+    values_from(e, 2, q.stages * halvings(q.r), 0)
 }
 
 #[tactic(auto, unfolding(parking::specs::Entries::cic_from, sheet::specs::Laid::laid))]
@@ -87,15 +94,11 @@ pub(crate) fn cic_from(q: ParkedSettings, e: &[u8]) -> CicDecimator
     ensures { result ≡ E.cic_from (numbers_of q) e.now }
 {
     let n = q.stages;
-    let mut integrators = [0; MAX_STAGES];
-    let mut combs = [0; MAX_STAGES];
-    get_all(e, 2, &mut integrators[..n]);
-    get_all(e, 2 + 4 * n, &mut combs[..n]);
     CicDecimator {
         stages: n,
         r: q.r,
-        integrator_state: integrators,
-        comb_state: combs,
+        integrator_state: values_from(e, 2, n, 0),
+        comb_state: values_from(e, 2 + 4 * n, n, 0),
         sample_counter: usize::from(le16_at(e, 0)),
     }
 }
@@ -106,97 +109,37 @@ pub(crate) fn fir_from(q: ParkedSettings, t: &[u8], e: &[u8]) -> FirDecimator
     ensures { result ≡ E.fir_from (numbers_of q) t.now e.now }
 {
     let n = q.taps;
-    let mut taps = [0; MOST_TAPS];
-    let mut delay = [0; MOST_TAPS];
-    get_all(t, 0, &mut taps[..n]);
-    get_all(e, 2, &mut delay[..n]);
     FirDecimator {
-        taps,
+        taps: values_from(t, 0, n, 0),
         tap_count: n,
         factor: q.factor,
-        delay,
+        delay: values_from(e, 2, n, 0),
         wait: usize::from(le16_at(e, 0)),
     }
 }
 
-// Of the first n half-band stages: how many samples each holds.
-#[tactic(auto, unfolding(parking::specs::Entries::counts_from))]
-pub(crate) fn counts_from(e: &[u8], n: usize) -> [usize; MOST_STAGES]
-    requires { (n ≤ 5) × (length e.now ≡ P.half_band_bytes n) }
-    ensures { result ≡ E.counts_from e.now n }
-{
-    let mut counts = [0; MOST_STAGES];
-    for k in 0..n {
-        counts[k] = usize::from(le16_at(e, half_band_bytes(k)));
-    }
-    counts
-}
-
-// What each holds.
-#[tactic(auto, unfolding(parking::specs::Entries::held_from), using(parking::proofs::StageLengths::bytes_most))]
-pub(crate) fn held_from(e: &[u8], n: usize) -> [f32; MOST_STAGES]
-    requires { (n ≤ 5) × (length e.now ≡ P.half_band_bytes n) }
-    ensures { result ≡ E.held_from e.now n }
-{
-    let mut held = [0.0; MOST_STAGES];
-    for k in 0..n {
-        held[k] = f32_of_bits(le32_at(e, half_band_bytes(k) + 2));
-    }
-    held
-}
-
-// Their delays.
-#[tactic(auto, unfolding(parking::specs::Entries::delays_from), using(parking::proofs::StageLengths::bytes_most))]
-pub(crate) fn delays_from(e: &[u8], n: usize) -> [f32; DEC_CASCADE_DELAYS]
-    requires { (n ≤ 5) × (length e.now ≡ P.half_band_bytes n) }
-    ensures { result ≡ E.delays_from e.now n }
-{
-    let mut delays = [0.0; DEC_CASCADE_DELAYS];
-    for k in 0..n {
-        let from = 96 * k;
-        get_all(
-            e,
-            half_band_bytes(k) + 6,
-            &mut delays[from..from + window(k)],
-        );
-    }
-    delays
-}
-
-#[tactic(auto, unfolding(parking::specs::Entries::half_band_from))]
+// The half-band stages. By their numbers, since by these go their places in the entry.
+#[tactic(auto, unfolding(parking::specs::Entries::half_band_from, parking::specs::Entries::counts_from, parking::specs::Entries::held_from, parking::specs::Entries::delays_from))]
 pub(crate) fn half_band_from(q: ParkedSettings, e: &[u8]) -> HbfStream
     requires { (q.depth ≤ 5) × (length e.now ≡ P.half_band_bytes q.depth) }
     ensures { result ≡ E.half_band_from (numbers_of q) e.now }
 {
-    let depth = q.depth;
-    HbfStream {
-        depth,
-        delays: delays_from(e, depth),
-        held: held_from(e, depth),
-        counts: counts_from(e, depth),
+    let mut delays = [0.0; DEC_CASCADE_DELAYS];
+    let mut held = [0.0; MOST_DEPTH];
+    let mut counts = [0; MOST_DEPTH];
+    for k in 0..q.depth {
+        let at = half_band_bytes(k);
+        let from = 96 * k;
+        counts[k] = usize::from(le16_at(e, at));
+        held[k] = f32_of_bits(le32_at(e, at + 2));
+        get_all(e, at + 6, &mut delays[from..from + window(k)]);
     }
-}
-
-// The first n cells of a prototype.
-#[tactic(auto, unfolding(sheet::specs::Laid::laid))]
-fn cells_from(cells: &[u8], n: usize) -> [f32; MOST_CELLS]
-    requires { (n ≤ 1024) × (length cells.now ≡ 4 * n) }
-    ensures { result ≡ laid 0 (values_at f32_at 4 cells.now 0 n) (replicate 1024 zero32) }
-{
-    let mut prototype = [0.0; MOST_CELLS];
-    get_all(cells, 0, &mut prototype[..n]);
-    prototype
-}
-
-// The n delays behind mu.
-#[tactic(auto, unfolding(sheet::specs::Laid::laid))]
-fn cell_delays_from(e: &[u8], n: usize) -> [f32; MOST_PHASE_TAPS]
-    requires { (n ≤ 16) × (length e.now ≡ 4 + 4 * n) }
-    ensures { result ≡ laid 0 (values_at f32_at 4 e.now 4 n) (replicate 16 zero32) }
-{
-    let mut delay = [0.0; MOST_PHASE_TAPS];
-    get_all(e, 4, &mut delay[..n]);
-    delay
+    HbfStream {
+        depth: q.depth,
+        delays,
+        held,
+        counts,
+    }
 }
 
 #[tactic(auto, unfolding(parking::specs::Entries::resampler_from), using(parking::proofs::StageLengths::cells_most))]
@@ -210,12 +153,13 @@ pub(crate) fn resampler_from(q: ParkedSettings, cells: &[u8], e: &[u8]) -> Polyp
         straight: 1 <= q.straight,
         mu: f32_of_bits(le32_at(e, 0)),
         step: f32_of_bits(q.step),
-        delay: cell_delays_from(e, q.cells),
-        prototype: cells_from(cells, q.phases * q.cells),
+        delay: values_from(e, 4, q.cells, 0.0),
+        prototype: values_from(cells, 0, q.phases * q.cells, 0.0),
     }
 }
 
-// Whether parking writes such half-band stages. A loop, as `are_floats`: its sums of places are in bounds by the stage's number, which a closure would have to ask for.
+// Whether parking writes such half-band stages. A loop, as in `are_floats`, whose proof over `all` did not close.
+// The number of stages is bounded beside the length, which does not bound it: "a depth over 5 counts as 5".
 #[tactic(auto, unfolding(parking::specs::Entries::stages_written), using(parking::proofs::StageLengths::bytes_most))]
 pub(crate) fn stages_written(e: &[u8], n: usize) -> bool
     requires { (n ≤ 5) × (length e.now ≡ P.half_band_bytes n) }

@@ -15,7 +15,8 @@ pub(crate) fn get_all<W: Word>(bytes: &[u8], at: usize, into: &mut [W])
     }
 }
 
-// Whether n words from a place on are floats as parking writes them. A loop, where `all` over chunks would do: the definition reads words at places, and a proof would have to find each chunk's.
+// Whether n words from a place on are floats as parking writes them. A loop: over `(0..n).all(..)` the proof did not close, since the closure calls two functions, and no search
+// found from the run's facts what it answers of each number.
 pub(crate) fn are_floats(bytes: &[u8], at: usize, n: usize) -> bool
     requires { at + 4 * n ≤ length bytes.now }
     ensures { result ≡ floats_at bytes.now at n }

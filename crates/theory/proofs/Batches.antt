@@ -5,7 +5,7 @@ use mathlib.Core.Bool.{Bool, true, false}
 use mathlib.Core.List.{List, [], ◌∷◌, ◌++◌, append_assoc}
 use Rattle.std.specs.Prelude.{Option, None, Some}
 use Prim.Native.Nat.{ℕ, zero, suc, ◌+◌, ◌-◌, ◌≤◌, ◌<◌}
-use native.Mathlib.Nat.{zero-add, sub-zero, le_of_suc-le-suc}
+use native.Mathlib.Nat.{sub-zero, le_of_suc-le-suc}
 use native.Mathlib.Omega.{arith}
 use lib.ListN.{length, get_or, take, drop, length-append, length-drop, take-append-drop, drop_of_length-le}
 use lib.Seq.{length-take-le, take_at, take-take, drop_at, drop-drop, drop-cons}
@@ -15,7 +15,7 @@ use Rattle.theory.specs.Machines.{Machine, alone, next_for, now_for, before}
 use Rattle.theory.specs.Feeds.{Fed, taking, idle, wrote_then, took_then, less, follow, feed}
 use Rattle.theory.proofs.Machines.{Lawful, all_alone, lawful_alone}
 use Rattle.theory.proofs.Feeds.{step_not, Right, feed_right}
-use Rattle.theory.proofs.FeedLoop.{join, feed_follow, Midway}
+use Rattle.theory.proofs.FeedLoop.{join, join_zero, feed_follow, Midway}
 use Rattle.theory.proofs.FeedRules.{feed_full, feed_due, feed_end, feed_short}
 
 module _ {S A C : Type 0} (m : Machine S A C) where
@@ -31,9 +31,6 @@ module _ {S A C : Type 0} (m : Machine S A C) where
       go None = refl
       go (Some c) = refl
 
-  pub join_none : (f : Fed S C) → join 0 [] f ≡ f
-  join_none f = ap {B = Fed S C} (λ (k : ℕ). record { taken = k; written = f.written; line = f.line }) (zero-add f.taken)
-
   pub join_took : (o : Option C) (j : ℕ) (w : List C) (f : Fed S C) → took_then o (join j w f) ≡ join (suc j) (onto o w) f
   join_took None j w f = let e : suc (j + f.taken) ≡ suc j + f.taken = omega arith in ap {B = Fed S C} (λ (k : ℕ). record { taken = k; written = w ++ f.written; line = f.line }) e
   join_took (Some c) j w f =
@@ -47,7 +44,7 @@ module _ {S A C : Type 0} (m : Machine S A C) where
   goes_full : (s : S) (xs zs : List A) → Goes xs zs 0 (feed m s xs 0) (feed m s (xs ++ zs) 0)
   goes_full s xs zs =
       rw (feed_full m s xs, feed_full m s (xs ++ zs))
-      (λ e. subst (λ (j : ℕ). idle s ≡ join j [] (feed m s zs (0 - 0))) e (sym (join_none _ ∙ ap (feed m s zs) (sub-zero 0) ∙ feed_full m s zs)))
+      (λ e. subst (λ (j : ℕ). idle s ≡ join j [] (feed m s zs (0 - 0))) e (sym (join_zero _ ∙ ap (feed m s zs) (sub-zero 0) ∙ feed_full m s zs)))
 
   goes : (k : ℕ) (s : S) (xs zs : List A) (n : ℕ) → length xs + n ≤ k → Goes xs zs n (feed m s xs n) (feed m s (xs ++ zs) n)
   goes zero s xs zs zero l = goes_full s xs zs
@@ -68,7 +65,7 @@ module _ {S A C : Type 0} (m : Machine S A C) where
       go true e ys q ih =
           rw (feed_due m s ys n e, feed_due m s (ys ++ zs) n e)
           (λ t. ap (wrote_then (m.val s)) (ih (m.after s) ys n (omega arith) t) ∙ fewer (length ys) (m.val s) (feed m (m.after s) ys n))
-      go false e [] q ih = rw (feed_end m s (suc n) e) (λ t. sym (join_none _ ∙ ap (feed m s zs) (sub-zero (suc n))))
+      go false e [] q ih = rw (feed_end m s (suc n) e) (λ t. sym (join_zero _ ∙ ap (feed m s zs) (sub-zero (suc n))))
       go false e (a ∷ ys) q ih = rw (feed_takes s a ys n e, feed_takes s a (ys ++ zs) n e) (of (m.now s a))
         where
           of :

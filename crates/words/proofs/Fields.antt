@@ -1,6 +1,6 @@
 -- Values that were laid one behind the other are read as they were, over any width: what a width is asked for is that one value is (`Reads`).
 use mathlib.Core.Path.{◌≡◌, refl, sym, ap, ◌∙◌}
-use mathlib.Core.Bool.{Bool, true}
+use mathlib.Core.Bool.{true}
 use mathlib.Core.List.{List, [], ◌∷◌, ◌++◌, append_assoc}
 use Prim.Native.Nat.{ℕ, zero, suc, ◌+◌, ◌*◌, ◌<◌}
 use native.Mathlib.Omega.{arith}
@@ -9,8 +9,9 @@ use lib.Ieee.{Float, binary32, to_bits, of_bits}
 use lib.Ieee.Bits.{of_bits-to_bits}
 use lib.ListN.{length, get_or, take, drop, set, replicate, length-append}
 use lib.Seq.{drop_at, drop-drop}
-use Rattle.sheet.specs.Sheet.{le32, every}
+use Rattle.sheet.specs.Sheet.{le32}
 use Rattle.sheet.proofs.RoundTrip.{found_at}
+use Rattle.sheet.proofs.RoundTrip.{every_all}
 use Rattle.words.specs.Reading.{bits_below}
 use Rattle.words.specs.Fields.{Reads, f32_bytes, joined, values_at, is_float, floats_at, All, IsFloat}
 
@@ -52,14 +53,18 @@ module _ {A : Type 0} (bytes : A → List ℕ) where
   joined_append [] ys = refl
   joined_append (x ∷ xs) ys = ap (λ (l : List ℕ). bytes x ++ l) (joined_append xs ys) ∙ sym (append_assoc (bytes x) (joined bytes xs) (joined bytes ys))
 
-module _ {A : Type 0} (bytes : A → List ℕ) (read : List ℕ → ℕ → A) (w : ℕ) (P : A → Type 0) (r : Reads bytes read w P) where
-  pub joined_length : (xs : List A) → length (joined bytes xs) ≡ w * length xs
+module _ {A : Type 0} (bytes : A → List ℕ) (w : ℕ) (long : (x : A) → length (bytes x) ≡ w) where
+  pub joined_long : (xs : List A) → length (joined bytes xs) ≡ w * length xs
   unfolding joined
-  joined_length [] = omega arith
-  joined_length (x ∷ xs) = length-append (bytes x) (joined bytes xs) ∙ rw (r.long x, joined_length xs) (more w (length xs))
+  joined_long [] = omega arith
+  joined_long (x ∷ xs) = length-append (bytes x) (joined bytes xs) ∙ rw (long x, joined_long xs) (more w (length xs))
     where
       more : (a n : ℕ) → a + a * n ≡ a * suc n
       more a n = omega arith
+
+module _ {A : Type 0} (bytes : A → List ℕ) (read : List ℕ → ℕ → A) (w : ℕ) (P : A → Type 0) (r : Reads bytes read w P) where
+  pub joined_length : (xs : List A) → length (joined bytes xs) ≡ w * length xs
+  joined_length xs = joined_long bytes w r.long xs
 
   pub values_back : (xs : List A) → All P xs → (b : List ℕ) (at : ℕ) (rest : List ℕ) → drop at b ≡ joined bytes xs ++ rest → values_at read w b at (length xs) ≡ xs
   unfolding values_at joined
@@ -89,12 +94,6 @@ word_is b at x rest p e =
     rw (found_at b at (to_bits binary32 x) rest e (bits_below x p))
     (eq-eqb (to_bits binary32 (of_bits binary32 (to_bits binary32 x))) (to_bits binary32 x) (ap (to_bits binary32) (of_bits-to_bits binary32 x p)))
 
--- every number below n passes, asked from the first on
-pub every_is : (n : ℕ) (p : ℕ → Bool) → ((i : ℕ) → i < n → p i ≡ true) → every n p ≡ true
-unfolding every
-every_is zero p h = refl
-every_is (suc n) p h = rw (every_is n p (λ i l. h i (omega arith)), h n (omega arith))
-
 floats_each : (xs : List Float) → All IsFloat xs → (b : List ℕ) (at : ℕ) (rest : List ℕ) → drop at b ≡ joined f32_bytes xs ++ rest → (i : ℕ) → i < length xs → is_float (le32 b (at + 4 * i)) ≡ true
 unfolding joined
 floats_each [] a b at rest e i h = absurd (omega arith)
@@ -105,4 +104,4 @@ floats_each (x ∷ xs) a b at rest e (suc i) h =
 
 pub floats_are : (xs : List Float) → All IsFloat xs → (b : List ℕ) (at : ℕ) (rest : List ℕ) → drop at b ≡ joined f32_bytes xs ++ rest → floats_at b at (length xs) ≡ true
 unfolding floats_at
-floats_are xs a b at rest e = every_is (length xs) _ (floats_each xs a b at rest e)
+floats_are xs a b at rest e = every_all (length xs) _ (floats_each xs a b at rest e)

@@ -7,37 +7,23 @@ use native.Mathlib.Nat.{mul-le-mul_left}
 use native.Mathlib.Numerals.{add-one}
 use native.Mathlib.Omega.{arith}
 use native.Mathlib.Decide.{dec_lt}
-use lib.ListN.{length, get_or, set, take, length-append, drop_of_length-le}
+use lib.ListN.{length, get_or, set, take, drop_of_length-le}
 use lib.Seq.{sets-eq, take-length, take-suc, length-take-le}
 use Rattle.sheet.specs.Sheet.{every}
 use Rattle.sheet.specs.Laid.{laid, laid_in}
 use Rattle.sheet.proofs.Laying.{laid_behind, laid_length, laid_none, laid_front, laid_in_lem}
-use Rattle.words.specs.Puts.{Puts}
 use Rattle.words.specs.Fields.{joined, values_at}
-use Rattle.words.proofs.Fields.{joined_append, values_more, values_length}
+use Rattle.words.proofs.Fields.{joined_long, joined_append, values_more, values_length}
+
+-- values that fill a list
+pub laid_whole : {A : Type 0} (xs s : List A) → length s ≡ length xs → laid 0 xs s ≡ xs
+laid_whole {A} xs s h = laid_front xs s ∙ ap (λ (l : List A). xs ++ l) (drop_of_length-le s (let q : length s ≤ length xs = omega arith in q)) ∙ append-nil xs
 
 -- ---- writing
 
 module _ {A : Type 0} (bytes : A → List ℕ) (w : ℕ) (long : (x : A) → length (bytes x) ≡ w) where
-  joined_long : (xs : List A) → length (joined bytes xs) ≡ w * length xs
-  unfolding joined
-  joined_long [] = omega arith
-  joined_long (x ∷ xs) = length-append (bytes x) (joined bytes xs) ∙ rw (long x, joined_long xs) (more w (length xs))
-    where
-      more : (a n : ℕ) → a + a * n ≡ a * suc n
-      more a n = omega arith
-
-  pub put_space : (at : ℕ) (xs : List A) (n : ℕ) → at + length (joined bytes xs) ≤ n → at + w * length xs ≤ n
-  put_space at xs n h = rw (joined_long xs) at h
-
-  pub put_place : (at i : ℕ) (xs : List A) (n : ℕ) → at + length (joined bytes xs) ≤ n → i ≤ length xs → at + w * i ≤ n
-  put_place at i xs n h l = let p = put_space at xs n h in let q = mul-le-mul_left w l in omega arith
-
-  pub put_done : (at i : ℕ) (xs : List A) (s₀ s : List ℕ) → s ≡ laid at (joined bytes (take i xs)) s₀ → i ≡ length xs → Puts at (joined bytes xs) s₀ s (at + w * length xs)
-  put_done at i xs s₀ s e h = record { span = e ∙ ap (λ (l : List A). laid at (joined bytes l) s₀) (ap (λ (k : ℕ). take k xs) h ∙ take-length xs); place = rw (joined_long xs) }
-
   pub joined_taken : (n : ℕ) (xs : List A) → n ≤ length xs → length (joined bytes (take n xs)) ≡ w * n
-  joined_taken n xs h = joined_long (take n xs) ∙ ap (λ (k : ℕ). w * k) (length-take-le n xs h)
+  joined_taken n xs h = joined_long bytes w long (take n xs) ∙ ap (λ (k : ℕ). w * k) (length-take-le n xs h)
 
   joined_one : (xs : List A) (i : ℕ) (z : A) → i < length xs → joined bytes (take (i + 1) xs) ≡ joined bytes (take i xs) ++ bytes (get_or xs i z)
   unfolding joined
@@ -45,35 +31,31 @@ module _ {A : Type 0} (bytes : A → List ℕ) (w : ℕ) (long : (x : A) → len
       ap (λ (k : ℕ). joined bytes (take k xs)) (add-one i) ∙ ap (joined bytes) (take-suc xs i z h)
       ∙ joined_append bytes (take i xs) (get_or xs i z ∷ []) ∙ ap (λ (l : List ℕ). joined bytes (take i xs) ++ l) (append-nil (bytes (get_or xs i z)))
 
-  pub put_first : (at : ℕ) (xs : List A) (s : List ℕ) → s ≡ laid at (joined bytes (take 0 xs)) s
+  pub put_first : (xs : List A) (s : List ℕ) → s ≡ laid 0 (joined bytes (take 0 xs)) s
   unfolding joined
-  put_first at xs s = laid_none at s
+  put_first xs s = laid_none 0 s
 
-  module _ (at i n : ℕ) (xs : List A) (z : A) (s₀ s : List ℕ) (e : s ≡ laid at (joined bytes (take i xs)) s₀) (h : i < n) (l : n ≤ length xs) (room : at + w * n ≤ length s₀) where
-    inside : w * i + w ≤ w * n
-    inside = let q : suc i ≤ n = omega arith in let r = mul-le-mul_left w q in let e₁ : w * suc i ≡ w * i + w = omega arith in omega arith
+  module _ (i : ℕ) (xs : List A) (z : A) (s₀ s : List ℕ) (e : s ≡ laid 0 (joined bytes (take i xs)) s₀) (h : i < length xs) (room : length s₀ ≡ w * length xs) where
+    inside : w * i + w ≤ w * length xs
+    inside = let q : suc i ≤ length xs = omega arith in let r = mul-le-mul_left w q in let e₁ : w * suc i ≡ w * i + w = omega arith in omega arith
 
-    put_room : at + w * i + w ≤ length s
-    put_room = let q = inside in let t = joined_taken i xs (let y : i ≤ length xs = omega arith in y) in
-        let k : length s ≡ length s₀ = ap length e ∙ laid_length at (joined bytes (take i xs)) s₀ (omega arith) in omega arith
-
-    pub put_one : (y : A) → y ≡ get_or xs i z → laid_in (at + w * i) (bytes y) s ≡ laid at (joined bytes (take (i + 1) xs)) s₀
-    put_one y f =
+    pub put_one : laid_in (w * i) (bytes (get_or xs i z)) s ≡ laid 0 (joined bytes (take (i + 1) xs)) s₀
+    put_one =
         let q = inside in
+        let x = get_or xs i z in
         let t = joined_taken i xs (let y : i ≤ length xs = omega arith in y) in
-        let b = long y in
-        let k = put_room in
-        let p : at + w * i ≡ at + length (joined bytes (take i xs)) = rw t in
-        let r : at + length (joined bytes (take i xs)) + length (bytes y) ≤ length s₀ = omega arith in
-        laid_in_lem (at + w * i) (bytes y) s (omega arith)
-        ∙ ap (laid (at + w * i) (bytes y)) e
-        ∙ laid_behind at (at + w * i) (joined bytes (take i xs)) (bytes y) s₀ p r
-        ∙ ap (λ (v : List ℕ). laid at v s₀) (ap (λ (x : A). joined bytes (take i xs) ++ bytes x) f ∙ sym (joined_one xs i z (let y : i < length xs = omega arith in y)))
+        let b = long x in
+        let k : length s ≡ length s₀ = ap length e ∙ laid_length 0 (joined bytes (take i xs)) s₀ (omega arith) in
+        let r : 0 + length (joined bytes (take i xs)) + length (bytes x) ≤ length s₀ = omega arith in
+        laid_in_lem (w * i) (bytes x) s (omega arith)
+        ∙ ap (laid (w * i) (bytes x)) e
+        ∙ laid_behind 0 (w * i) (joined bytes (take i xs)) (bytes x) s₀ (let p : w * i ≡ 0 + length (joined bytes (take i xs)) = omega arith in p) r
+        ∙ ap (λ (v : List ℕ). laid 0 v s₀) (sym (joined_one xs i z h))
 
--- ---- bytes that a span has room for
-
-pub put_in : (at : ℕ) (xs s : List ℕ) → at + length xs ≤ length s → laid_in at xs s ≡ laid at xs s
-put_in at xs s h = laid_in_lem at xs s h
+  pub put_done : (i : ℕ) (xs : List A) (s₀ s : List ℕ) → s ≡ laid 0 (joined bytes (take i xs)) s₀ → i ≡ length xs → length s₀ ≡ w * length xs → s ≡ joined bytes xs
+  put_done i xs s₀ s e h room =
+      let l = joined_long bytes w long xs in
+      e ∙ ap (λ (l : List A). laid 0 (joined bytes l) s₀) (ap (λ (k : ℕ). take k xs) h ∙ take-length xs) ∙ laid_whole (joined bytes xs) s₀ (omega arith)
 
 -- ---- reading
 
@@ -99,9 +81,7 @@ module _ {A : Type 0} (read : List ℕ → ℕ → A) (w : ℕ) (b : List ℕ) w
   pub get_last : (at i : ℕ) (s₀ s : List A) → s ≡ laid 0 (values_at read w b at i) s₀ → i ≡ length s₀ → s ≡ values_at read w b at (length s₀)
   get_last at i s₀ s e h =
       let v = values_length read w b i at in
-      e ∙ laid_front (values_at read w b at i) s₀
-      ∙ ap (λ (l : List A). values_at read w b at i ++ l) (drop_of_length-le s₀ (let q : length s₀ ≤ length (values_at read w b at i) = omega arith in q))
-      ∙ append-nil (values_at read w b at i) ∙ ap (values_at read w b at) h
+      e ∙ laid_whole (values_at read w b at i) s₀ (omega arith) ∙ ap (values_at read w b at) h
 
 -- ---- testing
 

@@ -3,7 +3,7 @@ use Rattle.std.specs.Prelude.{pos}
 use Rattle.std.proofs.Common.{arith, ap, ◌∙◌}
 use lib.ListN.{length-replicate}
 use Rattle.theory.specs.Tally.{held_sum}
-use Rattle.chain.specs.Parts.{most_count}
+use Rattle.chain.specs.Cuts.{most_cuts}
 use Rattle.chain.proofs.Running.{filtered_cuts, filtered_few, filter_batched}
 use Rattle.chain.proofs.filter.filter.Goals as goal
 
@@ -20,4 +20,4 @@ returns-clause-batched c =
 pub returns-clause-cuts : goal.returns-clause-cuts
 returns-clause-cuts c =
     let cuts = filtered_cuts _ _ _ c.requires (length-replicate 128 (pos 0)) _ (rw c.fir-settings.ensures at c.fir_block_at-at.ensures.cuts) in
-    c.held_sum-clock.ensures ∙ ap (held_sum most_count c.args.clock.now.cuts) cuts
+    c.held_sum-clock.ensures ∙ ap (held_sum most_cuts c.args.clock.now.cuts) cuts

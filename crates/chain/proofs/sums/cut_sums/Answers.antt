@@ -6,7 +6,7 @@ use mir.Val.{to_z, of_z}
 use Rattle.theory.specs.Floor.{floor_div}
 use Rattle.theory.proofs.Listed.{map_listed}
 use Rattle.q15.specs.Fixed.{at, cut, is_cut, cut_count}
-use Rattle.q15.proofs.CutFilling.{few_cut, few_flagged, next_flagged, all_cut}
+use Rattle.q15.proofs.CutFilling.{few_flagged, next_flagged, all_cut}
 use Rattle.chain.proofs.Mapping.{listed_map}
 use Rattle.chain.proofs.sums.cut_sums.Goals as goal
 use Rattle.chain.proofs.sums.cut_sums.Goals.{After-from-cuts}
@@ -51,6 +51,3 @@ returns-clause-cuts c =
     let done = all_cut _ _ _ _ _ _ c.loop-i-test.false c.loop-i.invariant in
     let g : ℤ → ℤ = (λ y. floor_div y (2 ^ a.bits)) in
     done.1 ∙ ap (cut_count w16) (listed_map g (pos 0) a.sums.now)
-
-pub returns-clause-few : goal.returns-clause-few
-returns-clause-few c = omega (arith, few_cut _ _ _ _ _ _ c.loop-i.invariant)

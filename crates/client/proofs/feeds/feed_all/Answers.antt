@@ -28,7 +28,7 @@ overflow_add-at c =
 pub loop-k-preserved : goal.loop-k-preserved
 loop-k-preserved c =
     let fed = c.in_ok-moved.ensures in
-    onward_as _ _ _ _ _ c.loop-k.invariant (omega arith) (omega arith) refl refl fed.answer fed.demand3 fed.long fed.places c.min-from.ensures
+    onward_as _ _ _ _ _ c.loop-k.invariant (omega arith) (omega arith) refl refl fed.answer fed.demand3 fed.long fed.places refl c.min-from.ensures
 
 pub returns-clause-all : goal.returns-clause-all
 returns-clause-all c = (both_ended _ _ _ _ _ c.loop-k.invariant (omega arith)).0

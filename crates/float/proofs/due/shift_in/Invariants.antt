@@ -4,8 +4,8 @@ use lib.Ieee.{nan}
 use Rattle.float.proofs.DelayLine.{slid}
 use Rattle.float.proofs.due.shift_in.Given as goal
 
-abbrev pub invariant-loop-t : goal.invariant-loop-t
-invariant-loop-t l = record {
-  moved : l.delay ≡ slid l.initial.delay l.x l.t;
-  next : l.held ≡ get_or (l.x ∷ l.initial.delay) l.t nan;
+abbrev pub invariant-loop-place : goal.invariant-loop-place
+invariant-loop-place l = record {
+  moved : l.place-items ≡ slid l.initial.place-items l.x l.place-index;
+  next : l.held ≡ get_or (l.x ∷ l.initial.place-items) l.place-index nan;
 }

@@ -16,7 +16,7 @@ unfolding decimator
 loop-i-preserved c =
     let l = c.loop-i in
     let a = c.args in
-    let t = a.taps.now in
+    let t = a.taps.all.now in
     let v = a.line.now in
     let few : l.i + 1 ≤ length a.span.now = omega arith in
     let one : 2 * (l.i + 1) ≡ 2 * l.i + 2 = omega arith in
@@ -25,7 +25,7 @@ loop-i-preserved c =
     moved_on v (4 * length t) l.i (omega arith) (omega arith) in
     let y : c.dec_at.result ≡ dec_value t (take (4 * length t) (drop (2 * l.i + 2) v)) = c.dec_at.ensures ∙ ap (λ (k : ℕ). dec_value t (take k (drop (2 * l.i + 2) v))) back in
     emitted_one (decimator t) (take (4 * length t) v) (pairs (drop (4 * length t) v)) a.span.now (take (4 * length t) (drop (2 * l.i) v)) l.span l.i l.i (nan, nan) l.invariant
-    (omega (arith, pairs_long t v (length a.span.now) c.requires.2))
+    (omega (arith, pairs_long t v (length a.span.now) c.requires))
     (take (4 * length t) (drop (2 * (l.i + 1)) v))
     (ap (λ (k : ℕ). take (4 * length t) (drop k v)) one ∙ next)
     c.dec_at.result
@@ -36,7 +36,7 @@ pub returns : goal.returns
 returns c =
     let l = c.loop-i in
     let a = c.args in
-    let t = a.taps.now in
+    let t = a.taps.all.now in
     let v = a.line.now in
     (emitted_all (decimator t) (take (4 * length t) v) (pairs (drop (4 * length t) v)) a.span.now (take (4 * length t) (drop (2 * l.i) v)) l.span l.i l.i l.invariant
-    (omega (arith, pairs_long t v (length a.span.now) c.requires.2)) (omega arith)).1
+    (omega (arith, pairs_long t v (length a.span.now) c.requires)) (omega arith)).1

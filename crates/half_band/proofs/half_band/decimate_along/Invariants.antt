@@ -6,4 +6,4 @@ use Rattle.half_band.proofs.half_band.decimate_along.Given as goal
 
 abbrev pub invariant-loop-i : goal.invariant-loop-i
 invariant-loop-i l =
-    Emitted (decimator l.taps) (take l.long l.line) (pairs (drop l.long l.line)) l.initial.span (take l.long (drop (2 * l.i) l.line)) l.span l.i l.i
+    Emitted (decimator l.taps.all.now) (take l.long l.line) (pairs (drop l.long l.line)) l.initial.span (take l.long (drop (2 * l.i) l.line)) l.span l.i l.i

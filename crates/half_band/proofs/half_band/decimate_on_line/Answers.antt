@@ -1,76 +1,78 @@
--- Window and values stand in a row on the line, whose last places are the window left and whose windows give the outputs.
-use Rattle.std.proofs.Common.{◌≡◌, ℕ, ◌+◌, ◌-◌, ◌*◌, ◌/◌, ◌≤◌, List, ◌++◌, length, take, drop, sym, ap, ap₂, ◌∙◌, arith, length-append, length-take-le, take_at, drop_at, Float}
-use lib.Seq.{take-append-add, take_all}
-use Rattle.theory.specs.Sections.{state, outs}
+-- Window, lead and values stand in a row on the line (`OnLine`), and an odd last value is left out.
+use Rattle.std.proofs.Common.{◌≡◌, Bool, ℕ, zero, suc, ◌+◌, ◌-◌, ◌*◌, ◌/◌, ◌≤◌, ◌∷◌, List, Option, None, Some, ◌++◌, length, take, drop, refl, ap, ◌∙◌, arith, length-take-le, Float}
+use lib.Seq.{take_all}
+use mir.Val.{bool_byte}
+use Rattle.std.specs.Option.{is_some}
+use Rattle.theory.specs.Sections.{onto, state, outs}
 use Rattle.half_band.specs.Windows.{pairs, decimator}
-use Rattle.float.proofs.Laid.{tape_last}
-use Rattle.half_band.proofs.PairsAlong.{state_along}
+use Rattle.half_band.proofs.OnLine.{window_left, made}
 use Rattle.half_band.proofs.StageRuns.{front_pairs}
 use Rattle.half_band.proofs.half_band.decimate_on_line.Goals as goal
 
--- the line has the window w in front, then the lead l, and then what is taken of the span s
-module _ (c line w l s : List Float) (n : ℕ) (some : 1 ≤ length c) (window_long : length w ≡ 4 * length c) (led : length l ≤ 2 * n) (room : 2 * n ≤ length l + length s)
-    (fits : length w + 2 * n ≤ length line)
-    (row : take (length w + length l + length (take (2 * n - length l) s)) line ≡ w ++ (l ++ take (2 * n - length l) s)) where
+-- how many values a lead is
+abbrev led : Option Float → ℕ
+led None = 0
+led (Some x) = 1
+
+led_is : (o : Option Float) → bool_byte (is_some o) ≡ led o
+led_is None = refl
+led_is (Some x) = refl
+
+led_few : (o : Option Float) → led o ≤ 1
+led_few None = omega arith
+led_few (Some x) = omega arith
+
+led_long : (o : Option Float) (v : List Float) → length (onto o v) ≡ led o + length v
+led_long None v = omega arith
+led_long (Some x) v = omega arith
+
+led_front : (o : Option Float) (s : List Float) (d m : ℕ) → d ≡ led o → d ≤ m → onto o (take (m - d) s) ≡ take m (onto o s)
+led_front None s d m e h = ap (λ (k : ℕ). take k s) (omega arith)
+led_front (Some x) s d zero e h = absurd (omega arith)
+led_front (Some x) s d (suc m) e h = ap {B = List Float} (λ (k : ℕ). x ∷ take k s) less
+  where
+    less : suc m - d ≡ m
+    less = omega arith
+
+-- the lead o, of d values, and what is taken of the span s
+module _ (o : Option Float) (s : List Float) (d : ℕ) (e : d ≡ led o) (some : 1 ≤ length s) where
+  abbrev n : ℕ
+  n = (d + length s) / 2
+
   abbrev v : List Float
-  v = l ++ take (2 * n - length l) s
+  v = onto o (take (2 * n - d) s)
 
-  values_long : length v ≡ 2 * n
-  values_long = length-append l (take (2 * n - length l) s) ∙ ap (λ (k : ℕ). length l + k) (length-take-le (2 * n - length l) s (omega arith)) ∙ back (length l) (2 * n) led
-    where
-      back : (k m : ℕ) → k ≤ m → k + (m - k) ≡ m
-      back k m h = omega arith
+  all : d + length s ≡ length (onto o s)
+  all = omega (arith, led_long o s, e)
 
-  values_are : v ≡ take (2 * n) (l ++ s)
-  values_are = sym (take-append-add l s (2 * n - length l)) ∙ ap (λ (k : ℕ). take k (l ++ s)) sum
-    where
-      sum : length l + (2 * n - length l) ≡ 2 * n
-      sum = omega arith
+  few : d ≤ 1
+  few = omega (arith, led_few o, e)
 
-  in_a_row : take (length w + length v) line ≡ w ++ v
-  in_a_row = ap (λ (k : ℕ). take k line) sum ∙ row
-    where
-      sum : length w + length v ≡ length w + length l + length (take (2 * n - length l) s)
-      sum = omega (arith, length-append l (take (2 * n - length l) s))
+  front : v ≡ take (2 * n) (onto o s)
+  front = led_front o s d (2 * n) e (omega (arith, few, some))
 
-  whole : take (2 * n + length w) line ≡ w ++ v
-  whole = ap (λ (k : ℕ). take k line) sum ∙ in_a_row
-    where
-      sum : 2 * n + length w ≡ length w + length v
-      sum = omega (arith, values_long)
+  long : length v ≡ 2 * n
+  long = ap length front ∙ length-take-le (2 * n) (onto o s) (omega (arith, all))
 
-  window_left : take (2 * n + length w - 2 * n) (drop (2 * n) line) ≡ state (decimator c) w (pairs (take (2 * n) (l ++ s)))
-  window_left =
-      ap (λ (k : ℕ). take (k + length w - k) (drop k line)) (sym values_long)
-      ∙ tape_last line w v (omega (arith, values_long)) in_a_row
-      ∙ sym (state_along c v w n (omega arith) values_long)
-      ∙ ap (λ (t : List Float). state (decimator c) w (pairs t)) values_are
-
-  made : outs (decimator c) (take (4 * length c) (take (2 * n + length w) line)) (pairs (drop (4 * length c) (take (2 * n + length w) line))) ≡ outs (decimator c) w (pairs (take (2 * n) (l ++ s)))
-  made =
-      ap (λ (t : List Float). outs (decimator c) (take (4 * length c) t) (pairs (drop (4 * length c) t))) whole
-      ∙ ap₂ {C = List Float} (λ (x y : List Float). outs (decimator c) x (pairs y)) (take_at w v (4 * length c) window_long) (drop_at w v (4 * length c) window_long)
-      ∙ ap (λ (t : List Float). outs (decimator c) w (pairs t)) values_are
-
--- an odd last value is in no pair
-taken_is : (l s : List Float) → pairs (take (2 * ((length l + length s) / 2)) (l ++ s)) ≡ pairs (l ++ s)
-taken_is l s =
-    let long : length (l ++ s) ≡ length l + length s = length-append l s in
-    front_pairs (length l + length s) (l ++ s) (omega arith) ∙ ap pairs (take_all (length l + length s) (l ++ s) (omega arith))
+  -- the pairs of both, since an odd last one is in no pair
+  taken : pairs v ≡ pairs (onto o s)
+  taken = ap pairs front ∙ front_pairs (d + length s) (onto o s) (omega (arith, all)) ∙ ap pairs (take_all (d + length s) (onto o s) (omega (arith, all)))
 
 pub returns : goal.returns
 returns c =
     let a = c.args in
     let r = c.requires in
+    let t = a.taps.all.now in
     let line = c.lay_led.new.line in
     let w = a.window.now in
-    let l = a.lead.now in
+    let o = a.lead in
     let s = a.span.now in
-    let n = (length l + length s) / 2 in
-    let led : length l ≤ 2 * n = omega arith in
-    let room : 2 * n ≤ length l + length s = omega arith in
-    let fits : length w + 2 * n ≤ length line = omega arith in
-    let taken = taken_is l s in (
-      c.copy_from_slice.ensures.after ∙ window_left a.taps.now line w l s n r.0 r.2 led room fits c.lay_led.ensures ∙ ap (state (decimator a.taps.now) w) taken,
-      ap (λ (t : List Float). t ++ drop n s) (c.decimate_along.ensures ∙ made a.taps.now line w l s n r.0 r.2 led room fits c.lay_led.ensures ∙ ap (outs (decimator a.taps.now) w) taken),
+    let d = c.from-before.result in
+    let e : d ≡ led o = c.from-before.ensures ∙ ap {A = Bool} bool_byte c.is_some.ensures ∙ led_is o in
+    let k = n o s d e r.1 in
+    let fits : length w + 2 * k ≤ length line = omega (arith, few o s d e r.1) in
+    let row : take (length w + length (v o s d e r.1)) line ≡ w ++ v o s d e r.1 = c.lay_led.ensures in (
+      c.copy_from_slice.ensures.after ∙ window_left t line w (v o s d e r.1) k a.taps.few.0 r.0 (long o s d e r.1) fits row ∙ ap (state (decimator t) w) (taken o s d e r.1),
+      ap (λ (y : List Float). y ++ drop k s) (c.decimate_along.ensures ∙ made t line w (v o s d e r.1) k a.taps.few.0 r.0 (long o s d e r.1) fits row ∙ ap (outs (decimator t) w) (taken o s d e r.1))
+          ∙ ap (λ (j : ℕ). outs (decimator t) w (pairs (onto o s)) ++ drop (j / 2) s) (all o s d e r.1),
     )

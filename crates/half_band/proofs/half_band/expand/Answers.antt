@@ -13,12 +13,12 @@ loop-i-preserved c =
     let n = length a.span.now / 2 in
     let room : length a.span.now ≡ 2 * n = omega arith in
     let w : List Float = take (length a.window.now) (drop l.at l.tape) in
-    let x = read (interpolator a.taps.now) a.window.now a.span.now n room w l.span l.i l.invariant.so_far in
+    let x = read (interpolator a.taps.all.now) a.window.now a.span.now n room w l.span l.i l.invariant.so_far in
     let whole : t.result + length a.window.now - t.result ≡ length a.window.now = omega arith in
     let y = rw (whole, t.ensures.1) at c.both_at-even.ensures in
     record {
       on_tape = t.ensures.0;
-      so_far = expanded_next (interpolator a.taps.now) a.window.now a.span.now n room w l.span l.i l.invariant.so_far (omega arith) _ c.both_at-even.result.0 c.both_at-even.result.1
+      so_far = expanded_next (interpolator a.taps.all.now) a.window.now a.span.now n room w l.span l.i l.invariant.so_far (omega arith) _ c.both_at-even.result.0 c.both_at-even.result.1
           (t.ensures.1 ∙ ap (λ (v : Float). slid w (v ∷ [])) x)
-          (ap {B = Option (Float × Float)} Some (sym (y ∙ ap (λ (v : Float). int_value a.taps.now (slid w (v ∷ []))) x)));
+          (ap {B = Option (Float × Float)} Some (sym (y ∙ ap (λ (v : Float). int_value a.taps.all.now (slid w (v ∷ []))) x)));
     }

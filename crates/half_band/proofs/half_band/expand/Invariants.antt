@@ -8,5 +8,5 @@ abbrev pub invariant-loop-i : goal.invariant-loop-i
 invariant-loop-i l =
     record {
       on_tape : l.at + l.long ≤ 192;
-      so_far : Expanded (interpolator l.taps) l.window l.initial.span l.n (take l.long (drop l.at l.tape)) l.span l.i;
+      so_far : Expanded (interpolator l.taps.all.now) l.window l.initial.span l.n (take l.long (drop l.at l.tape)) l.span l.i;
     }

@@ -4,4 +4,4 @@ use Rattle.half_band.specs.Windows.{folded}
 use Rattle.half_band.proofs.half_band.folded_sum.Given as goal
 
 abbrev pub invariant-loop-t : goal.invariant-loop-t
-invariant-loop-t l = l.acc ≡ folded l.step l.taps l.window l.start l.t
+invariant-loop-t l = l.acc ≡ folded l.step l.taps.all.now l.window l.start l.t

@@ -20,11 +20,10 @@ decimate_on_tape-requires g c =
     let d = c.loop-done.done in
     let e = c.min-end.result in
     let t = turn f a.depth frames d e c.rate_change-factor.ensures c.requires.0 c.loop-done-test.true c.min-end.ensures in
-    let reach : frames * f ≡ length a.src.now = ap (λ (n : ℕ). frames * n) c.rate_change-factor.ensures ∙ sym c.requires.2 in
+    let reach : frames * f ≡ length a.src.now = ap (λ (n : ℕ). frames * n) c.rate_change-factor.ensures ∙ sym c.requires.1 in
     let src = inside (e * f - d * f) (d * f) a.src.now (omega (arith, t.before, t.behind, reach)) in
     let dst = inside (e - d) d c.loop-done.dst (omega (arith, t.more, t.most)) in (
       c.requires.0,
-      omega arith,
       src ∙ t.count ∙ ap (λ (n : ℕ). n * f) (sym dst) ∙ ap (λ (n : ℕ). length (take (e - d) (drop d c.loop-done.dst)) * n) c.rate_change-factor.ensures,
       subst (λ (n : ℕ). n ≤ 192) (sym src) t.on_tape,
     )
@@ -59,5 +58,5 @@ returns g c =
     let l = c.loop-done in
     let f = c.rate_change-factor.result in
     let ended : l.done ≡ length a.dst.now = omega (arith, l.invariant.few) in
-    let taken : length a.src.now ≡ l.done * f = c.requires.2 ∙ ap (λ (n : ℕ). length a.dst.now * n) (sym c.rate_change-factor.ensures) ∙ ap (λ (n : ℕ). n * f) (sym ended) in
+    let taken : length a.src.now ≡ l.done * f = c.requires.1 ∙ ap (λ (n : ℕ). length a.dst.now * n) (sym c.rate_change-factor.ensures) ∙ ap (λ (n : ℕ). n * f) (sym ended) in
     emitted_all (stream (stage_taps g.T.StageTable.table)) (bare a.depth a.delays.now) a.src.now a.dst.now (bare a.depth l.delays) l.dst (l.done * f) l.done l.invariant.so_far (omega arith) (omega arith)

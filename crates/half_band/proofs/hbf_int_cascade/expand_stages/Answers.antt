@@ -9,7 +9,7 @@ overflow_sub-from-in-loop-k c =
     omega (arith, (doubled _ _ _ _ c.loop-k-test.true g.filled).1, g.same)
 
 pub expand_stage-requires : goal.expand_stage-requires
-expand_stage-requires c = let g = c.loop-k.invariant in (omega arith, g.long, lent_even _ _ _ _ _ _ _ g c.loop-k-test.true _ refl)
+expand_stage-requires c = let g = c.loop-k.invariant in (omega arith, lent_even _ _ _ _ _ _ _ g c.loop-k-test.true _ refl)
 
 pub loop-k-preserved : goal.loop-k-preserved
 loop-k-preserved c =

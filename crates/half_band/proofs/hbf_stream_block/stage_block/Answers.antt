@@ -12,10 +12,10 @@ pub returns-clause-next : goal.returns-clause-next
 returns-clause-next c =
     let a = c.args in
     let o = c.decimate_stage.ensures in
-    stage_next a.k a.delays.now a.held.now a.counts.now a.span.now c.min-before.result (omega arith) c.min-before.ensures _ _ _ _ o.0 c.odd_one.ensures refl refl
+    stage_next a.k a.delays.now a.held.now a.counts.now a.span.now c.min-before.result (omega arith) c.min-before.ensures _ _ _ _ (rw c.then_some-lead.ensures at o.0) c.odd_one.ensures refl refl
 
 pub returns-clause-outputs : goal.returns-clause-outputs
 returns-clause-outputs c =
     let a = c.args in
     let o = c.decimate_stage.ensures in
-    stage_made a.k a.delays.now a.held.now a.counts.now a.span.now c.min-before.result (omega arith) c.min-before.ensures _ o.1
+    stage_made a.k a.delays.now a.held.now a.counts.now a.span.now c.min-before.result (omega arith) c.min-before.ensures _ (rw c.then_some-lead.ensures at o.1)

@@ -35,10 +35,15 @@ some (suc n) empty f e = omega arith
 pub overflow_sub-first : goal.overflow_sub-first
 overflow_sub-first c = let k = (sound _ _ _ c.requires.0).below in omega arith
 
-pub slice_bounds-begun_sum-end : goal.slice_bounds-begun_sum-end
-slice_bounds-begun_sum-end c =
+pub slice_bounds-sum_of-end : goal.slice_bounds-sum_of-end
+slice_bounds-sum_of-end c =
     let p = parted _ _ _ _ _ c.requires.0 c.requires.1 (some _ _ c.if-is_empty.false c.is_empty.ensures) in
     sym (length-take-le _ c.args.src.now p.first)
+
+pub sum_of-requires : goal.sum_of-requires
+sum_of-requires c =
+    let p = parted _ _ _ _ _ c.requires.0 c.requires.1 (some _ _ c.if-is_empty.false c.is_empty.ensures) in
+    omega (arith, length-take-le _ c.args.src.now p.first, p.begun)
 
 pub offset_bounds-src-first : goal.offset_bounds-src-first
 offset_bounds-src-first c = let n = sound _ _ _ c.requires.0 in omega (arith, n.most)
@@ -52,7 +57,7 @@ slice_bounds-whole_sums-start c = (parted _ _ _ _ _ c.requires.0 c.requires.1 (s
 pub whole_sums-requires-2 : goal.whole_sums-requires-2
 whole_sums-requires-2 c =
     let a = c.args in
-    let y = to_z w32 (of_z w32 c.begun_sum.result) in
+    let y = to_z w32 (of_z w32 c.sum_of.result) in
     let n = some _ _ c.if-is_empty.false c.is_empty.ensures in
     let p = parted _ _ _ _ _ c.requires.0 c.requires.1 n in
     let k = sound _ _ _ c.requires.0 in
@@ -68,16 +73,16 @@ whole_sums-requires-2 c =
 pub returns-clause-sums : goal.returns-clause-sums
 returns-clause-sums c =
     let a = c.args in
-    let y = to_z w32 (of_z w32 c.begun_sum.result) in
-    let sum : y ≡ c.begun_sum.result = search rules in
+    let y = to_z w32 (of_z w32 c.sum_of.result) in
+    let sum : y ≡ c.sum_of.result = search rules in
     let n = some _ _ c.if-is_empty.false c.is_empty.ensures in
     let p = parted _ _ _ _ _ c.requires.0 c.requires.1 n in
     let rest : take (length a.src.now - (a.r - a.sample_counter)) (drop (a.r - a.sample_counter) a.src.now) ≡ drop (a.r - a.sample_counter) a.src.now =
     take_all _ _ (omega (arith, length-drop (a.r - a.sample_counter) a.src.now))
     in
     let first = first_made a.stages a.r a.sample_counter a.integrators.now a.combs.now a.src.now p.begun p.first in
-    let made = rw (rest, c.begun_sum.ensures.0, c.begun_sum.ensures.1) at c.whole_sums-2.ensures.sums in
-    spread y a.dst.now c.whole_sums-2.new.dst n ∙ (rw (sum, c.begun_sum.ensures.2, made) first.0)
+    let made = rw (rest, c.sum_of.ensures.0, c.sum_of.ensures.1) at c.whole_sums-2.ensures.sums in
+    spread y a.dst.now c.whole_sums-2.new.dst n ∙ (rw (sum, c.sum_of.ensures.2, made) first.0)
 
 pub returns-clause-state : goal.returns-clause-state
 returns-clause-state c =
@@ -88,5 +93,5 @@ returns-clause-state c =
     take_all _ _ (omega (arith, length-drop (a.r - a.sample_counter) a.src.now))
     in
     let first = first_made a.stages a.r a.sample_counter a.integrators.now a.combs.now a.src.now p.begun p.first in
-    let left = rw (rest, c.begun_sum.ensures.0, c.begun_sum.ensures.1) at c.whole_sums-2.ensures.state in
+    let left = rw (rest, c.sum_of.ensures.0, c.sum_of.ensures.1) at c.whole_sums-2.ensures.state in
     rw (p.none_left, left) first.1

@@ -1,7 +1,7 @@
 -- A turn writes the outputs of the sample that was entered, and enters the next.
-use Rattle.std.proofs.Common.{◌≡◌, ◌+◌, ◌-◌, ◌<◌, ◌≤◌, length, take, drop, arith, length-take-le, length-drop, rules}
+use Rattle.std.proofs.Common.{◌≡◌, ◌+◌, ◌-◌, ◌<◌, ◌≤◌, length, take, drop, arith, length-take-le, length-drop, ◌∙◌, rules}
 use Rattle.integer.proofs.Within.{interpolator_stages, interpolator_factor}
-use Rattle.integer.proofs.Raising.{room, span_kept, written_out, done}
+use Rattle.integer.proofs.Raising.{looked_up, room, span_kept, written_out, done}
 use Rattle.integer.proofs.cic_interpolator.raise_of.Goals as goal
 
 pub loop-taken-preserved : goal.loop-taken-preserved
@@ -17,12 +17,13 @@ loop-taken-preserved g c =
     let long : length (take a.r (drop l.written l.dst)) ≡ a.r = length-take-le a.r (drop l.written l.dst) (omega (arith, length-drop l.written l.dst)) in
     let filled = rw (wide, long) at c.fill_on.ensures in
     let next = written_out _ _ _ _ _ _ (interpolator_stages _ _ c.requires.0).0 (interpolator_factor _ _ c.requires.0).0 some c.loop-taken-test.true l.invariant in
+    let coming = c.copied-in-loop-taken.ensures ∙ looked_up _ _ _ c.get.ensures.lookup.0 c.get.ensures.lookup.1 in
     record {
       combs₁ = _;
       held₁ = _;
       before = rw (wide, filled.1, filled.0) next;
-      kept = c.enter-in-loop-taken.ensures.combs;
-      summed = c.enter-in-loop-taken.ensures.integrators;
+      kept = rw coming at c.enter-in-loop-taken.ensures.combs;
+      summed = rw coming at c.enter-in-loop-taken.ensures.integrators;
     }
 
 pub returns-clause-state : goal.returns-clause-state

@@ -11,13 +11,13 @@ overflow_sub-out c = let m = (emptied c.loop-f.invariant.midway c.resampler-sett
 pub loop-f-smaller : goal.loop-f-smaller
 loop-f-smaller c =
     let some : 1 ≤ c.sums_for-count.result = omega arith in
-    let taken = some_taken c.loop-f.invariant.midway c.resampler-setting.ensures c.write_due-due.ensures (c.worth_a_batch.ensures c.loop-f-test.true) some c.sums_for-count.ensures.within (c.sums_for-count.ensures.leaves _ _ _ _ _ _ _) c.take_batch-on.ensures.within.0 (c.take_batch-on.ensures.batched c.requires.0) in
+    let taken = some_taken c.loop-f.invariant.midway c.resampler-setting.ensures c.write_due-due.ensures (c.worth_a_batch.ensures c.loop-f-test.true) some c.sums_for-count.ensures.within (c.sums_for-count.ensures.leaves _ _ _ _ _ _ _) c.take_batch-on.ensures.within.0 (c.take_batch-on.ensures.batched c.args.own.scales) in
     omega (arith, taken.0, taken.1)
 
 pub loop-f-preserved : goal.loop-f-preserved
 loop-f-preserved c =
     let some : 1 ≤ c.sums_for-count.result = omega arith in
-    let midway = after_batch_turn c.loop-f.invariant.midway c.resampler-setting.ensures c.write_due-due.ensures (c.worth_a_batch.ensures c.loop-f-test.true) some c.sums_for-count.ensures.within (c.sums_for-count.ensures.leaves _ _ _ _ _ _ _) c.take_batch-on.ensures.within.0 (c.take_batch-on.ensures.batched c.requires.0) _ refl refl in
+    let midway = after_batch_turn c.loop-f.invariant.midway c.resampler-setting.ensures c.write_due-due.ensures (c.worth_a_batch.ensures c.loop-f-test.true) some c.sums_for-count.ensures.within (c.sums_for-count.ensures.leaves _ _ _ _ _ _ _) c.take_batch-on.ensures.within.0 (c.take_batch-on.ensures.batched c.args.own.scales) _ refl refl in
     record { same = search (rules, c.loop-f.invariant.same, c.take_batch-on.ensures.same); midway = midway }
 
 pub returns-after-loop-f-clause-begun : goal.returns-after-loop-f-clause-begun

@@ -6,9 +6,9 @@ use Rattle.line.proofs.feed.feed_by.Goals as goal
 
 pub returns-then-only_integrates-clause-ran : goal.returns-then-only_integrates-clause-ran
 returns-then-only_integrates-clause-ran c =
-    rested c.args.f c.args.clock.now c.args.lent.now _ _ _ _ c.requires.1 (c.only_integrates.ensures c.if-only_integrates.true) c.integrate_all.ensures.counter c.integrate_all.ensures.made
+    rested c.args.own.fixed c.args.clock.now c.args.lent.now _ _ _ _ c.requires (c.only_integrates.ensures c.if-only_integrates.true) c.integrate_all.ensures.counter c.integrate_all.ensures.made
 
 pub overflow_add-result : goal.overflow_add-result
 overflow_add-result c =
-    let w = ran_within _ _ _ _ _ _ _ c.requires.1 (begun_ran_on _ _ _ _ _ _ _ _ _ _ _ c.feed_batches-begun.ensures.begun c.feed_singly-rest.ensures.ran) in
+    let w = ran_within _ _ _ _ _ _ _ c.requires (begun_ran_on _ _ _ _ _ _ _ _ _ _ _ c.feed_batches-begun.ensures.begun c.feed_singly-rest.ensures.ran) in
     omega (arith, w.0)

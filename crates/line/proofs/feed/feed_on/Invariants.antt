@@ -11,7 +11,7 @@ abbrev pub invariant-loop-out : goal.invariant-loop-out
 invariant-loop-out g l =
     record {
       same : Same l.fn.lent l.lent;
-      midway : Midway line 64 Good line_lawful (line_held l.f l.fn.clock l.fn.lent) l.samples l.fn.out l.out (line_held l.f l.clock l.lent) l.taken l.written;
+      midway : Midway line 64 Good line_lawful (line_held l.own.fixed l.fn.clock l.fn.lent) l.samples l.fn.out l.out (line_held l.own.fixed l.clock l.lent) l.taken l.written;
     }
 
 abbrev pub decreases-loop-out : goal.decreases-loop-out

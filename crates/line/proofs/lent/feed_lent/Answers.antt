@@ -1,21 +1,23 @@
 -- `feed_lent` meets its contract: it refuses where the line of its numbers and arrays is not valid, and else does what `feed_by` does; demand 3 follows from its answer and its span.
 use Rattle.std.proofs.Common.{refl, rules}
-use Rattle.line.proofs.Numbers.{tested, bits_apart}
+use Rattle.std.proofs.lemmas.Result.{err_from_is_err_and}
+use Rattle.line.specs.Lent.{line_in}
+use Rattle.line.proofs.Numbers.{tested}
 use Rattle.line.proofs.Demanded.{refused, ran}
 use Rattle.line.proofs.lent.feed_lent.Goals as goal
 
-pub returns-then-not-valid_at : goal.returns-then-not-valid_at
-returns-then-not-valid_at c =
-    let r = refused _ (tested _ c.fixed-f.ensures c.valid_at.ensures c.if-not-valid_at.true) c.args.samples.now c.args.out.now in
-    record { same = search rules; stays = (refl, refl); answer = r.0; span = r.1; demand3 = r.2 }
+pub returns-in_err-own : goal.returns-in_err-own
+returns-in_err-own c =
+    let a = c.args in
+    let p = err_from_is_err_and c.from_residual.result c.from_residual.ensures.1 in
+    let r = refused _ (tested (line_in a.n.now a.lent.now) c.in_err-own.ensures.valid refl) a.samples.now a.out.now in
+    rw (p.1, p.2, c.in_err-own.ensures.number) (record { same = search rules; stays = (refl, refl); answer = r.0; span = r.1; demand3 = r.2 })
 
 pub feed_by-moved-requires : goal.feed_by-moved-requires
-feed_by-moved-requires c =
-    let v = tested _ c.fixed-f.ensures c.valid_at.ensures c.if-not-valid_at.false in
-    rw c.fixed-f.ensures (bits_apart _ v, v)
+feed_by-moved-requires c = rw c.in_ok-own.ensures.fixed (tested (line_in c.args.n.now c.args.lent.now) c.in_ok-own.ensures.valid refl)
 
 pub returns : goal.returns
 returns c =
-    let v = tested _ c.fixed-f.ensures c.valid_at.ensures c.if-not-valid_at.false in
-    let r = ran _ v _ refl (rw c.fixed-f.ensures at c.feed_by-moved.ensures.ran) in
+    let v = tested (line_in c.args.n.now c.args.lent.now) c.in_ok-own.ensures.valid refl in
+    let r = ran _ v _ refl (rw c.in_ok-own.ensures.fixed at c.feed_by-moved.ensures.ran) in
     record { same = c.feed_by-moved.ensures.same; stays = (refl, refl); answer = r.0; span = r.1; demand3 = r.2 }

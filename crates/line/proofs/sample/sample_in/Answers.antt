@@ -12,23 +12,23 @@ flag : (b : Bool) → bool_byte b ≡ cond b 1 0
 flag true = refl
 flag false = refl
 
-pub returns-in-None-clause-takes : goal.returns-in-None-clause-takes
-returns-in-None-clause-takes c =
+pub returns-in_err-v-clause-takes : goal.returns-in_err-v-clause-takes
+returns-in_err-v-clause-takes c =
     let x : to_z w32 (of_z w32 c.args.x) ≡ c.args.x = search rules in
-    let made = rw (x, c.requires.1) at c.thin_at-made.ensures in
-    line_waits _ _ _ made.1 (sym c.in-None.is ∙ made.0) refl refl
+    let made = rw (x, c.requires) at c.thin_at-made.ensures in
+    rw c.from_residual.ensures (line_waits _ _ _ made.1 (sym c.in_err-v.was ∙ made.0) refl refl)
 
-pub returns-in-Some-clause-takes : goal.returns-in-Some-clause-takes
-returns-in-Some-clause-takes c =
+pub returns-clause-takes : goal.returns-clause-takes
+returns-clause-takes c =
     let x : to_z w32 (of_z w32 c.args.x) ≡ c.args.x = search rules in
-    let made = rw (x, c.requires.1) at c.thin_at-made.ensures in
-    let v = c.in-Some.v in
+    let made = rw (x, c.requires) at c.thin_at-made.ensures in
+    let v = c.in_ok-v.v in
     let same : to_z w32 (of_z w32 v) ≡ v = search rules in
     let short : to_z w32 (of_z w32 c.scaled.result) ≡ c.scaled.result = search rules in
     let long : to_z w64 (of_z w64 c.from.result) ≡ c.from.result = search rules in
-    let scaled : c.scaled.result ≡ floor_div v (2 ^ gain_bits c.args.f.settings.stages c.args.f.settings.r) = rw (same, c.requires.0) at c.scaled.ensures in
+    let scaled : c.scaled.result ≡ floor_div v (2 ^ gain_bits c.args.own.fixed.settings.stages c.args.own.fixed.settings.r) = rw (same, c.args.own.scales) at c.scaled.ensures in
     let cut = rw (long, c.from.ensures, short) at c.cut_q15-first.ensures in
     let on = c.fir_in.ensures in
     rw (on.stays.integrators, on.stays.combs, on.stays.neighbours)
-    (line_sums _ _ _ (rw (← on.counter) at made.1) v c.scaled.result _ (sym c.in-Some.is ∙ made.0) scaled (rw cut.0 at on.takes)
-    (rw (c.held_sum-clock.ensures, c.from-in-Some.ensures, flag, cut.0, cut.1) at on.cuts))
+    (line_sums _ _ _ (rw (← on.counter) at made.1) v c.scaled.result _ (sym c.in_ok-v.was ∙ made.0) scaled (rw cut.0 at on.takes)
+    (rw (c.held_sum-clock.ensures, c.from-2.ensures, flag, cut.0, cut.1) at on.cuts))

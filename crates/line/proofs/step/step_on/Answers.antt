@@ -10,8 +10,8 @@ use Rattle.line.proofs.step.step_on.Goals as goal
 pub returns-then-due-clause-steps : goal.returns-then-due-clause-steps
 unfolding in_line is_on output_of passed due_at
 returns-then-due-clause-steps c =
-    let due : due_at c.args.f c.args.clock.now.mu ≡ true = sym c.due.ensures ∙ c.if-due.true in
-    let written = rw (c.requires.1 due) at (rw c.resampler-setting.ensures at c.interpolate-y.ensures) in
+    let due : due_at c.args.own.fixed c.args.clock.now.mu ≡ true = sym c.due.ensures ∙ c.if-due.true in
+    let written = rw (c.requires due) at (rw c.resampler-setting.ensures at c.interpolate-y.ensures) in
     step_wrote line _ c.args.place c.args.samples.now c.args.at c.if-not-place.false _ _ due written refl
 
 pub returns-then-samples-at-clause-steps : goal.returns-then-samples-at-clause-steps

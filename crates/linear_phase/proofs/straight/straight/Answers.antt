@@ -45,13 +45,13 @@ returns-clause-span g c =
     ap length (rest a.span.now k) ∙ omega (arith, length-drop k a.span.now, c.requires.lent.1) in
     let centre = not (nat_eq g.row.CENTRE 0) in
     let tape = take k (c.copy_taken.new.span ++ drop k (replicate 20 zero32)) ++ (c.copy_taken-2.new.span ++ drop (k + k - k) (drop k (c.copy_taken.new.span ++ drop k (replicate 20 zero32)))) in
-    let r = c.singles.new.span in
+    let r = c.groups_back.new.span in
     let n = length a.span.now in
     let within : g.row.LONG ≤ length c.args.span.now = omega (arith, fits, c.requires.lent.1) in
-    let r_long : length c.singles.new.span ≡ length c.args.span.now - g.row.LONG = omega (arith, c.singles.auto.span, rest_long, c.requires.lent.1) in
+    let r_long : length c.groups_back.new.span ≡ length c.args.span.now - g.row.LONG = omega (arith, c.groups_back.auto.span, rest_long, c.requires.lent.1) in
     let first_long = length-take-le k (take k a.span.now ++ (r ++ drop (n - k) (drop k a.span.now))) (omega (arith, within, long_behind a.span.now r k (n - k) (omega (arith, within)) r_long)) in
     let others =
-    c.singles.ensures
+    c.groups_back.ensures
     ∙ ap₂ {C = List Float} (λ (t : List Float) (m : ℕ). window_values centre a.kind.antisymmetric t k v m) own rest_long in
     let head =
     c.first_outputs.ensures

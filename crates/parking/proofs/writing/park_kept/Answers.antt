@@ -1,7 +1,7 @@
 -- By whether the line is valid and the span has room.
-use Rattle.std.proofs.Common.{ℕ, List, length, ap, ◌∙◌, arith}
+use Rattle.std.proofs.Common.{refl, ℕ, List, length, sym, ap, ◌∙◌, arith}
+use lib.Seq.{length-take-le}
 use Rattle.std.proofs.lemmas.Result.{err_from_is_err_and}
-use Rattle.sheet.specs.Laid.{laid}
 use Rattle.sheet.specs.Sheet.{present}
 use Rattle.parking.specs.Parked.{parked}
 use Rattle.parking.specs.Kept.{line_kept}
@@ -32,8 +32,10 @@ returns-then-span-size-clause-span c =
 pub put_line-requires : goal.put_line-requires
 unfolding parked_line
 put_line-requires c =
-    let n = length_ok (line_kept c.args.k.now) c.in_ok-size.size c.in_ok-size.ensures in
-    (fine_on c.args.k.now n.0 _ c.parked.ensures.value c.parked.ensures.typed, omega (arith, n.1, ap (λ (es : List (List ℕ)). length (parked present es)) (parts_on c.args.k.now _ c.parked.ensures.value)))
+    let n = length_ok (line_kept c.args.k.now) c.in_ok-size.size c.in_ok-size.ensures in (
+      fine_on c.args.k.now n.0 _ c.parked.ensures.value c.parked.ensures.typed,
+      length-take-le c.in_ok-size.size c.args.span.now c.if-span-size.false ∙ n.1 ∙ ap (λ (es : List (List ℕ)). length (parked present es)) (sym (parts_on c.args.k.now _ c.parked.ensures.value)),
+    )
 
 pub returns-clause-answer : goal.returns-clause-answer
 returns-clause-answer c =
@@ -44,11 +46,10 @@ pub returns-clause-span : goal.returns-clause-span
 unfolding parked_line
 returns-clause-span c =
     let n = length_ok (line_kept c.args.k.now) c.in_ok-size.size c.in_ok-size.ensures in
-    room_span (line_kept c.args.k.now) n.0 c.args.span.now c.in_ok-size.size n.1 c.if-span-size.false c.put_line.new.span
-    (c.put_line.ensures ∙ ap (λ (es : List (List ℕ)). laid 0 (parked present es) c.args.span.now) (parts_on c.args.k.now _ c.parked.ensures.value))
+    room_span (line_kept c.args.k.now) n.0 c.args.span.now c.in_ok-size.size n.1 c.if-span-size.false c.put_line.new.span (c.put_line.ensures ∙ ap (parked present) (parts_on c.args.k.now _ c.parked.ensures.value))
 
 pub returns-clause-older : goal.returns-clause-older
 returns-clause-older c =
     let l = line_kept c.args.k.now in
     let n = length_ok l c.in_ok-size.size c.in_ok-size.ensures in
-    older_parked l n.0 (lengths_on c.args.k.now _ c.parked.ensures.value c.parked.ensures.typed) _ _ c.args.span.now (returns-clause-answer c) (returns-clause-span c)
+    older_parked l n.0 (lengths_on c.args.k.now _ c.parked.ensures.value c.parked.ensures.typed) _ _ c.args.span.now (returns-clause-answer c) (returns-clause-span c) refl

@@ -19,28 +19,28 @@ scaled_fits l x tap f x16 tap16 =
 pub overflow_mul-scaled : goal.overflow_mul-scaled
 overflow_mul-scaled c =
     let x = to_z w16 (of_z w16 c.args.x) in
-    let tap = at c.args.coeffs.now c.loop-p.p in
-    let factor : to_z w32 c.args.l ≡ pos c.args.l = search rules in
+    let tap = at c.args.by.coeffs.now c.loop-p.p in
+    let factor : to_z w32 c.args.by.l ≡ pos c.args.by.l = search rules in
     let product : to_z w32 (of_z w32 c.floored_product-product.result) ≡ floored_product x tap = search rules in
     let x16 : SFits w16 x = search rules in
     let tap16 : SFits w16 tap = search rules in
-    rw (factor, product) (scaled_fits c.args.l x tap (omega (arith, c.requires)) x16 tap16)
+    rw (factor, product) (scaled_fits c.args.by.l x tap c.args.by.few.1 x16 tap16)
 
 module _ (c : After-from-cuts) where
   abbrev products : ℕ → ℤ
-  products p = pos c.args.l *ℤ floored_product (to_z w16 (of_z w16 c.args.x)) (at c.args.coeffs.now p)
+  products p = pos c.args.by.l *ℤ floored_product (to_z w16 (of_z w16 c.args.x)) (at c.args.by.coeffs.now p)
 
   scaled : to_z w64 (of_z w64 c.from.result) ≡ products c.loop-p.p
   scaled =
       let x = to_z w16 (of_z w16 c.args.x) in
-      let tap = at c.args.coeffs.now c.loop-p.p in
-      let factor : to_z w32 c.args.l ≡ pos c.args.l = search rules in
+      let tap = at c.args.by.coeffs.now c.loop-p.p in
+      let factor : to_z w32 c.args.by.l ≡ pos c.args.by.l = search rules in
       let product : to_z w32 (of_z w32 c.floored_product-product.result) ≡ floored_product x tap = search rules in
       let x16 : SFits w16 x = search rules in
       let tap16 : SFits w16 tap = search rules in
       let wide : to_z w64 (of_z w64 c.from.result) ≡ c.from.result = search rules in
-      let fits = scaled_fits c.args.l x tap (omega (arith, c.requires)) x16 tap16 in
-      let is : to_z w32 (of_z w32 (to_z w32 c.args.l *ℤ to_z w32 (of_z w32 c.floored_product-product.result))) ≡ products c.loop-p.p = rw (factor, product, to_z-of_z fits) in
+      let fits = scaled_fits c.args.by.l x tap c.args.by.few.1 x16 tap16 in
+      let is : to_z w32 (of_z w32 (to_z w32 c.args.by.l *ℤ to_z w32 (of_z w32 c.floored_product-product.result))) ≡ products c.loop-p.p = rw (factor, product, to_z-of_z fits) in
       wide ∙ c.from.ensures ∙ is
 
   value : to_z w16 (of_z w16 c.cut_q15-made.result.value.0) ≡ cut w16 (products c.loop-p.p)
@@ -51,7 +51,7 @@ module _ (c : After-from-cuts) where
 pub overflow_add-cuts : goal.overflow_add-cuts
 overflow_add-cuts c =
     let few = few_flagged _ _ _ _ _ _ c.cut_q15-made.result.cut c.loop-p.invariant in
-    omega (arith, few, c.from-cuts.ensures, c.loop-p-test.true, c.requires)
+    omega (arith, few, c.from-cuts.ensures, c.loop-p-test.true, c.requires, c.args.by.few)
 
 pub loop-p-preserved : goal.loop-p-preserved
 loop-p-preserved c =

@@ -6,4 +6,4 @@ use Rattle.q15.proofs.CutFilling.{CutFilled}
 use Rattle.q15.proofs.polyphase_interpolate.one_tap.Given as goal
 
 abbrev pub invariant-loop-p : goal.invariant-loop-p
-invariant-loop-p l = CutFilled (λ (p : ℕ). pos l.l *ℤ floored_product l.x (at l.coeffs p)) l.initial.places (length l.initial.places) l.places l.p l.cuts
+invariant-loop-p l = CutFilled (λ (p : ℕ). pos l.by.l *ℤ floored_product l.x (at l.by.coeffs.now p)) l.initial.places (length l.initial.places) l.places l.p l.cuts

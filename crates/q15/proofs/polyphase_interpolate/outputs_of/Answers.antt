@@ -14,11 +14,11 @@ returns-in-len1-clause-span c =
     let a = c.args in
     let x : to_z w16 (of_z w16 (at a.window.now 0)) ≡ at a.window.now 0 = search rules in
     let n : length a.window.now ≡ 1 = omega arith in
-    c.one_tap.ensures.span ∙ listed_ext (length a.places.now) _ _ (λ p h. ap (cut w16) (single a.coeffs.now a.l a.window.now _ _ n x p))
+    c.one_tap.ensures.span ∙ listed_ext (length a.places.now) _ _ (λ p h. ap (cut w16) (single a.by.coeffs.now a.by.l a.window.now _ _ n x p))
 
 pub returns-in-len1-clause-cuts : goal.returns-in-len1-clause-cuts
 returns-in-len1-clause-cuts c =
     let a = c.args in
     let x : to_z w16 (of_z w16 (at a.window.now 0)) ≡ at a.window.now 0 = search rules in
     let n : length a.window.now ≡ 1 = omega arith in
-    c.one_tap.ensures.cuts ∙ ap (cut_count w16) (listed_ext (length a.places.now) _ _ (λ p h. single a.coeffs.now a.l a.window.now _ _ n x p))
+    c.one_tap.ensures.cuts ∙ ap (cut_count w16) (listed_ext (length a.places.now) _ _ (λ p h. single a.by.coeffs.now a.by.l a.window.now _ _ n x p))

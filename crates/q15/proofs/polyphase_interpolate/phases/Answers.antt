@@ -18,22 +18,22 @@ scaled_fits l z f h = times_fits w64 (2 ^ 31) l z (lit< tt) f h
 
 pub overflow_mul-scaled : goal.overflow_mul-scaled
 overflow_mul-scaled c =
-    let factor : to_z w64 c.args.l ≡ pos c.args.l = search rules in
+    let factor : to_z w64 c.args.by.l ≡ pos c.args.by.l = search rules in
     let sum : to_z w64 (of_z w64 c.phase_sum-sum.result) ≡ c.phase_sum-sum.result = search rules in
     let reach = c.phase_sum-sum.ensures in
-    rw (factor, sum) (scaled_fits c.args.l c.phase_sum-sum.result (omega (arith, c.requires)) (reach.1, reach.2))
+    rw (factor, sum) (scaled_fits c.args.by.l c.phase_sum-sum.result c.args.by.few.1 (reach.1, reach.2))
 
 module _ (c : After-from-cuts) where
   abbrev sums : ℕ → ℤ
-  sums = phase_sum c.args.coeffs.now c.args.l (length c.args.window.now) c.args.window.now 0
+  sums = phase_sum c.args.by.coeffs.now c.args.by.l (length c.args.window.now) c.args.window.now 0
 
-  scaled : to_z w64 (of_z w64 (to_z w64 c.args.l *ℤ to_z w64 (of_z w64 c.phase_sum-sum.result))) ≡ sums c.loop-p.p
+  scaled : to_z w64 (of_z w64 (to_z w64 c.args.by.l *ℤ to_z w64 (of_z w64 c.phase_sum-sum.result))) ≡ sums c.loop-p.p
   scaled =
-      let factor : to_z w64 c.args.l ≡ pos c.args.l = search rules in
+      let factor : to_z w64 c.args.by.l ≡ pos c.args.by.l = search rules in
       let sum : to_z w64 (of_z w64 c.phase_sum-sum.result) ≡ c.phase_sum-sum.result = search rules in
       let reach = c.phase_sum-sum.ensures in
-      let fits = scaled_fits c.args.l c.phase_sum-sum.result (omega (arith, c.requires)) (reach.1, reach.2) in
-      rw (factor, sum, to_z-of_z fits) (ap (λ (z : ℤ). pos c.args.l *ℤ z) c.phase_sum-sum.ensures.0)
+      let fits = scaled_fits c.args.by.l c.phase_sum-sum.result c.args.by.few.1 (reach.1, reach.2) in
+      rw (factor, sum, to_z-of_z fits) (ap (λ (z : ℤ). pos c.args.by.l *ℤ z) c.phase_sum-sum.ensures.0)
 
   value : to_z w16 (of_z w16 c.cut_q15-made.result.value.0) ≡ cut w16 (sums c.loop-p.p)
   value =
@@ -43,7 +43,7 @@ module _ (c : After-from-cuts) where
 pub overflow_add-cuts : goal.overflow_add-cuts
 overflow_add-cuts c =
     let few = few_flagged _ _ _ _ _ _ c.cut_q15-made.result.cut c.loop-p.invariant in
-    omega (arith, few, c.from-cuts.ensures, c.loop-p-test.true, c.requires)
+    omega (arith, few, c.from-cuts.ensures, c.loop-p-test.true, c.requires, c.args.by.few)
 
 pub loop-p-preserved : goal.loop-p-preserved
 loop-p-preserved c =

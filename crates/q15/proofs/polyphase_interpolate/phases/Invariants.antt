@@ -5,4 +5,4 @@ use Rattle.q15.proofs.CutFilling.{CutFilled}
 use Rattle.q15.proofs.polyphase_interpolate.phases.Given as goal
 
 abbrev pub invariant-loop-p : goal.invariant-loop-p
-invariant-loop-p l = CutFilled (phase_sum l.coeffs l.l (length l.window) l.window 0) l.initial.places (length l.initial.places) l.places l.p l.cuts
+invariant-loop-p l = CutFilled (phase_sum l.by.coeffs.now l.by.l (length l.window) l.window 0) l.initial.places (length l.initial.places) l.places l.p l.cuts

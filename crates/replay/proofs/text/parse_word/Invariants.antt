@@ -3,5 +3,5 @@ use Rattle.std.proofs.Common.{◌≡◌, ◌^◌, ◌<◌, take}
 use Rattle.replay.specs.Text.{hex_digits}
 use Rattle.replay.proofs.text.parse_word.Given as goal
 
-abbrev pub invariant-loop-i : goal.invariant-loop-i
-invariant-loop-i l = record { small : l.value < 16 ^ l.i; spelled : take l.i l.text ≡ hex_digits l.i l.value }
+abbrev pub invariant-loop-b : goal.invariant-loop-b
+invariant-loop-b l = record { small : l.value < 16 ^ l.b-index; spelled : take l.b-index l.text ≡ hex_digits l.b-index l.value }

@@ -1,5 +1,5 @@
 -- What was laid is read back, and an older reader answers it with 16.
-use Rattle.std.proofs.Common.{◌≡◌, ◌-◌, length, arith, ◌∙◌}
+use Rattle.std.proofs.Common.{◌≡◌, ◌-◌, length, arith, refl, ◌∙◌}
 use Rattle.sheet.specs.Sheet as S
 use Rattle.sheet.proofs.RoundTrip.{answer_reads}
 use Rattle.sheet.proofs.Rules.{answer_older}
@@ -32,10 +32,10 @@ returns-clause-span c =
     c.put.ensures ∙ rw (at, c.put_directory.ensures) (sheet_laid S.present s.joined.now s.lengths.now s.span.now g.room) ∙ span_written S.present s.joined.now s.lengths.now s.span.now w.0
 
 pub returns-clause-reads : goal.returns-clause-reads
-returns-clause-reads c = answer_reads S.present _ _ c.args.span.now _ _ c.in_ok-size.ensures (returns-clause-span c)
+returns-clause-reads c = answer_reads S.present _ _ c.args.span.now _ _ c.in_ok-size.ensures (returns-clause-span c) refl
 
 pub returns-clause-older : goal.returns-clause-older
-returns-clause-older c = answer_older _ _ c.args.span.now _ _ c.in_ok-size.ensures (returns-clause-span c)
+returns-clause-older c = answer_older _ _ c.args.span.now _ _ c.in_ok-size.ensures (returns-clause-span c) refl
 
 pub returns-in_err-size-clause-span : goal.returns-in_err-size-clause-span
 returns-in_err-size-clause-span c = span_kept _ _ _ S.present _ c.in_err-size.ensures

@@ -5,8 +5,8 @@ use Rattle.taking_up.specs.ByKind.{told}
 use Rattle.taking_up.proofs.Opened.{long_is}
 use Rattle.taking_up.proofs.taking.long.Goals as goal
 
-pub returns-then-first : goal.returns-then-first
-returns-then-first c = c.rest_long-rest.ensures ∙ (rw (sym c.first_long-first.ensures ∙ c.if-first.true) at (long_is c.args.thinning (numbers_of c.args.q) (told c.args.e)))
+pub returns-then-first_long : goal.returns-then-first_long
+returns-then-first_long c = c.rest_long.ensures ∙ (rw (sym c.first_long.ensures ∙ c.if-first_long.true) at (long_is c.args.thinning (numbers_of c.args.q) (told c.args.e)))
 
-pub returns-else-first : goal.returns-else-first
-returns-else-first c = c.if-first.false ∙ (rw (sym c.first_long-first.ensures ∙ c.if-first.false) at (long_is c.args.thinning (numbers_of c.args.q) (told c.args.e)))
+pub returns-else-first_long : goal.returns-else-first_long
+returns-else-first_long c = c.if-first_long.false ∙ (rw (sym c.first_long.ensures ∙ c.if-first_long.false) at (long_is c.args.thinning (numbers_of c.args.q) (told c.args.e)))

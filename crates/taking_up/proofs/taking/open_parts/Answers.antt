@@ -10,15 +10,12 @@ pub returns-then-not-in_limits-clause-answer : goal.returns-then-not-in_limits-c
 unfolding refused_line
 returns-then-not-in_limits-clause-answer c = rw c.requires.1 (outside_by c.args.thinning (numbers_of c.args.q) (told c.args.e) (cc))
 
-pub line_from-requires : goal.line_from-requires
-line_from-requires c = (limits_told (numbers_of c.args.q) (cc), c.requires.0)
+pub invariant_of-parked : goal.invariant_of-parked
+invariant_of-parked c = record { limits = limits_told (numbers_of c.args.q) (cc); long = c.requires.0 }
 
-pub line_fine-requires : goal.line_fine-requires
-line_fine-requires c = (limits_told (numbers_of c.args.q) (cc), c.requires.0.half_band, c.requires.0.cells, c.requires.0.resampler)
-
-pub returns-then-not-line_fine-clause-answer : goal.returns-then-not-line_fine-clause-answer
+pub returns-then-not-is_fine-clause-answer : goal.returns-then-not-is_fine-clause-answer
 unfolding refused_line
-returns-then-not-line_fine-clause-answer c = rw c.zeros.ensures (unfit_by c.args.thinning (numbers_of c.args.q) (told c.args.e) (limits_told (numbers_of c.args.q) (cc)) (rw c.line_from.ensures at (sym c.line_fine.ensures ∙ c.if-not-line_fine.true)))
+returns-then-not-is_fine-clause-answer c = rw c.zeros.ensures (unfit_by c.args.thinning (numbers_of c.args.q) (told c.args.e) (limits_told (numbers_of c.args.q) (cc)) (rw c.line.ensures at (sym c.is_fine.ensures ∙ c.if-not-is_fine.true)))
 
 pub returns-clause-answer : goal.returns-clause-answer
-returns-clause-answer c = rw c.line_from.ensures (fine_by c.args.thinning (numbers_of c.args.q) (told c.args.e) (limits_told (numbers_of c.args.q) (cc)) (rw c.line_from.ensures at (sym c.line_fine.ensures ∙ c.if-not-line_fine.false)))
+returns-clause-answer c = rw c.line.ensures (fine_by c.args.thinning (numbers_of c.args.q) (told c.args.e) (limits_told (numbers_of c.args.q) (cc)) (rw c.line.ensures at (sym c.is_fine.ensures ∙ c.if-not-is_fine.false)))

@@ -1,10 +1,11 @@
 -- `interpolate` meets its contract: q is from 0 to P, so the first place is at most P, and each way of reading on from it is one of `output`'s.
-use Rattle.std.proofs.Common.{ℕ, ◌≡◌, ◌<◌, ◌≤◌, Bool, pos, sym, subst, le_trans, arith}
+use Rattle.std.proofs.Common.{ℕ, ◌≡◌, ◌<◌, ◌≤◌, Bool, List, length, take, pos, refl, sym, subst, ◌∙◌, ap₂, le_trans, arith, length-take-le}
 use lib.Ieee.{Float, binary32, of_int, sub, mul}
-use Rattle.float.specs.F32.{one32}
-use Rattle.float.specs.PolyphaseOutput.{cut_unit, place, first_place}
+use Rattle.float.specs.F32.{one32, blend}
+use Rattle.float.specs.PolyphaseOutput.{phase_sum, cut_unit, place, first_place}
+use Rattle.float.specs.PolyphaseResamp.{Inside}
 use Rattle.float.proofs.Place.{UpTo, place_up_to, below_all_whole, whole_up_to}
-use Rattle.float.proofs.PolyphaseOutput.{exact, first_below, first_up_to, whole_straight, whole_before, whole_last}
+use Rattle.float.proofs.PolyphaseOutput.{Limits, inside, phase_inside, sum_front, exact, first_below, first_up_to, whole_straight, whole_before, whole_last}
 use Rattle.float.proofs.interpolation.Reading.interpolate.Goals as goal
 
 -- q is from 0 to P
@@ -34,24 +35,46 @@ overflow_add-p c =
     let r = c.args.self in
     record { fits = omega (arith, r.phases_inside, first _ _ _ _ c.requires.1 r.phases_inside.0 r.phases_inside.1 c.first_place-p.ensures) }
 
+-- the places of a window of T delays
+window_inside : (P T p : ℕ) (d : List Float) → Limits P T → T ≤ length d → p < P → (length (take T d) ≤ 16) × Inside P (length (take T d)) p
+window_inside P T p d l few m = rw (length-take-le T d few) (l.few_taps, phase_inside P T p l m)
+
+-- two sums over them, f of the way from the one to the other
+window_blend :
+    (u v : ℕ → Float) (d : List Float) (T m : ℕ) (y0 y1 f r : Float) → m ≡ T → r ≡ blend y0 y1 f → (y0 ≡ phase_sum u (take T d) m) × (y1 ≡ phase_sum v (take T d) m)
+    → r ≡ blend (phase_sum u d T) (phase_sum v d T) f
+window_blend u v d T m y0 y1 f r all e y = e ∙ ap₂ {C = Float} (λ (a b : Float). blend a b f) (y.0 ∙ sum_front u d T m all) (y.1 ∙ sum_front v d T m all)
+
+pub summed-requires : goal.summed-requires
+summed-requires c =
+    let r = c.args.self in
+    let l = inside _ _ r.phases_inside r.taps_inside in
+    let p0 = window_inside _ _ _ _ l c.requires.0 (omega (arith, c.if-p-phases.true)) in
+    (p0.0, p0.1, (window_inside _ _ _ _ l c.requires.0 c.if-p-phases.true).1)
+
 pub returns-then-p-phases : goal.returns-then-p-phases
-returns-then-p-phases c = whole_before _ _ _ _ _ _ _ _ _ c.requires.1 c.first_place-p.ensures c.if-p-phases.true c.blended.ensures
+returns-then-p-phases c =
+    whole_before _ _ _ _ _ _ _ _ _ c.requires.1 c.first_place-p.ensures c.if-p-phases.true (window_blend _ _ _ _ _ _ _ _ _ (length-take-le _ _ c.requires.0) c.blend_of.ensures c.summed.ensures)
 
 pub blended_at_the_end-requires : goal.blended_at_the_end-requires
 blended_at_the_end-requires c =
     let r = c.args.self in
-    (c.requires.0, first _ _ _ _ c.requires.1 r.phases_inside.0 r.phases_inside.1 c.first_place-p.ensures)
+    (length-take-le _ _ c.requires.0, first _ _ _ _ c.requires.1 r.phases_inside.0 r.phases_inside.1 c.first_place-p.ensures)
 
 pub returns-then-straight : goal.returns-then-straight
-returns-then-straight c = whole_straight _ _ _ _ _ _ _ _ _ c.requires.1 c.first_place-p.ensures c.if-straight.true c.blended_at_the_end.ensures
+returns-then-straight c =
+    whole_straight _ _ _ _ _ _ _ _ _ c.requires.1 c.first_place-p.ensures c.if-straight.true (window_blend _ _ _ _ _ _ _ _ _ refl c.blended_at_the_end.ensures (refl, refl))
 
-pub blended-requires-2 : goal.blended-requires-2
-blended-requires-2 c =
+pub summed-requires-2 : goal.summed-requires-2
+summed-requires-2 c =
     let r = c.args.self in
+    let l = inside _ _ r.phases_inside r.taps_inside in
     let some : 0 < r.setting.phases = omega (arith, r.phases_inside) in
-    (c.requires.0, rw (c.first_place-p.ensures, c.if-straight.false) (first_below _ _ some), some)
+    let p0 = window_inside _ _ _ _ l c.requires.0 (rw (c.first_place-p.ensures, c.if-straight.false) (first_below _ _ some)) in
+    (p0.0, p0.1, (window_inside _ _ _ _ l c.requires.0 some).1)
 
 pub returns : goal.returns
 returns c =
     let r = c.args.self in
-    whole_last _ _ _ _ _ _ _ _ _ c.requires.1 c.first_place-p.ensures (omega (arith, r.phases_inside)) c.if-p-phases.false c.if-straight.false c.blended-2.ensures
+    whole_last _ _ _ _ _ _ _ _ _ c.requires.1 c.first_place-p.ensures (omega (arith, r.phases_inside)) c.if-p-phases.false c.if-straight.false
+    (window_blend _ _ _ _ _ _ _ _ _ (length-take-le _ _ c.requires.0) c.blend_of-2.ensures c.summed-2.ensures)

@@ -1,6 +1,5 @@
 -- `run` meets its contract: the outputs that are due carry `Between` on (`due_between`), and so does a sample.
-use Rattle.std.proofs.Common.{◌≡◌, ◌+◌, ◌-◌, ◌<◌, ◌≤◌, length, take, replicate, refl, arith, length-take-le}
-use lib.Ieee.{nan}
+use Rattle.std.proofs.Common.{◌≡◌, ◌+◌, ◌-◌, ◌<◌, ◌≤◌, length, take, replicate, refl, sym, arith, length-take-le, ltb-true, ltb-false}
 use Rattle.theory.proofs.FeedRules.{between_start, after_input, Ended, ended_full, ended_dry}
 use Rattle.float.specs.F32.{zero32}
 use Rattle.float.specs.PolyphaseResamp.{consumed, resampler, state_of, told_due}
@@ -8,7 +7,7 @@ use Rattle.float.proofs.DueOutputs.{due_grows}
 use Rattle.float.proofs.PolyphaseCalls.{finished, due_between}
 use Rattle.float.proofs.PolyphaseOutput.{outputs_alike}
 use Rattle.float.proofs.Tape.{ends_in, wound, wound_start, wound_in, wound_at, wound_front}
-use Rattle.float.proofs.interpolation.Reading.run.Goals.{else-loop-written-test, then-loop-written-test+else-at+then-src-taken}
+use Rattle.float.proofs.interpolation.Reading.run.Goals.{else-loop-written-test, then-loop-written-test+else-at+in_default}
 use Rattle.float.proofs.interpolation.Reading.run.Goals as goal
 
 pub loop-written-init : goal.loop-written-init
@@ -54,7 +53,7 @@ loop-written-preserved c =
     let l = c.loop-written in
     let moved = wound_in q.taps a.delay.now l.tape c.take_in-newest.new.tape l.newest c.take_in-newest.result _ a.self.taps_inside.1 (omega (arith, l.invariant.whole, l.invariant.on_tape)) c.take_in-newest.ensures.1 in
     record {
-      between = rw moved (after_input resampler _ _ _ _ _ _ _ l.invariant.between nan c.if-at.false refl c.loop-written-test.true c.if-src-taken.false);
+      between = rw (moved, c.in-Some.ensures.lookup.1) (after_input resampler _ _ _ _ _ _ _ l.invariant.between c.in-Some.field-0.now c.if-at.false refl c.loop-written-test.true (ltb-true _ _ (sym c.in-Some.ensures.lookup.0)));
       whole = c.take_in-newest.array_long;
       on_tape = c.take_in-newest.ensures.0;
     }
@@ -69,7 +68,7 @@ returns c =
     let ended : Ended resampler _ _ _ _ _ _ _ l.invariant.between =
     elim c.loop-written-test.branch [
       | else-loop-written-test w ↦ ended_full resampler _ _ _ _ _ _ _ l.invariant.between w.loop-written-test.false
-      | then-loop-written-test+else-at+then-src-taken w ↦ ended_dry resampler _ _ _ _ _ _ _ l.invariant.between w.if-at.false w.if-src-taken.true
+      | then-loop-written-test+else-at+in_default w ↦ ended_dry resampler _ _ _ _ _ _ _ l.invariant.between w.if-at.false (ltb-false _ _ (sym w.in_default.ensures.lookup.0))
     ] in
     let whole : l.newest + q.taps - l.newest ≡ q.taps = omega arith in
     rw (c.copy_from_slice.ensures.after, wound_front q.taps a.delay.now l.tape l.newest (l.newest + q.taps - l.newest) whole)

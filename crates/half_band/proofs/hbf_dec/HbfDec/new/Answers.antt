@@ -9,5 +9,5 @@ use Rattle.half_band.proofs.hbf_dec.HbfDec.new.Goals as goal
 pub returns-clause-meets : goal.returns-clause-meets
 returns-clause-meets c =
     let taps = c.args.taps.now in
-    subst (λ (l : List Float). DecMeets taps (record { m = length taps; coeffs = l; delay = replicate 96 zero32 })) (sym c.padded.ensures)
-    (fresh_meets taps (within (length taps) 1 23 (sym c.outside.ensures ∙ c.if-outside.false)))
+    let b = within (length taps) 1 23 (sym c.outside.ensures ∙ c.if-outside.false) in
+    subst (λ (l : List Float). DecMeets taps (record { m = length taps; coeffs = l; delay = replicate 96 zero32 })) (sym (c.padded.ensures.fits b.most)) (fresh_meets taps b)

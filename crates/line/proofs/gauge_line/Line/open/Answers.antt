@@ -1,32 +1,18 @@
--- `Line::open` meets its contract: zeros where it is refused, and else the fresh line.
-use Rattle.std.specs.Prelude.{◌≡◌, ◌<◌, ℕ, zero, suc}
-use Rattle.std.proofs.Common.{sym, ap, arith}
+-- `Line::open` meets its contract where it is refused: its number is that of the opening where the line lies, and it hands over the line of zeros.
+use Rattle.std.proofs.Common.{sym, ap}
 use Rattle.std.proofs.lemmas.Result.{err_from_is_err_and}
-use Rattle.refusal.specs.Table.{number_of}
 use Rattle.refusal.specs.Outcome.{Opened}
+use Rattle.refusal.specs.Table.{number_of}
 use Rattle.refusal.proofs.Table.{number_positive}
-use Rattle.line.specs.Line.{opened, opened_by, zeros, opening_number_of}
-use Rattle.line.specs.Outputs.{Opening}
+use Rattle.line.specs.Line.{opened}
 use Rattle.line.specs.declared.gauge_line.Line.{Line}
+use Rattle.line.proofs.Starting.{opened_zeros}
 use Rattle.line.proofs.gauge_line.Line.open.Goals as goal
 
--- a number above 0 leaves zeros
-refused_as : (o : Opening) (n : ℕ) → 0 < n → opening_number_of o ≡ n → record { number = n; state = zeros } ≡ opened o
+pub returns-in_err-open_lent : goal.returns-in_err-open_lent
 unfolding opened
-refused_as o zero h e = absurd (omega arith)
-refused_as o (suc n) h e = sym (ap {B = Opened Line} (λ (k : ℕ). record { number = k; state = opened_by k o }) e)
-
-pub returns-in_err-answer : goal.returns-in_err-answer
-returns-in_err-answer c =
+returns-in_err-open_lent c =
     let p = err_from_is_err_and c.from_residual.result c.from_residual.ensures.1 in
-    let a = c.args in
-    let o : Opening = record { settings = a.settings; taps = a.taps.now; prototype = a.prototype.now } in
-    let q = c.in_err-answer.field-0.0 in
-    record { answer = rw (p.1, p.2) (refused_as o (number_of q) (number_positive q) (sym c.in_err-answer.ensures)) }
-
-pub returns : goal.returns
-unfolding opened
-returns c =
-    let a = c.args in
-    let o : Opening = record { settings = a.settings; taps = a.taps.now; prototype = a.prototype.now } in
-    record { answer = rw c.fresh.ensures (sym (ap {B = Opened Line} (λ (n : ℕ). record { number = n; state = opened_by n o }) (sym c.in_ok-answer.ensures))) }
+    let q = c.in_err-open_lent.field-0.0 in
+    let number = ap (λ (o : Opened Line). o.number) c.in_err-open_lent.ensures.answer in
+    rw (p.1, p.2) (record { answer = opened_zeros _ (number_of q) (number_positive q) (sym number) })

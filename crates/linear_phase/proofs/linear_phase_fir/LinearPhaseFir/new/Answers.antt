@@ -8,13 +8,11 @@ use Rattle.linear_phase.specs.declared.linear_phase_fir.LinearPhaseFir.{LinearPh
 use Rattle.linear_phase.proofs.Filters.{fresh_streams}
 use Rattle.linear_phase.proofs.linear_phase_fir.LinearPhaseFir.new.Goals as goal
 
-pub padded-requires : goal.padded-requires
-padded-requires c = (within _ _ _ (sym c.outside.ensures ∙ c.if-outside.false)).most
-
 pub returns-clause-streams : goal.returns-clause-streams
 returns-clause-streams c =
     let k = c.args in
     let l = c.args.taps.now in
     let build : List Float → LinearPhaseFir = λ t. record { m = length l; odd = k.odd; antisymmetric = k.antisymmetric; taps = t; delay = replicate 46 zero32 } in
-    let e : build c.padded.result ≡ phase_fresh k.odd k.antisymmetric l = ap build c.padded.ensures in
-    λ z. subst (λ (d : LinearPhaseFir). PhaseStreams k.odd k.antisymmetric l d) (sym e) (fresh_streams k.odd k.antisymmetric l (within _ _ _ (sym c.outside.ensures ∙ c.if-outside.false)))
+    let b = within (length l) 1 23 (sym c.outside.ensures ∙ c.if-outside.false) in
+    let e : build c.padded.result ≡ phase_fresh k.odd k.antisymmetric l = ap build (c.padded.ensures.fits b.most) in
+    λ z. subst (λ (d : LinearPhaseFir). PhaseStreams k.odd k.antisymmetric l d) (sym e) (fresh_streams k.odd k.antisymmetric l b)
