@@ -1,18 +1,10 @@
-// The line as a caller in C keeps it, field by field: put together from the fields that were lent, and put back into them.
+// The numbers of a line as a caller in C keeps them, field by field: put together from the fields that were lent, and put back into them.
 ghost use Rattle.std.specs.Prelude.{◌≡◌};
 ghost use Rattle.gauge_line.specs.Crossing.{is_set, kind_of};
-ghost use Rattle.gauge_line.specs.States.{exit, IsFlag, line_at, numbers_at, numbers_by};
+ghost use Rattle.gauge_line.specs.States.{exit, IsFlag, numbers_at, numbers_by};
 
-use crate::states::{
-    flag, is_set, kind, kind_number, put_decimator, put_fir, put_resampler, put_stream,
-    put_thinning,
-};
-use float::settings::{MOST_CELLS, MOST_PHASE_TAPS};
-use half_band::{DEC_CASCADE_DELAYS, MOST_DEPTH};
-use integer::limits::MOST_STAGES;
-use line::{Clock, Line, LineNumbers, Settings};
-use nonrecursive::nonrecursive_decimator::MOST_NEIGHBOURS;
-use q15::MOST_TAPS;
+use crate::states::{flag, is_set, kind, kind_number};
+use line::{Clock, LineNumbers, Settings};
 
 // The numbers of a line whose fields were lent.
 pub(crate) fn numbers(
@@ -53,55 +45,6 @@ pub(crate) fn numbers(
             cuts,
         },
     }
-}
-
-// The fields of a line into the places that were lent for them; the line is lent too, which spares the stack a copy.
-pub(crate) fn put_line(
-    next: &Line,
-    stages: &mut usize,
-    r: &mut usize,
-    integrators: &mut [i32; MOST_STAGES],
-    combs: &mut [i32; MOST_STAGES],
-    sample_counter: &mut usize,
-    taps: &mut [i16; MOST_TAPS],
-    tap_count: &mut usize,
-    factor: &mut usize,
-    fir_delay: &mut [i16; MOST_TAPS],
-    wait: &mut usize,
-    depth: &mut usize,
-    delays: &mut [f32; DEC_CASCADE_DELAYS],
-    held: &mut [f32; MOST_DEPTH],
-    counts: &mut [usize; MOST_DEPTH],
-    phases: &mut usize,
-    phase_taps: &mut usize,
-    straight: &mut usize,
-    mu: &mut f32,
-    step: &mut f32,
-    delay: &mut [f32; MOST_PHASE_TAPS],
-    prototype: &mut [f32; MOST_CELLS],
-    cuts: &mut u32,
-    thinning: &mut usize,
-    neighbours: &mut [i32; MOST_NEIGHBOURS],
-)
-    ensures state { line_at exit stages r integrators combs sample_counter taps tap_count factor fir_delay wait
-        depth delays held counts phases phase_taps straight mu step delay prototype cuts thinning neighbours ≡ next.now }
-    ensures setting { IsFlag straight.new × IsFlag thinning.new }
-{
-    put_decimator(&next.cic, stages, r, integrators, combs, sample_counter);
-    put_fir(&next.fir, taps, tap_count, factor, fir_delay, wait);
-    put_stream(&next.half_band, depth, delays, held, counts);
-    put_resampler(
-        &next.resampler,
-        phases,
-        phase_taps,
-        straight,
-        mu,
-        step,
-        delay,
-        prototype,
-    );
-    *cuts = next.cuts;
-    put_thinning(next.thinning, &next.neighbours, thinning, neighbours);
 }
 
 // The numbers of a line into the places that were lent for them.

@@ -9,15 +9,38 @@ ghost use Rattle.taking_up.specs.TakenBack.{TakenBack};
 ghost use Rattle.gauge_line.specs.States.{exit, IsFlag, line_at, line_by};
 
 use crate::answers::number;
-use crate::lines::{numbers, put_line};
+use crate::lines::{numbers, put_numbers};
 use float::settings::{MOST_CELLS, MOST_PHASE_TAPS};
 use half_band::{DEC_CASCADE_DELAYS, MOST_DEPTH};
 use integer::limits::MOST_STAGES;
-use line::zeros;
+use line::{Clock, LineNumbers, Places, Settings};
+use nonrecursive::Thinning;
 use nonrecursive::nonrecursive_decimator::MOST_NEIGHBOURS;
 use parking::{KeptLine, park_kept, parked_len_kept};
 use q15::MOST_TAPS;
-use taking_up::take_up;
+use taking_up::take_up_lent;
+
+// What taking up writes over.
+const BLANK: LineNumbers = LineNumbers {
+    settings: Settings {
+        stages: 0,
+        r: 0,
+        factor: 0,
+        depth: 0,
+        phases: 0,
+        taps: 0,
+        straight: false,
+        step: 0.0,
+        thinning: Thinning::Integrators,
+    },
+    tap_count: 0,
+    clock: Clock {
+        sample_counter: 0,
+        wait: 0,
+        mu: 0.0,
+        cuts: 0,
+    },
+};
 
 // How many bytes the line's sheet has, so that a span may be made for it.
 #[unsafe(no_mangle)]
@@ -207,39 +230,36 @@ pub extern "C" fn gauge_raw_line_take_up_3(
         depth delays held counts phases phase_taps straight mu step delay prototype cuts thinning neighbours in
         StillTaken bytes.now (record { number = result; state = after }) }
 {
-    let answer = take_up(bytes);
-    let told = number(&answer);
-    // No `unwrap_or`, for which the line of zeros, 7 KB, would be made beside every line that is taken up.
-    let next = match answer {
-        Ok(line) => line,
-        Err(_) => zeros(),
-    };
-    put_line(
-        &next,
-        stages,
-        r,
+    let mut n = BLANK;
+    let mut lent = Places {
         integrators,
         combs,
-        sample_counter,
+        neighbours,
         taps,
-        tap_count,
-        factor,
         fir_delay,
-        wait,
-        depth,
         delays,
         held,
         counts,
+        delay,
+        prototype,
+    };
+    let answer = take_up_lent(bytes, &mut n, &mut lent);
+    put_numbers(
+        n,
+        stages,
+        r,
+        sample_counter,
+        tap_count,
+        factor,
+        wait,
+        depth,
         phases,
         phase_taps,
         straight,
         mu,
         step,
-        delay,
-        prototype,
         cuts,
         thinning,
-        neighbours,
     );
-    told
+    number(&answer)
 }

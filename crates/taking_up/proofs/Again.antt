@@ -259,7 +259,7 @@ laid_before {A} a w at vs s h l =
     ∙ take-append-le w (drop a (take at s)) (vs ++ drop (at + length vs) s) (omega arith)
     ∙ take_of_take a w at s h l
 
-delays_long : (e : List ℕ) (n : ℕ) → n ≤ 5 → length (delays_from e n) ≡ 480
+pub delays_long : (e : List ℕ) (n : ℕ) → n ≤ 5 → length (delays_from e n) ≡ 480
 unfolding delays_from
 delays_long e zero h = refl
 delays_long e (suc n) h =

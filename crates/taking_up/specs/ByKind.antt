@@ -1,12 +1,13 @@
 -- Taking up by the kind of thinning, which the count of entries says: the seven entries and the eight as one record, and each definition of `Taking` at either.
-use Rattle.std.specs.Prelude.{◌≡◌, Bool, ◌&&◌, List, ℕ, ℤ, ◌+◌, ◌*◌, eqb, length}
+use Rattle.std.specs.Prelude.{◌≡◌, Bool, ◌&&◌, List, ℕ, ◌+◌, ◌*◌, eqb, length, Result, Ok, Err}
 use Rattle.refusal.specs.Outcome.{Opened}
+use Rattle.refusal.specs.Table.{number_of}
+use Rattle.refusal.specs.declared.Refusal.{Refusal}
 use Rattle.nonrecursive.specs.declared.thinning.Thinning.{Thinning}
 use Rattle.nonrecursive.specs.declared.thinning.Thinning.TheVariants as thinning
+use Rattle.line.specs.Line as L
 use Rattle.line.specs.declared.gauge_line.Line.{Line}
 use Rattle.sheet.specs.Sheet.{present, entry}
-use Rattle.integer.specs.declared.cic_decimator.CicDecimator.{CicDecimator}
-use Rattle.parking.specs.Entries.{fir_from, half_band_from, resampler_from}
 use Rattle.parking.specs.Parked.{Settings, half_band_bytes, neighbour_count}
 use Rattle.taking_up.specs.Taking.{line_of, thin_line_of, long_as, thin_long_as, opened_in, opened_from, thin_opened_from}
 use Rattle.taking_up.specs.declared.entries.Entries.{Entries}
@@ -69,22 +70,15 @@ pub record Long (k : Thinning) (q : Settings) (e : Parts) : Type 0 where
   pub cells : length e.cells ≡ 4 * (q.phases * q.cells)
   pub resampler : length e.resampler ≡ 4 + 4 * q.cells
 
--- the line whose first section is given
-abbrev pub line_in : Thinning → CicDecimator → List ℤ → Settings → Parts → Line
-line_in k d n q e =
-    record {
-      thinning = k;
-      cic = d;
-      neighbours = n;
-      fir = fir_from q e.taps e.delay;
-      half_band = half_band_from q e.half_band;
-      resampler = resampler_from q e.cells e.resampler;
-      cuts = q.cuts;
-    }
-
+-- the line of the entries
 abbrev pub line_by : Thinning → Settings → Parts → Line
 line_by thinning.Integrators q e = line_of q e.cic e.taps e.delay e.half_band e.cells e.resampler
 line_by thinning.Neighbours q e = thin_line_of q e.taps e.delay e.half_band e.cells e.resampler e.last
+
+-- what reading answers: the line that was read, or a refusal, and zeros
+abbrev pub told_read : {A : Type 0} → Result A Refusal → Line → Opened Line
+told_read (Ok a) l = record { number = 0; state = l }
+told_read (Err q) l = record { number = number_of q; state = L.zeros }
 
 -- what entries of the right lengths answer, and what entries answer
 abbrev pub opened_in_by : Thinning → Settings → Parts → Opened Line

@@ -1,6 +1,12 @@
 // A parked sheet read: its settings, the lengths that they ask for, and the parts of its line.
-ghost use Rattle.std.specs.Prelude.{◌≡◌, true, ◌&&◌, ◌+◌, ◌*◌, ◌≤◌, ◌<◌, length, replicate};
-ghost use Rattle.q15.specs.FirDecimator.{most_taps};
+ghost use Rattle.std.specs.Prelude.{◌≡◌, true, ◌&&◌, ◌+◌, ◌*◌, ◌≤◌, ◌<◌, leb, length, replicate, pos};
+ghost use Rattle.std.specs.Float.Ieee.{of_bits};
+ghost use Rattle.std.specs.Float.{binary32};
+ghost use Rattle.integer.specs.CicDecimator.{decimator_of};
+ghost use Rattle.nonrecursive.specs.NonrecursiveDecimator.{most_neighbours};
+ghost use Rattle.q15.specs.FirDecimator.{most_taps, fir_state};
+ghost use Rattle.half_band.specs.HbfStream.{stream_of};
+ghost use Rattle.float.specs.PolyphaseResamp as R;
 ghost use Rattle.sheet.specs.Laid.{laid};
 ghost use Rattle.words.specs.Fields.{values_at};
 ghost use Rattle.parking.specs.Entries as E;
@@ -9,15 +15,14 @@ ghost use Rattle.parking.specs.Parked as P;
 ghost use Rattle.taking_up.specs.Taking as T;
 ghost use Rattle.parking.specs.Told.{numbers_of};
 
+use crate::clearing::{clear_fir, clear_half_band, clear_resampler, clear_sums};
 use crate::rows::{are_floats, get_all};
-use float::PolyphaseResampF32;
-use float::settings::MOST_PHASE_TAPS;
-use half_band::{DEC_CASCADE_DELAYS, HbfStream, MOST_DEPTH};
-use integer::CicDecimator;
+use float::settings::{MOST_CELLS, MOST_PHASE_TAPS};
+use half_band::{DEC_CASCADE_DELAYS, MOST_DEPTH};
 use integer::limits::MOST_STAGES;
 use nonrecursive::nonrecursive_decimator::MOST_NEIGHBOURS;
 use parking::settings::{ParkedSettings, half_band_bytes, halvings, window};
-use q15::{FirDecimator, MOST_TAPS};
+use q15::MOST_TAPS;
 use sheet::fields::{le16_at, le32_at};
 use words::{Word, f32_of_bits};
 
@@ -54,79 +59,84 @@ pub(crate) fn in_limits(q: ParkedSettings) -> bool
         && q.cells <= MOST_PHASE_TAPS
 }
 
-// n values from a place on, and zeros behind them.
+// n values from a place on, into the front of an array.
 #[tactic(auto, unfolding(sheet::specs::Laid::laid))]
-fn values_from<W: Word, const N: usize>(e: &[u8], at: usize, n: usize, zero: W) -> [W; N]
-    requires { (n ≤ N) × (at + W.SIZE * n ≤ length e.now) }
-    ensures { result ≡ laid 0 (values_at W.value_at W.SIZE e.now at n) (replicate N zero) }
+fn read_values<W: Word>(e: &[u8], at: usize, n: usize, into: &mut [W])
+    requires { (n ≤ length into.old) × (at + W.SIZE * n ≤ length e.now) }
+    ensures { into.new ≡ laid 0 (values_at W.value_at W.SIZE e.now at n) into.old }
 {
-    let mut values = [zero; N];
-    get_all(e, at, &mut values[..n]);
-    values
+    get_all(e, at, &mut into[..n]);
 }
 
-// The place of a line of neighbours; its integrators and combs are off.
-#[tactic(auto, unfolding(parking::specs::Entries::place_from))]
-pub(crate) fn place_from(q: ParkedSettings, e: &[u8]) -> CicDecimator
-    ensures { result ≡ E.place_from (numbers_of q) e.now }
-{
-    CicDecimator {
-        stages: q.stages,
-        r: q.r,
-        integrator_state: [0; MOST_STAGES],
-        comb_state: [0; MOST_STAGES],
-        sample_counter: usize::from(le16_at(e, 0)),
-    }
-}
-
-// Its neighbours, and zeros behind those that the factor's halvings use.
-#[tactic(auto, unfolding(parking::specs::Entries::neighbours_from, parking::specs::Parked::neighbour_count, sheet::specs::Laid::laid), using(parking::proofs::Thinned::few_neighbours))]
-pub(crate) fn neighbours_from(q: ParkedSettings, e: &[u8]) -> [i32; MOST_NEIGHBOURS]
-    requires { (q.stages ≤ 8) × (q.r ≤ 4096) × (length e.now ≡ 2 + 4 * P.neighbour_count q.stages q.r) }
-    ensures { result ≡ E.neighbours_from (numbers_of q) e.now }
-{
-    values_from(e, 2, q.stages * halvings(q.r), 0)
-}
-
-#[tactic(auto, unfolding(parking::specs::Entries::cic_from, sheet::specs::Laid::laid))]
-pub(crate) fn cic_from(q: ParkedSettings, e: &[u8]) -> CicDecimator
+// Section 1 of a line of integrators, and its counter; its neighbours are off.
+#[tactic(auto, unfolding(parking::specs::Entries::cic_from))]
+pub(crate) fn read_sums(
+    q: ParkedSettings,
+    e: &[u8],
+    integrators: &mut [i32; MOST_STAGES],
+    combs: &mut [i32; MOST_STAGES],
+    neighbours: &mut [i32; MOST_NEIGHBOURS],
+) -> usize
     requires { (q.stages ≤ 8) × (length e.now ≡ 2 + 8 * q.stages) }
-    ensures { result ≡ E.cic_from (numbers_of q) e.now }
+    ensures sums { decimator_of q.stages q.r integrators.new combs.new result ≡ E.cic_from (numbers_of q) e.now }
+    ensures neighbours { neighbours.new ≡ replicate most_neighbours (pos 0) }
 {
     let n = q.stages;
-    CicDecimator {
-        stages: n,
-        r: q.r,
-        integrator_state: values_from(e, 2, n, 0),
-        comb_state: values_from(e, 2 + 4 * n, n, 0),
-        sample_counter: usize::from(le16_at(e, 0)),
-    }
+    clear_sums(integrators, combs, neighbours);
+    read_values(e, 2, n, integrators);
+    read_values(e, 2 + 4 * n, n, combs);
+    usize::from(le16_at(e, 0))
 }
 
-#[tactic(auto, unfolding(parking::specs::Entries::fir_from, sheet::specs::Laid::laid))]
-pub(crate) fn fir_from(q: ParkedSettings, t: &[u8], e: &[u8]) -> FirDecimator
-    requires { (q.taps ≤ most_taps) × (length t.now ≡ 2 * q.taps) × (length e.now ≡ 2 + 2 * q.taps) }
-    ensures { result ≡ E.fir_from (numbers_of q) t.now e.now }
+// The neighbours of a line of such, and zeros behind those that the factor's halvings use; and its place. Its integrators and combs are off.
+#[tactic(auto, unfolding(parking::specs::Entries::place_from, parking::specs::Entries::neighbours_from, parking::specs::Parked::neighbour_count), using(parking::proofs::Thinned::few_neighbours))]
+pub(crate) fn read_neighbours(
+    q: ParkedSettings,
+    e: &[u8],
+    integrators: &mut [i32; MOST_STAGES],
+    combs: &mut [i32; MOST_STAGES],
+    neighbours: &mut [i32; MOST_NEIGHBOURS],
+) -> usize
+    requires { (q.stages ≤ 8) × (q.r ≤ 4096) × (length e.now ≡ 2 + 4 * P.neighbour_count q.stages q.r) }
+    ensures sums { decimator_of q.stages q.r integrators.new combs.new result ≡ E.place_from (numbers_of q) e.now }
+    ensures neighbours { neighbours.new ≡ E.neighbours_from (numbers_of q) e.now }
 {
-    let n = q.taps;
-    FirDecimator {
-        taps: values_from(t, 0, n, 0),
-        tap_count: n,
-        factor: q.factor,
-        delay: values_from(e, 2, n, 0),
-        wait: usize::from(le16_at(e, 0)),
-    }
+    clear_sums(integrators, combs, neighbours);
+    read_values(e, 2, q.stages * halvings(q.r), neighbours);
+    usize::from(le16_at(e, 0))
+}
+
+// Section 3, and its wait.
+#[tactic(auto, unfolding(parking::specs::Entries::fir_from))]
+pub(crate) fn read_fir(
+    q: ParkedSettings,
+    t: &[u8],
+    e: &[u8],
+    taps: &mut [i16; MOST_TAPS],
+    delay: &mut [i16; MOST_TAPS],
+) -> usize
+    requires { (q.taps ≤ most_taps) × (length t.now ≡ 2 * q.taps) × (length e.now ≡ 2 + 2 * q.taps) }
+    ensures { fir_state taps.new q.taps q.factor delay.new result ≡ E.fir_from (numbers_of q) t.now e.now }
+{
+    clear_fir(taps, delay);
+    read_values(t, 0, q.taps, taps);
+    read_values(e, 2, q.taps, delay);
+    usize::from(le16_at(e, 0))
 }
 
 // The half-band stages. By their numbers, since by these go their places in the entry.
 #[tactic(auto, unfolding(parking::specs::Entries::half_band_from, parking::specs::Entries::counts_from, parking::specs::Entries::held_from, parking::specs::Entries::delays_from))]
-pub(crate) fn half_band_from(q: ParkedSettings, e: &[u8]) -> HbfStream
+pub(crate) fn read_half_band(
+    q: ParkedSettings,
+    e: &[u8],
+    delays: &mut [f32; DEC_CASCADE_DELAYS],
+    held: &mut [f32; MOST_DEPTH],
+    counts: &mut [usize; MOST_DEPTH],
+)
     requires { (q.depth ≤ 5) × (length e.now ≡ P.half_band_bytes q.depth) }
-    ensures { result ≡ E.half_band_from (numbers_of q) e.now }
+    ensures { stream_of q.depth delays.new held.new counts.new ≡ E.half_band_from (numbers_of q) e.now }
 {
-    let mut delays = [0.0; DEC_CASCADE_DELAYS];
-    let mut held = [0.0; MOST_DEPTH];
-    let mut counts = [0; MOST_DEPTH];
+    clear_half_band(delays, held, counts);
     for k in 0..q.depth {
         let at = half_band_bytes(k);
         let from = 96 * k;
@@ -134,28 +144,24 @@ pub(crate) fn half_band_from(q: ParkedSettings, e: &[u8]) -> HbfStream
         held[k] = f32_of_bits(le32_at(e, at + 2));
         get_all(e, at + 6, &mut delays[from..from + window(k)]);
     }
-    HbfStream {
-        depth: q.depth,
-        delays,
-        held,
-        counts,
-    }
 }
 
+// Section 5, and its mu.
 #[tactic(auto, unfolding(parking::specs::Entries::resampler_from), using(parking::proofs::StageLengths::cells_most))]
-pub(crate) fn resampler_from(q: ParkedSettings, cells: &[u8], e: &[u8]) -> PolyphaseResampF32
+pub(crate) fn read_resampler(
+    q: ParkedSettings,
+    cells: &[u8],
+    e: &[u8],
+    delay: &mut [f32; MOST_PHASE_TAPS],
+    prototype: &mut [f32; MOST_CELLS],
+) -> f32
     requires { (q.phases ≤ 64) × (q.cells ≤ 16) × (length cells.now ≡ 4 * (q.phases * q.cells)) × (length e.now ≡ 4 + 4 * q.cells) }
-    ensures { result ≡ E.resampler_from (numbers_of q) cells.now e.now }
+    ensures { R.together (leb 1 q.straight) q.phases q.cells result (of_bits binary32 q.step) delay.new prototype.new ≡ E.resampler_from (numbers_of q) cells.now e.now }
 {
-    PolyphaseResampF32 {
-        phases: q.phases,
-        taps: q.cells,
-        straight: 1 <= q.straight,
-        mu: f32_of_bits(le32_at(e, 0)),
-        step: f32_of_bits(q.step),
-        delay: values_from(e, 4, q.cells, 0.0),
-        prototype: values_from(cells, 0, q.phases * q.cells, 0.0),
-    }
+    clear_resampler(delay, prototype);
+    read_values(e, 4, q.cells, delay);
+    read_values(cells, 0, q.phases * q.cells, prototype);
+    f32_of_bits(le32_at(e, 0))
 }
 
 // Whether parking writes such half-band stages. A loop, as in `are_floats`, whose proof over `all` did not close.

@@ -2,20 +2,23 @@
 ghost use Rattle.std.specs.Prelude.{◌≡◌, IfErr};
 ghost use Rattle.refusal.specs.Outcome.{told_opened, told_reset};
 ghost use Rattle.line.specs.Line as L;
+ghost use Rattle.line.specs.Lent.{with_clock};
+ghost use Rattle.line.specs.Placed.{SamePlaces, line_on, line_together};
 ghost use Rattle.sheet.specs.Sheet as S;
 ghost use Rattle.taking_up.specs.AsParked.{AsParked};
 ghost use Rattle.taking_up.specs.TakenBack.{TakenBack};
 ghost use Rattle.parking.specs.Limits.{InWords};
 ghost use Rattle.parking.specs.Older.{StillTaken};
-ghost use Rattle.taking_up.specs.ByKind.{Long, told, first_by, rest_by, long_by, opened_in_by, opened_by};
+ghost use Rattle.taking_up.specs.ByKind.{Long, told, told_read, first_by, rest_by, long_by, opened_in_by, opened_by};
 ghost use Rattle.parking.specs.Parked as P;
 ghost use Rattle.parking.specs.Parking as K;
 ghost use Rattle.parking.specs.Told.{numbers_of};
 
+use crate::clearing::clear;
 use crate::entries::Entries;
 use crate::parked::Parked;
 use crate::reading::{in_limits, settings_from};
-use line::{Line, zeros};
+use line::{Clock, Line, LineNumbers, Places, numbers_in, zeros};
 use nonrecursive::Thinning;
 use parking::settings::{ParkedSettings, half_band_bytes, halvings};
 use refusal::Refusal;
@@ -54,34 +57,39 @@ fn long(thinning: Thinning, q: ParkedSettings, e: Entries) -> bool
     first_long(thinning, q, e.cic.len(), e.last.len()) && rest_long(q, e)
 }
 
-// What entries of the right lengths answer; the line, zeros before, is read where it lies, which spares the stack copies.
+// What entries of the right lengths answer; the line is read where its numbers and arrays lie, and is tested there.
 fn open_parts(
     thinning: Thinning,
     q: ParkedSettings,
     e: Entries,
-    line: &mut Line,
+    n: &mut LineNumbers,
+    lent: &mut Places<'_>,
 ) -> Result<(), Refusal>
-    requires { (Long thinning (numbers_of q) (told e)) × (line.old ≡ L.zeros) }
-    ensures answer { told_reset result line.new ≡ opened_in_by thinning (numbers_of q) (told e.entry) }
-    ensures refused { IfErr result (λ why. line.new ≡ L.zeros) }
+    requires { Long thinning (numbers_of q) (told e) }
+    ensures same { SamePlaces lent.old lent.new }
+    ensures answer { told_read result (line_on n.new lent.new) ≡ opened_in_by thinning (numbers_of q) (told e.entry) }
 {
     if !in_limits(q) {
         return Err(Refusal::State);
     }
     let parked = Parked { thinning, q, e };
-    *line = parked.line();
-    if !parked.is_fine(line) {
-        *line = zeros();
+    let read = parked.read(lent);
+    *n = read;
+    if !parked.is_fine(read, lent.counts) {
         return Err(Refusal::State);
     }
     Ok(())
 }
 
 // What the entries answer.
-fn open_entries(thinning: Thinning, e: Entries, line: &mut Line) -> Result<(), Refusal>
-    requires { line.old ≡ L.zeros }
-    ensures answer { told_reset result line.new ≡ opened_by thinning (told e.entry) }
-    ensures refused { IfErr result (λ why. line.new ≡ L.zeros) }
+fn open_entries(
+    thinning: Thinning,
+    e: Entries,
+    n: &mut LineNumbers,
+    lent: &mut Places<'_>,
+) -> Result<(), Refusal>
+    ensures same { SamePlaces lent.old lent.new }
+    ensures answer { told_read result (line_on n.new lent.new) ≡ opened_by thinning (told e.entry) }
 {
     if e.settings.len() != 24 {
         return Err(Refusal::Parked);
@@ -90,7 +98,69 @@ fn open_entries(thinning: Thinning, e: Entries, line: &mut Line) -> Result<(), R
     if !long(thinning, q, e) {
         return Err(Refusal::Parked);
     }
-    open_parts(thinning, q, e, line)
+    open_parts(thinning, q, e, n, lent)
+}
+
+// What the sheet answers; of one that is refused the arrays may hold what was read.
+fn open_sheet(bytes: &[u8], n: &mut LineNumbers, lent: &mut Places<'_>) -> Result<(), Refusal>
+    ensures same { SamePlaces lent.old lent.new }
+    ensures answer { told_read result (line_on n.new lent.new) ≡ K.taken_up P.panel bytes.now }
+{
+    let sheet = TapSheet::checked(bytes)?;
+    let thinning = match sheet.count {
+        7 => Thinning::Integrators,
+        8 => Thinning::Neighbours,
+        _ => return Err(Refusal::Parked),
+    };
+    open_entries(thinning, Entries::of(sheet), n, lent)
+}
+
+// `take_up` where the numbers and arrays lie. Refused: all of them are zeros.
+pub fn take_up_lent(bytes: &[u8], n: &mut LineNumbers, lent: &mut Places<'_>) -> Result<(), Refusal>
+    ensures same { SamePlaces lent.old lent.new }
+    ensures answer { told_reset result (line_on n.new lent.new) ≡ K.taken_up P.panel bytes.now }
+    ensures refused { IfErr result (λ why. line_on n.new lent.new ≡ L.zeros) }
+    ensures back { TakenBack bytes.now (told_reset result (line_on n.new lent.new)) }
+    ensures parked { AsParked bytes.now (told_reset result (line_on n.new lent.new)) }
+    ensures earlier { StillTaken bytes.now (told_reset result (line_on n.new lent.new)) }
+{
+    match open_sheet(bytes, n, lent) {
+        Err(row) => {
+            clear(n, lent);
+            Err(row)
+        }
+        Ok(()) => Ok(()),
+    }
+}
+
+// The clock of a line as it was read.
+fn put_clock(line: &mut Line, clock: Clock)
+    ensures { line.new ≡ with_clock clock line.old }
+{
+    line.cic.sample_counter = clock.sample_counter;
+    line.fir.wait = clock.wait;
+    line.resampler.mu = clock.mu;
+    line.cuts = clock.cuts;
+}
+
+// The numbers of a line as they were read.
+fn put_numbers(line: &mut Line, n: LineNumbers)
+    ensures { let l = line.old in
+        line.new ≡ line_together n l.cic.integrator_state l.cic.comb_state l.neighbours l.fir.taps l.fir.delay
+        l.half_band.delays l.half_band.held l.half_band.counts l.resampler.delay l.resampler.prototype }
+{
+    let s = n.settings;
+    line.thinning = s.thinning;
+    line.cic.stages = s.stages;
+    line.cic.r = s.r;
+    line.fir.tap_count = n.tap_count;
+    line.fir.factor = s.factor;
+    line.half_band.depth = s.depth;
+    line.resampler.phases = s.phases;
+    line.resampler.taps = s.taps;
+    line.resampler.straight = s.straight;
+    line.resampler.step = s.step;
+    put_clock(line, n.clock);
 }
 
 // The line of a parked sheet. Refusals 16, 17, 21, then 15. The clause `back`: of what parking left in front of a span, after any feeds and parkings, the line never
@@ -102,13 +172,21 @@ pub fn take_up(bytes: &[u8]) -> Result<Line, Refusal>
     ensures parked { AsParked bytes.now (told_opened L.zeros result) }
     ensures earlier { StillTaken bytes.now (told_opened L.zeros result) }
 {
-    let sheet = TapSheet::checked(bytes)?;
-    let thinning = match sheet.count {
-        7 => Thinning::Integrators,
-        8 => Thinning::Neighbours,
-        _ => return Err(Refusal::Parked),
-    };
     let mut line = zeros();
-    open_entries(thinning, Entries::of(sheet), &mut line)?;
+    let mut n = numbers_in(&line);
+    let mut lent = Places {
+        integrators: &mut line.cic.integrator_state,
+        combs: &mut line.cic.comb_state,
+        neighbours: &mut line.neighbours,
+        taps: &mut line.fir.taps,
+        fir_delay: &mut line.fir.delay,
+        delays: &mut line.half_band.delays,
+        held: &mut line.half_band.held,
+        counts: &mut line.half_band.counts,
+        delay: &mut line.resampler.delay,
+        prototype: &mut line.resampler.prototype,
+    };
+    take_up_lent(bytes, &mut n, &mut lent)?;
+    put_numbers(&mut line, n);
     Ok(line)
 }

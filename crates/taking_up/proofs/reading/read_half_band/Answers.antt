@@ -9,8 +9,9 @@ use Rattle.parking.specs.Entries.{window_of, counts_from, held_from, delays_from
 use Rattle.parking.proofs.StageLengths.{bytes_most}
 use Rattle.parking.proofs.WholeFloats.{window_most}
 use Rattle.words.proofs.Fields.{values_length}
+use Rattle.taking_up.proofs.Again.{delays_long}
 use Rattle.taking_up.proofs.Rooms.{stage_room}
-use Rattle.taking_up.proofs.reading.half_band_from.Goals as goal
+use Rattle.taking_up.proofs.reading.read_half_band.Goals as goal
 
 -- room for a stage, in few bytes
 few : (n k a L : ℕ) → n ≤ 5 → k < n → a ≡ half_band_bytes k → L ≡ half_band_bytes n → (a + (6 + 4 * window_of k) ≤ L) × (L ≤ 750)
@@ -34,10 +35,11 @@ loop-k-preserved c =
     let i = c.loop-k.invariant in
     let k = c.loop-k.k in
     let d = c.loop-k.delays in
+    let long : length d ≡ 480 = ap (λ (z : List Float). length z) i.delays ∙ delays_long c.args.e.now k (let h = c.requires.0 in omega arith) in
     let m = window_most k (let h = c.requires.0 in omega arith) in
     let w : 96 * k + c.window.result - 96 * k ≡ window_of k = omega (arith, c.window.ensures) in
     let g = length-drop (96 * k) d in
-    let t : length (take (window_of k) (drop (96 * k) d)) ≡ window_of k = length-take-le (window_of k) (drop (96 * k) d) (omega arith) in
+    let t : length (take (window_of k) (drop (96 * k) d)) ≡ window_of k = length-take-le (window_of k) (drop (96 * k) d) (omega (arith, long)) in
     let v : List Float = values_at f32_at 4 c.args.e.now (half_band_bytes k + 6) (window_of k) in
     record {
       counts = rw (add-one k, c.from.ensures, c.le16_at.ensures, c.half_band_bytes-at.ensures, i.counts);
