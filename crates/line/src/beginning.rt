@@ -106,12 +106,7 @@ fn begin(settings: Settings, tap_count: usize, n: &mut LineNumbers, lent: &mut P
     ensures same { P.SamePlaces lent.old lent.new }
     ensures fresh { P.line_on n.new lent.new ≡ L.fresh (P.own_opening settings tap_count lent.old) }
 {
-    let mut clock = Clock {
-        sample_counter: 0,
-        wait: 0,
-        mu: 0.0,
-        cuts: 0,
-    };
+    let mut clock = Clock::default();
     begin_sums(lent.integrators, lent.combs, lent.neighbours);
     let fir = begin_fir(
         settings.fir(tap_count),
