@@ -4,7 +4,7 @@ ghost use Rattle.theory.specs.Tally.{held_sum};
 ghost use Rattle.chain.specs.Cuts.{most_cuts};
 
 // Where section 1 stands in its period, how many samples the FIR waits for, where the resampler's next output lies, and how many values were cut to 16 bits.
-#[derive(Clone, Copy)]
+#[derive(Clone, Copy, Default)]
 pub struct Clock {
     pub sample_counter: usize,
     pub wait: usize,

@@ -6,6 +6,7 @@ use float::settings::Setting;
 use nonrecursive::Thinning;
 use q15::FirSettings;
 
+// A part that is off is a number, no taps, depth 0 or no phases, and no Option: so C hands the settings over, and the table of refusals looks at them.
 #[derive(Clone, Copy)]
 pub struct Settings {
     pub stages: usize,

@@ -11,7 +11,7 @@ use Rattle.refusal.specs.Outcome.{Outcome, Opened, none_moved}
 use Rattle.refusal.specs.declared.Moved.{Moved}
 use Rattle.float.specs.F32.{one32, above_zero}
 use Rattle.float.specs.PolyphaseOutput.{output}
-use Rattle.float.specs.PolyphaseResamp.{in_limits, valid, consumed, output_of, passed, resampler, Emitted, emitted, emitted_from, fresh, refused_opening, opening, own_taps, reset, Counts, laid, together, state_of, RanTo, shifted_in, block, block_outcome, block_span, push, push_outcome, push_span}
+use Rattle.float.specs.PolyphaseResamp.{in_limits, valid, consumed, output_of, passed, resampler, Emitted, emitted, emitted_from, fresh, settings_number, refused_opening, opening, own_taps, reset, Counts, laid, together, state_of, RanTo, shifted_in, block, block_outcome, block_span, push, push_outcome, push_span}
 use Rattle.float.specs.PolyphaseWhole.{Opens, Resets, Conserves, BlockKept, PushKept}
 use Rattle.float.specs.declared.polyphase_resamp.PolyphaseResampF32.{PolyphaseResampF32}
 use Rattle.float.specs.declared.settings.Setting.{Setting}
@@ -48,6 +48,20 @@ opens straight P T h step r e = rw e (go (in_limits P T) refl (eqb (length h) (P
           every = λ z xs o r. becomes_fresh straight P T h l n step xs o r;
           some = λ z k xs. (_, becomes_all straight P T h l n step k xs);
         }
+
+-- an opening's number is that of its settings
+pub opening_number : (straight : Bool) (P T : ℕ) (h : List Float) (step : Float) → settings_number P T (length h) (above_zero step) ≡ (opening straight P T h step).number
+unfolding opening
+opening_number straight P T h step = go (in_limits P T) (eqb (length h) (P * T)) (above_zero step)
+  where
+    go :
+        (a b c : Bool)
+        → cond a (cond b (cond c 0 14) 13) 12
+        ≡ (cond a (cond b (cond c (record { number = 0; state = fresh straight P T h step }) (refused_opening 14)) (refused_opening 13)) (refused_opening 12)).number
+    go true true true = refl
+    go true true false = refl
+    go true false c = refl
+    go false b c = refl
 
 -- an opening with nothing to refuse
 pub opens_fresh :

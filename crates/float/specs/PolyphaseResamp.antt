@@ -149,6 +149,10 @@ zeros =
 abbrev pub refused_opening : ℕ → Opened PolyphaseResampF32
 refused_opening number = record { number = number; state = zeros }
 
+-- rows 12, 13 and 14 of a prototype of so many cells, with a step that is fine or not
+abbrev pub settings_number : ℕ → ℕ → ℕ → Bool → ℕ
+settings_number P T cells step_fine = cond (in_limits P T) (cond (cells == P * T) (cond step_fine 0 14) 13) 12
+
 -- `from_taps`: 12, 13 ("prototype not P × T long") and 14, downward
 unfoldable pub opening : Bool → ℕ → ℕ → List Float → Float → Opened PolyphaseResampF32
 opening straight P T h step =

@@ -40,7 +40,8 @@ pub fn shift_in(delay: &mut [f32; MOST_PHASE_TAPS], taps: usize, x: f32)
 }
 
 impl Reading<'_> {
-    // What is due from mu on is written from the place `from` of dst on, as long as it has a place. No range: mu says how many are due.
+    // What is due from mu on is written from the place `from` of dst on, as long as it has a place. No range: mu says how many are due, and a `for` over the places
+    // would count those written too, and break where mu is past.
     pub(crate) fn write_due(self, delay: &[f32], mu: f32, dst: &mut [f32], from: usize) -> Due
         requires { self.setting.taps ≤ length delay.now }
         ensures { let before = dst.old in

@@ -77,7 +77,8 @@ impl<'a> Reading<'a> {
 }
 
 impl Reading<'_> {
-    // The sums over the delay's places, a tap for each, of the cells from p0 and from p1 on, P apart.
+    // The sums over the delay's places, a tap for each, of the cells from p0 and from p1 on, P apart. By number: in straight phase a place may lie past its row of P
+    // cells, so that a zip with such rows would not do.
     #[tactic(auto, unfolding(crate::specs::PolyphaseOutput::phase_sum, crate::specs::PolyphaseOutput::tap, crate::specs::PolyphaseResamp::Inside))]
     fn summed(self, delay: &[f32], p0: usize, p1: usize) -> (f32, f32)
         requires { let n = length delay.now in

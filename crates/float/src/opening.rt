@@ -15,21 +15,29 @@ fn keep(cells: &mut [f32; MOST_CELLS], count: usize)
 }
 
 impl Setting {
-    // Rows 12, 13 and 14.
-    #[tactic(auto, unfolding(crate::specs::PolyphaseResamp::opening))]
-    fn answer(self, prototype: &[f32]) -> Result<(), Refusal>
-        ensures { number_in result ≡ (R.opening self.straight self.phases self.taps prototype.now self.step).number }
+    // Rows 12, 13 and 14 of a prototype of so many cells. Which steps are fine is the caller's: a line takes fewer than a resampler alone.
+    #[tactic(auto, using(crate::proofs::PolyphaseOutput::few_cells, crate::proofs::PolyphaseOutput::limits_say))]
+    pub fn settings_answer(self, cells: usize, step_fine: bool) -> Result<(), Refusal>
+        ensures { number_in result ≡ R.settings_number self.phases self.taps cells step_fine }
     {
         if !in_limits(self.phases, self.taps) {
             return Err(Refusal::Phases);
         }
-        if prototype.len() != self.phases * self.taps {
+        if cells != self.phases * self.taps {
             return Err(Refusal::Prototype);
         }
-        if !above_zero(self.step) {
+        if !step_fine {
             return Err(Refusal::Step);
         }
         Ok(())
+    }
+
+    // Those of a resampler alone.
+    #[tactic(auto, using(crate::proofs::PolyphaseCalls::opening_number))]
+    fn answer(self, prototype: &[f32]) -> Result<(), Refusal>
+        ensures { number_in result ≡ (R.opening self.straight self.phases self.taps prototype.now self.step).number }
+    {
+        self.settings_answer(prototype.len(), above_zero(self.step))
     }
 
     // The fresh state of the prototype that stands in front of the cells. A leaf for the openings and resets here and the line's, which have looked at the settings: it

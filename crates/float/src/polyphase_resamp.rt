@@ -53,8 +53,8 @@ impl PolyphaseResampF32 {
         }
     }
 
-    // The state of an opening: mu is 1.0, every delay zero, the prototype in front and zeros behind. A leaf for the line's openings, which have looked at the settings:
-    // it refuses nothing. `Setting::begin` would not do, since it keeps P × T places of a prototype, and this keeps all that there are places for.
+    // The state of an opening as a value: mu is 1.0, every delay zero, the prototype in front and zeros behind. It refuses nothing. `Setting::begin`, by which the openings
+    // go, would not do: it keeps P × T places of a prototype, and this keeps all that there are places for.
     #[tactic(auto, unfolding(crate::specs::PolyphaseResamp::fresh))]
     pub fn fresh(setting: Setting, prototype: &[f32]) -> Self
         ensures { result ≡ R.fresh setting.straight setting.phases setting.taps prototype.now setting.step }

@@ -19,7 +19,8 @@ const LEAST_LINE_STEP: f32 = 0.015625;
 
 const MOST_LINE_STEP: f32 = 64.0;
 
-// P and T, how the prototype is read, and how far mu goes on with each output. `straight` is a bool as in the state, which C holds and the definitions take.
+// P and T, how the prototype is read, and how far mu goes on with each output. `straight` is a bool as in the state, which C holds and the definitions take. Mu, the
+// delay and the prototype go beside it one by one, as C lends them: a struct of references to the three would be made for each call, of a state's fields or of a line's.
 #[derive(Clone, Copy)]
 pub struct Setting {
     pub phases: usize,

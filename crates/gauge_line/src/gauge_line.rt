@@ -23,14 +23,6 @@ use nonrecursive::nonrecursive_decimator::MOST_NEIGHBOURS;
 use q15::MOST_TAPS;
 use refusal::NONE_MOVED;
 
-// What an opening writes over.
-const STOPPED: Clock = Clock {
-    sample_counter: 0,
-    wait: 0,
-    mu: 0.0,
-    cuts: 0,
-};
-
 // The number in the name is that of the line's layout: a program that was compiled with a header of another layout does not link.
 #[unsafe(no_mangle)]
 pub extern "C" fn gauge_raw_line_open_3(
@@ -99,10 +91,11 @@ pub extern "C" fn gauge_raw_line_open_3(
         step: wanted_step,
         thinning: kind(wanted_thinning),
     };
+    // The opening writes over the count of taps and the clock.
     let mut n = LineNumbers {
         settings,
         tap_count: 0,
-        clock: STOPPED,
+        clock: Clock::default(),
     };
     // Here and below the arrays by the names that they are lent under: a function that puts them together would be called with the same ten.
     let mut lent = Places {

@@ -8,7 +8,8 @@ ghost use Rattle.half_band.specs.Windows.{slid, folded, dec_value, int_value, pa
 
 use crate::limits::DEC_DELAYS;
 
-// Places for the longest window and for many samples more, or for six frames of the deepest cascade.
+// Places for the longest window and for many samples more, or for six frames of the deepest cascade. That a span is no longer stands in the contracts of what goes along
+// it: a struct for the span would be what `Taps` speaks of.
 pub(crate) const TAPE: usize = 192;
 
 // c[t] × (left + right)
@@ -18,15 +19,17 @@ fn gain(tap: f32, left: f32, right: f32) -> f32
     tap * (left + right)
 }
 
-// The taps of a filter, so many that its window has places on a line. The window stays a parameter beside them: it is lent shared or mutable, and has four places a tap
-// or two, so that a struct over both would be four.
+// The taps of a filter, so many that its window has places on a line. The window stays a parameter beside them, whose length ten functions ask for. A struct of both
+// was tried small: by value it can't be handed on to a call, and lent, each of the ten would say that its references stay. It would be two, too, of four places a tap or
+// of two, and what reads a window on a line is lent that as it lies.
 #[derive(Clone, Copy)]
 pub(crate) struct Taps<'a> {
     pub all: &'a [f32],
     ghost few: { (1 ≤ length all.now) × (length all.now ≤ 23) },
 }
 
-// From start, tap × (sum of two places as far from the window's two ends), tap 0 first.
+// From start, tap × (sum of two places as far from the window's two ends), tap 0 first. By number, as the definition goes: without it three iterators would be zipped, of
+// the taps and of the window in steps from either end.
 #[tactic(auto, unfolding(crate::specs::Windows::folded))]
 fn folded_sum(window: &[f32], taps: Taps, step: usize, start: f32) -> f32
     requires { (1 ≤ step) × (length window.now ≡ 2 * step * length taps.all.now) }
@@ -63,7 +66,8 @@ pub(crate) fn take_pair(window: &mut [f32], taps: Taps, a: f32, b: f32) -> f32
     dec_at(window, taps)
 }
 
-// The window in front of a line moves along it by pairs, and the outputs fill the span.
+// The window in front of a line moves along it by pairs, and the outputs fill the span. By number: of what stands behind `iter_mut` in a zip with the windows a proof knows
+// the lengths alone.
 fn decimate_along(line: &[f32], taps: Taps, span: &mut [f32])
     requires { (length line.now ≡ 4 * length taps.all.now + 2 * length span.old) }
     ensures { let long = 4 * length taps.entry.all.now in

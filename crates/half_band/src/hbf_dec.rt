@@ -10,7 +10,7 @@ use q15::padding::padded;
 use refusal::Refusal;
 use refusal::rows::{outside, samples_refused};
 
-// m taps in front of coeffs; the last 4m samples in front of delay, the newest at their end.
+// m taps in front of coeffs; the last 4m samples in front of delay, the newest at their end. A number beside an array: so C holds them, in fixed memory.
 #[derive(Drop)]
 pub struct HbfDec {
     pub m: usize,

@@ -28,7 +28,8 @@ pub type HbfDecCascade = DecCascade<Db140>;
 
 pub type HbfDecCascade98 = DecCascade<Db98>;
 
-// The pairs of the lead and the span go through stage k, and their outputs stand in front of the span.
+// The pairs of the lead and the span go through stage k, and their outputs stand in front of the span. That k is below 5 stands in four contracts of one stage: a type
+// for it would be made at each turn of the loops that call them.
 pub(crate) fn decimate_stage<T: StageTable>(
     k: usize,
     delays: &mut [f32; DEC_CASCADE_DELAYS],

@@ -12,7 +12,7 @@ use refusal::Refusal;
 use refusal::rows::outside;
 
 // Stage k has its last 4M samples in front of the 96 delays from 96k on, and holds counts[k] samples, none or one, in held[k]. Two arrays, not one of options: so the state
-// that C holds has them, whose counts may be any.
+// that C holds has them, whose counts may be any. The leaves below are lent the arrays one by one, as C and a line (`Arrays`) have them.
 #[derive(Clone, Copy)]
 pub struct HbfStream {
     pub depth: usize,

@@ -21,7 +21,8 @@ pub const DEC_CASCADE_DELAYS: usize = MOST_DEPTH * DEC_DELAYS;
 
 pub const INT_CASCADE_DELAYS: usize = MOST_DEPTH * INT_DELAYS;
 
-// What a cascade of so many stages multiplies or divides the rate by.
+// What a cascade of so many stages multiplies or divides the rate by. That they are five at most stands in four contracts, as one part of each: a type for it would be made
+// by two callers and read by its field in all.
 pub(crate) fn rate_change(depth: usize) -> usize
     requires { depth ≤ 5 }
     ensures { result ≡ 2 ^ depth }

@@ -14,10 +14,7 @@ const INTERPOLATION: [usize; MOST_DEPTH + 1] = [0, 46, 112, 234, 476, 958];
 fn at_depth(lengths: [usize; MOST_DEPTH + 1], depth: usize) -> Result<usize, Refusal>
     ensures { count_answer result ≡ length_at lengths depth }
 {
-    if MOST_DEPTH < depth {
-        return Err(Refusal::Depth);
-    }
-    Ok(lengths[depth])
+    lengths.get(depth).copied().ok_or(Refusal::Depth)
 }
 
 // Refusal 11: a depth over 5.

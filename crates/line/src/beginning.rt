@@ -106,12 +106,7 @@ fn begin(settings: Settings, tap_count: usize, n: &mut LineNumbers, lent: &mut P
     ensures same { P.SamePlaces lent.old lent.new }
     ensures fresh { P.line_on n.new lent.new ≡ L.fresh (P.own_opening settings tap_count lent.old) }
 {
-    let mut clock = Clock {
-        sample_counter: 0,
-        wait: 0,
-        mu: 0.0,
-        cuts: 0,
-    };
+    let mut clock = Clock::default();
     begin_sums(lent.integrators, lent.combs, lent.neighbours);
     let fir = begin_fir(
         settings.fir(tap_count),
@@ -160,7 +155,8 @@ fn lengths(taps: &[i16; MOST_TAPS], prototype: &[f32; MOST_CELLS])
     ensures prototype { length prototype.now ≡ 1024 }
 {}
 
-// `Line::open` where the numbers and arrays lie. Refused: all of them are zeros.
+// `Line::open` where the numbers and arrays lie. Refused: all of them are zeros. Settings, taps and prototype stay three, here and in `Line::open`, plan's `feeding_plan` and
+// client's `feed_all`: of six calls of these two hand them on, and four, of C's functions and of programs, have them apart and would make a struct for the call.
 pub fn open_lent(
     settings: Settings,
     taps: &[i16],

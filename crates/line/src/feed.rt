@@ -21,6 +21,7 @@ use nonrecursive::Thinning;
 use refusal::Moved;
 
 // The samples that complete no sum go through the integrators. Every sample changes neighbours, so of a line that sums these none are taken at once.
+// The kind as a bool, as in `sample_in`.
 #[tactic(auto, unfolding(integer::specs::Stages::ran))]
 fn at_once(
     by_neighbours: bool,
@@ -47,7 +48,7 @@ fn at_once(
     count
 }
 
-// Steps until stopped, a copy of the loop for each kind of a line. No range: a turn takes as many samples as complete a sum.
+// Steps until stopped, a copy of the loop for each kind of a line, which a const parameter has as a bool. No range: a turn takes as many samples as complete a sum.
 fn feed_on<const BY_NEIGHBOURS: bool>(
     own: Checked,
     clock: &mut Clock,

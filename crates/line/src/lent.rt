@@ -37,7 +37,8 @@ pub fn step_lent(
         L.told_step result after ≡ L.step_outcome before place (head_of (drop at samples.now)) }
 {
     let own = n.checked(lent.counts)?;
-    let step = step_on(own, &mut n.clock, lent, samples, at, place);
+    let next = samples.get(at).copied();
+    let step = step_on(own, &mut n.clock, lent, next, place);
     Ok(step)
 }
 

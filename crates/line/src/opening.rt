@@ -5,7 +5,7 @@ ghost use Rattle.nonrecursive.specs.EitherKind.{settings_number};
 ghost use Rattle.line.specs.Line as L;
 
 use chain::settings::Settings;
-use float::settings::{in_limits, step_in_line};
+use float::settings::step_in_line;
 use half_band::MOST_DEPTH;
 use integer::gain::scaling_bits;
 use integer::limits::settings_answer;
@@ -36,23 +36,14 @@ fn depth_answer(depth: usize) -> Result<(), Refusal>
 }
 
 // No phases: off, and nothing else is looked at.
-#[tactic(auto, unfolding(crate::specs::Line::resampler_number), using(float::proofs::PolyphaseOutput::few_cells, float::proofs::PolyphaseOutput::limits_say))]
-fn resampler_answer(phases: usize, taps: usize, cells: usize, step: f32) -> Result<(), Refusal>
-    ensures { number_in result ≡ L.resampler_number phases taps cells step }
+#[tactic(auto, unfolding(crate::specs::Line::resampler_number))]
+fn resampler_answer(s: Settings, cells: usize) -> Result<(), Refusal>
+    ensures { number_in result ≡ L.resampler_number s.phases s.taps cells s.step }
 {
-    if phases == 0 {
+    if s.phases == 0 {
         return Ok(());
     }
-    if !in_limits(phases, taps) {
-        return Err(Refusal::Phases);
-    }
-    if cells != phases * taps {
-        return Err(Refusal::Prototype);
-    }
-    if !step_in_line(step) {
-        return Err(Refusal::Step);
-    }
-    Ok(())
+    s.resampler().settings_answer(cells, step_in_line(s.step))
 }
 
 pub fn answer(s: Settings, tap_count: usize, cells: usize) -> Result<(), Refusal>
@@ -61,5 +52,5 @@ pub fn answer(s: Settings, tap_count: usize, cells: usize) -> Result<(), Refusal
     thinning_answer(s.thinning, s.stages, s.r)?;
     s.fir(tap_count).answer_in_line()?;
     depth_answer(s.depth)?;
-    resampler_answer(s.phases, s.taps, cells, s.step)
+    resampler_answer(s, cells)
 }

@@ -92,7 +92,8 @@ fn fir_in(f: Fixed, clock: &mut Clock, lent: &mut Arrays<'_>, value: Q15) -> Opt
     half_band_in(f, &mut clock.mu, lent, level)
 }
 
-// A sample into the decimator of the line's kind, and what it makes, scaled and cut, into the FIR.
+// A sample into the decimator of the line's kind, and what it makes, scaled and cut, into the FIR. The kind as a bool beside the settings, since a loop of a feed has it
+// as a constant: of an enum in a struct that is lent the compiler does not see that it is one.
 pub(crate) fn sample_in(
     by_neighbours: bool,
     own: Checked,

@@ -1,6 +1,6 @@
 // 01, section 6: "One step of the line: a full span stops it; else a due output is written; else the next sample is taken ..; else it stops."
-ghost use Rattle.std.specs.Prelude.{◌≡◌, true, drop};
-ghost use Rattle.theory.specs.Feeds.{step, head_of};
+ghost use Rattle.std.specs.Prelude.{◌≡◌, true};
+ghost use Rattle.theory.specs.Feeds.{step};
 ghost use Rattle.nonrecursive.specs.EitherKind as E;
 ghost use Rattle.float.specs.PolyphaseResamp.{in_limits};
 ghost use Rattle.chain.specs.Lending.{Same};
@@ -38,20 +38,19 @@ fn sums_neighbours(thinning: Thinning) -> bool
     thinning == Thinning::Neighbours
 }
 
-// One step, the clock and the arrays lent. The samples and a place of them: of the next sample alone, as an option, four goals did not close, since the laws of a step speak of both.
+// One step, the clock and the arrays lent, with the next sample, if there is one.
 pub(crate) fn step_on(
     own: Checked,
     clock: &mut Clock,
     lent: &mut Arrays<'_>,
-    samples: &[i32],
-    at: usize,
+    sample: Option<i32>,
     place: bool,
 ) -> LineStep
     requires { let s = own.fixed.settings in
         T.due_at own.fixed clock.old.mu ≡ true → in_limits s.phases s.taps ≡ true }
     ensures same { Same lent.old lent.new }
     ensures steps { T.stepped_in own.fixed (L.event_of result) clock.new lent.new
-        ≡ step L.line place (T.line_held own.fixed clock.old lent.old) (head_of (drop at samples.now)) }
+        ≡ step L.line place (T.line_held own.fixed clock.old lent.old) sample }
 {
     if !place {
         return LineStep::Stopped;
@@ -63,10 +62,9 @@ pub(crate) fn step_on(
         clock.mu += f.settings.step;
         return LineStep::Wrote(y);
     }
-    if samples.len() <= at {
+    let Some(x) = sample else {
         return LineStep::Stopped;
-    }
-    let x = samples[at];
+    };
     let by_neighbours = sums_neighbours(f.settings.thinning);
     let made = sample_in(by_neighbours, own, clock, lent, x);
     match made {

@@ -62,21 +62,21 @@ slowed_last p c h k = go (leb c.left 1) refl
         → slowed p p (cond (leb c.left 1) (arrived c) (at_left c (c.left - 1))) ≡ cond (leb (1 + (c.left - 1) * p) 1) (arrived (slowed 1 p c)) (at_left (slowed 1 p c) (1 + (c.left - 1) * p - 1))
     go true e =
         rw (leb_last p c.left h, e)
-        (ap {B = Clock} (λ (n : ℕ). record { left = n; period = p * c.period; on = c.on; step = c.step; mu = (arrived c).mu }) (one_more c.period p k ∙ mul_comm c.period p))
+        (ap {B = Clock} (λ (n : ℕ). record { left = n; period = p * c.period; pace = (arrived c).pace }) (one_more c.period p k ∙ mul_comm c.period p))
     go false e =
         let l = leb-false c.left 1 e in
         let q : 1 ≤ c.left - 1 = omega arith in
         let j : ℕ = c.left - 1 in
         let z : j * p ≡ 1 + j * p - 1 = omega arith in
         rw (leb_last p c.left h, e)
-        (ap {B = Clock} (λ (n : ℕ). record { left = n; period = p * c.period; on = c.on; step = c.step; mu = c.mu }) (one_more (c.left - 1) p q ∙ z))
+        (ap {B = Clock} (λ (n : ℕ). record { left = n; period = p * c.period; pace = c.pace }) (one_more (c.left - 1) p q ∙ z))
 
 slowed_wait : (l p : ℕ) (c : Clock) → 1 < l → slowed (l - 1) p c ≡ ticking.next (slowed l p c) tt
 unfolding ticking
 slowed_wait l p c h =
     let x : ℕ = (c.left - 1) * p in
     let z : l - 1 + x ≡ l + x - 1 = omega arith in
-    rw (leb_wait l ((c.left - 1) * p) h) (ap {B = Clock} (λ (n : ℕ). record { left = n; period = p * c.period; on = c.on; step = c.step; mu = c.mu }) z)
+    rw (leb_wait l ((c.left - 1) * p) h) (ap {B = Clock} (λ (n : ℕ). record { left = n; period = p * c.period; pace = c.pace }) z)
 
 now_last : (p : ℕ) (c : Clock) → 1 ≤ p → ticking.now c tt ≡ ticking.now (slowed 1 p c) tt
 unfolding ticking

@@ -3,6 +3,8 @@
 use mathlib.Core.Path.{◌≡◌, refl, sym, ap, ap₂, ◌∙◌, subst}
 use mathlib.Core.Bool.{Bool, true, false, cond}
 use Rattle.std.specs.Prelude.{Option, None, Some}
+use Rattle.std.specs.Option.{unwrap_or}
+use Rattle.std.proofs.lemmas.Option.{none-some}
 use Prim.Native.Nat.{ℕ, zero, suc, ◌+◌, ◌-◌, ◌≤◌, ◌<◌}
 use native.Mathlib.Omega.{arith}
 use borrow.Author.Tests.{lt-leb}
@@ -11,8 +13,9 @@ use Rattle.theory.specs.Feeds.{Fed, idle, wrote_then, took_then, less, feed, tak
 use Rattle.theory.proofs.Feeds.{step_not}
 use Rattle.theory.proofs.FeedLoop.{feed_follow}
 use Rattle.theory.proofs.FeedRules.{feed_full, feed_due, feed_end}
-use Rattle.plan.specs.Ticking.{at_left, arrived, ticking, count_feed, Runs, CountedTo}
+use Rattle.plan.specs.Ticking.{at_left, at_once, written_at_once, arrived, ticking, count_feed, Runs, CountedTo}
 use Rattle.plan.specs.declared.counting.Clock.{Clock}
+use Rattle.plan.specs.declared.counting.Pace.{Pace}
 
 abbrev run : Clock → ℕ → ℕ → Fed Clock (Unit {0})
 run c a n = feed ticking c (replicate a tt) n
@@ -30,6 +33,15 @@ run_take c a n d =
     go : (o : Option (Unit {0})) → follow ticking (feed ticking) (replicate (suc a) tt) (suc n) (ticking.next c tt) (taking o) ≡ took_then o (run (ticking.next c tt) a (less o (suc n)))
     go None = refl
     go (Some u) = refl
+
+-- whether an output is due, by the clock behind it, which there is then
+pub is_due : (d : Bool) (k b : Clock) → cond d (Some k) None ≡ Some b → (d ≡ true) × (b ≡ k)
+is_due true k b e = (refl, sym (ap (λ (o : Option Clock). unwrap_or o k) e))
+is_due false k b e = absurd (none-some b e)
+
+pub none_due : (d : Bool) (k : Clock) → cond {A = Option Clock} d (Some k) None ≡ None → d ≡ false
+none_due true k e = absurd (none-some k (sym e))
+none_due false k e = refl
 
 -- t samples are taken and w places written, and the clock is c
 pub record Going (c₀ : Clock) (piece places : ℕ) (c : Clock) (t w : ℕ) : Type 0 where
@@ -135,21 +147,21 @@ module _ (c₀ : Clock) (piece places : ℕ) (c : Clock) (t w : ℕ) (g : Going 
       (subst (λ (m : ℕ). Going c₀ piece places (ticking.next (at_left c n) tt) (t + k + 1) m) z i))
 
   -- with a period's rest of samples a value comes
-  pub going_value : 1 ≤ c.left → c.left ≤ piece - t → Going c₀ piece places (arrived c) (t + c.left) (w + cond c.on 0 1)
+  pub going_value : 1 ≤ c.left → c.left ≤ piece - t → Going c₀ piece places (arrived c) (t + c.left) (w + written_at_once c.pace)
   going_value h b =
       let k : ℕ = c.left - 1 in
       let e : c.left - k ≡ 1 = omega arith in
       let q : Going c₀ piece places (at_left c 1) (t + k) w = subst (λ (n : ℕ). Going c₀ piece places (at_left c n) (t + k) w) e (quiet k (omega arith) (omega (arith, g.some_taken))) in
       let i = going_take c₀ piece places (at_left c 1) (t + k) w q (still 1) l (omega (arith, g.some_taken)) in
       let f : t + k + 1 ≡ t + c.left = omega arith in
-      subst (λ (m : ℕ). Going c₀ piece places (arrived c) m (w + cond c.on 0 1)) f (value i)
+      subst (λ (m : ℕ). Going c₀ piece places (arrived c) m (w + written_at_once c.pace)) f (value i)
     where
-      one_by : (b : Bool) → one (cond b None (Some tt)) ≡ cond b 0 1
-      one_by true = refl
-      one_by false = refl
+      one_by : (p : Option Pace) → one (at_once p) ≡ written_at_once p
+      one_by None = refl
+      one_by (Some p) = refl
 
-      value : {n : ℕ} → Going c₀ piece places (ticking.next (at_left c 1) tt) n (w + one (ticking.now (at_left c 1) tt)) → Going c₀ piece places (arrived c) n (w + cond c.on 0 1)
-      value {n} i = unfold ticking in subst (λ (m : ℕ). Going c₀ piece places (arrived c) n (w + m)) (one_by c.on) i
+      value : {n : ℕ} → Going c₀ piece places (ticking.next (at_left c 1) tt) n (w + one (ticking.now (at_left c 1) tt)) → Going c₀ piece places (arrived c) n (w + written_at_once c.pace)
+      value {n} i = unfold ticking in subst (λ (m : ℕ). Going c₀ piece places (arrived c) n (w + m)) (one_by c.pace) i
 
   -- with fewer none does, and they end the feed
   pub done_rest : Runs c → piece - t < c.left → CountedTo c₀ piece places piece w (at_left c (c.left - (piece - t)))

@@ -1,14 +1,14 @@
 -- The counts of a feed of the line follow from its clock: the resampler's clock, slowed by each section in front of it. So feed after feed of a freshly opened line,
 -- whatever the samples.
 use mathlib.Core.Path.{◌≡◌, refl, ap, ap₂, ◌∙◌}
-use mathlib.Core.Bool.{Bool, true, false, cond, not}
+use mathlib.Core.Bool.{Bool, true, false, cond, not, ◌&&◌}
 use mathlib.Core.List.{List, [], ◌∷◌, map}
 use Rattle.std.specs.Prelude.{Option, None, Some}
 use Prim.Native.Nat.{ℕ}
 use native.Mathlib.Omega.{arith}
 use lib.Dec.{eqb}
 use lib.IntN.{ℤ}
-use lib.Ieee.{Float, binary32, sub}
+use lib.Ieee.{Float, binary32, add, sub, lt}
 use lib.ListN.{length}
 use mir.Syntax.{w16}
 use Rattle.theory.specs.Sections.{each}
@@ -36,15 +36,19 @@ use Rattle.line.specs.declared.gauge_line.Line.{Line}
 use Rattle.line.proofs.Lawful.{Good, line_lawful}
 use Rattle.line.proofs.Demanded.{outcome_is}
 use Rattle.plan.specs.Plan.{feed_counts}
-use Rattle.plan.specs.Ticking.{at_mu, ticking, slowed, count_feed, count_feeds}
+use Rattle.plan.specs.Ticking.{pace_by, due_at, behind_output, behind_value, at_once, ticking, slowed, count_feed, count_feeds}
 use Rattle.plan.specs.declared.counting.Clock.{Clock}
+use Rattle.plan.specs.declared.counting.Pace.{Pace}
 use Rattle.theory.proofs.Counting.{came}
 use Rattle.plan.proofs.Clocks.{Counts, counts_before, counts_each, counts_tallied, counts_viewed, SameCounts, feed_counts_lem}
 use Rattle.chain.proofs.Sections.{by_cond, ThinGood, thin_left, thin_period, thin_down, FirGood, fir_left, fir_period, fir_down, HalfGood, half_left, half_period, half_down}
 
 -- ---- the line, section by section from the last
+abbrev only : Option Pace → Clock
+only p = record { left = 1; period = 1; pace = p }
+
 abbrev pub clock5 : PolyphaseResampF32 → Clock
-clock5 s = record { left = 1; period = 1; on = not (eqb s.phases 0); step = s.step; mu = s.mu }
+clock5 s = only (pace_by (eqb s.phases 0) s.step s.mu)
 
 counts5 : Counts from5 clock5 (λ s. Unit {0})
 unfolding in_line is_on passed consumed ticking
@@ -53,19 +57,29 @@ counts5 =
       good_after = λ s g. tt;
       good_next = λ s x g. tt;
       some_period = λ s g. omega arith;
-      due_same = λ s g. refl;
-      after_same = λ s g. refl;
-      next_same = λ s x g. by_cond clock5 (not (eqb s.phases 0)) (consumed s x) s ∙ mu_by (not (eqb s.phases 0)) (clock5 s) (sub binary32 s.mu one32);
-      now_same = λ s x g. now x (not (eqb s.phases 0));
+      due_same = λ s g. due (eqb s.phases 0) s.step s.mu;
+      after_same = λ s g. ap only (after (eqb s.phases 0) s.step s.mu);
+      next_same = λ s x g. by_cond clock5 (not (eqb s.phases 0)) (consumed s x) s ∙ next (eqb s.phases 0) s.step s.mu;
+      now_same = λ s x g. now x (eqb s.phases 0) s.step s.mu;
     }
   where
-    mu_by : (b : Bool) (c : Clock) (mu : Float) → cond b (at_mu c mu) c ≡ at_mu c (cond b mu c.mu)
-    mu_by true c mu = refl
-    mu_by false c mu = refl
+    due : (off : Bool) (step mu : Float) → (not off && lt mu one32) ≡ due_at (pace_by off step mu)
+    due true step mu = refl
+    due false step mu = refl
 
-    now : (x : Float) (b : Bool) → came (cond b None (Some x)) ≡ came (cond {A = Option (Unit {0})} b None (Some tt))
-    now x true = refl
-    now x false = refl
+    after : (off : Bool) (step mu : Float) → pace_by off step (add binary32 mu step) ≡ behind_output (pace_by off step mu)
+    after true step mu = refl
+    after false step mu = refl
+
+    next :
+        (off : Bool) (step mu : Float)
+        → cond (not off) (only (pace_by off step (sub binary32 mu one32))) (only (pace_by off step mu)) ≡ only (behind_value (pace_by off step mu))
+    next true step mu = refl
+    next false step mu = refl
+
+    now : (x : Float) (off : Bool) (step mu : Float) → came (cond (not off) None (Some x)) ≡ came (at_once (pace_by off step mu))
+    now x true step mu = refl
+    now x false step mu = refl
 
 abbrev Good4 : HbfStream × PolyphaseResampF32 → Type 0
 Good4 p = HalfGood p.0 × Unit {0}

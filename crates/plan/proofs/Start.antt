@@ -1,6 +1,6 @@
 -- The clock that a plan starts from is that of the line that its opening makes, and it runs; and the plan's number, by the opening's and by the lists.
 use mathlib.Core.Path.{◌≡◌, refl, sym, ap, ap₂, ◌∙◌}
-use mathlib.Core.Bool.{Bool, true, false, cond, ◌&&◌, not}
+use mathlib.Core.Bool.{Bool, true, false, cond, ◌&&◌}
 use mathlib.Core.List.{List, map}
 use Prim.Native.Nat.{ℕ, zero, suc, ◌+◌, ◌-◌, ◌*◌, ◌^◌, ◌≤◌, ◌<◌, min}
 use native.Mathlib.Nat.{pow-suc, mul-pos}
@@ -17,7 +17,7 @@ use Rattle.integer.specs.Limits.{factor_ok}
 use Rattle.nonrecursive.proofs.EitherKind.{either_opens}
 use Rattle.q15.specs.FirDecimator as Q
 use Rattle.q15.proofs.FirSteps.{settings_in_lem, line_settings}
-use Rattle.float.specs.F32.{zero32, one32}
+use Rattle.float.specs.F32.{one32}
 use Rattle.float.specs.PolyphaseResamp as R
 use Rattle.line.specs.Outputs.{Opening}
 use Rattle.line.specs.Line.{opened, opening_number_of, resampler_fresh, fresh}
@@ -27,7 +27,7 @@ use Rattle.std.proofs.lemmas.Bool.{and_parts}
 use Rattle.line.proofs.Openings.{Accepted}
 use Rattle.line.proofs.Demanded.{ok, start, valid_fresh}
 use Rattle.plan.specs.Plan.{feed_counts, PlanKept, lengths_fine, lists_fine, plan_number}
-use Rattle.plan.specs.Ticking.{slowed, resampler_clock, start_clock, count_feeds}
+use Rattle.plan.specs.Ticking.{pace_by, slowed, resampler_clock, start_clock, count_feeds}
 use Rattle.plan.specs.Ticking as K
 use Rattle.plan.specs.declared.counting.Clock.{Clock}
 use Rattle.chain.proofs.Sections.{by_cond, or_one_lem, FirGood, fir_left, fir_period}
@@ -105,10 +105,9 @@ mu_start s h = by_cond clock5 (eqb s.phases 0) R.zeros (R.fresh s.straight s.pha
   where
     go :
         (b : Bool) → eqb s.phases 0 ≡ b
-        → cond b (clock5 R.zeros) (record { left = 1; period = 1; on = not (eqb s.phases 0); step = s.step; mu = one32 })
-        ≡ record { left = 1; period = 1; on = not b; step = cond b zero32 s.step; mu = cond b zero32 one32 }
+        → cond b (clock5 R.zeros) (record { left = 1; period = 1; pace = pace_by (eqb s.phases 0) s.step one32 }) ≡ record { left = 1; period = 1; pace = pace_by b s.step one32 }
     go true e = unfold R.zeros in refl
-    go false e = ap {B = Clock} (λ (b : Bool). record { left = 1; period = 1; on = not b; step = s.step; mu = one32 }) e
+    go false e = ap {B = Clock} (λ (b : Bool). record { left = 1; period = 1; pace = pace_by b s.step one32 }) e
 
 same_start :
     {l l' a a' b b' h h' d d' : ℕ} {c c' : Clock} (p : ℕ) → l ≡ l' → a ≡ a' → b ≡ b' → h ≡ h' → d ≡ d' → c ≡ c'

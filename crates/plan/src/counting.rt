@@ -1,9 +1,7 @@
 // A line that only counts. The CIC decimator, the FIR and the half-band stages each make a value of every so many, so together they are one countdown: so many
 // samples until the next value reaches the resampler, and then so many from each to the next. The samples between two values are counted at once.
-ghost use Rattle.std.specs.Prelude.{◌≡◌, ◌&&◌, ◌+◌, ◌*◌, ◌^◌, ◌≤◌};
-ghost use Rattle.std.specs.Float.Ieee.{lt};
+ghost use Rattle.std.specs.Prelude.{◌≡◌, cond, ◌+◌, ◌*◌, ◌^◌, ◌≤◌, None, Some};
 ghost use Rattle.q15.specs.FirDecimator.{most_taps};
-ghost use Rattle.float.specs.F32.{one32};
 ghost use Rattle.chain.specs.Counting.{or_one};
 ghost use Rattle.plan.specs.Ticking as K;
 
@@ -11,17 +9,21 @@ use chain::room::or_one;
 use line::Settings;
 use refusal::Moved;
 
+// How far a resampler goes on with each output, and where its next one lies.
+#[derive(Clone, Copy)]
+pub struct Pace {
+    pub step: f32,
+    pub mu: f32,
+}
+
 #[derive(Clone, Copy)]
 pub struct Clock {
     // Samples up to and with the one whose value reaches the resampler next.
     pub left: usize,
     // Samples from one such value to the next.
     pub period: usize,
-    // Whether there is a resampler. Without one a value is written as it comes, and step and mu are zeros. An Option of the two is no plainer: `feed` adds the step
-    // where `is_due` said yes, and would have to look into it again.
-    pub on: bool,
-    pub step: f32,
-    pub mu: f32,
+    // The resampler's, if there is one. Without one a value is written as it comes.
+    pub pace: Option<Pace>,
 }
 
 // Beside half_band's own `rate_change`, which no other crate sees: to hand it out takes more lines than this one.
@@ -33,22 +35,19 @@ fn two_to(depth: usize) -> usize
 }
 
 impl Clock {
-    // The clock of a resampler alone, which gets every value; one that is off is zeros.
+    // The clock of a resampler alone, which gets every value.
     fn of_resampler(s: Settings) -> Clock
         ensures { result ≡ K.resampler_clock s }
     {
-        let mut clock = Clock {
+        let pace = Pace {
+            step: s.step,
+            mu: 1.0,
+        };
+        Clock {
             left: 1,
             period: 1,
-            on: s.phases != 0,
-            step: 0.0,
-            mu: 0.0,
-        };
-        if clock.on {
-            clock.step = s.step;
-            clock.mu = 1.0;
+            pace: (s.phases != 0).then_some(pace),
         }
-        clock
     }
 
     // The clock behind a section whose next value is `left` samples away, and each other `period` more.
@@ -76,20 +75,34 @@ impl Clock {
         filtered.slowed(s.r, s.r)
     }
 
-    // "An output is due when the resampler is on and mu < 1."
-    fn is_due(self) -> bool
-        ensures { result ≡ (self.on && lt self.mu one32) }
+    // The clock behind the output that is due, if one is: "An output is due when the resampler is on and mu < 1."
+    #[tactic(auto, unfolding(crate::specs::Ticking::ticking))]
+    fn behind_due(self) -> Option<Clock>
+        ensures { result ≡ cond (K.ticking.due self) (Some (K.ticking.after self)) None }
     {
-        self.on && self.mu < 1.0
+        match self.pace {
+            Some(pace) if pace.mu < 1.0 => {
+                let mu = pace.mu + pace.step;
+                let pace = Some(Pace { mu, ..pace });
+                Some(Clock { pace, ..self })
+            }
+            _ => None,
+        }
     }
 
-    // A value has come.
-    fn arrive(&mut self)
-        ensures { self.new ≡ K.arrived self.old }
+    // A value has come: it lowers mu, and without a resampler it is written. Answers how many are written, none or one.
+    fn arrive(&mut self) -> usize
+        ensures clock { self.new ≡ K.arrived self.old }
+        ensures wrote { result ≡ K.written_at_once self.old.pace }
     {
         self.left = self.period;
-        if self.on {
-            self.mu -= 1.0;
+        match self.pace {
+            Some(pace) => {
+                let mu = pace.mu - 1.0;
+                self.pace = Some(Pace { mu, ..pace });
+                0
+            }
+            None => 1,
         }
     }
 
@@ -101,8 +114,8 @@ impl Clock {
         let mut taken: usize = 0;
         let mut written: usize = 0;
         while written < places {
-            if self.is_due() {
-                self.mu += self.step;
+            if let Some(behind) = self.behind_due() {
+                *self = behind;
                 written += 1;
             } else {
                 let rest = piece - taken;
@@ -112,9 +125,7 @@ impl Clock {
                     break;
                 }
                 taken += self.left;
-                // By hand: over `usize::from` the proof loses the branch.
-                written += if self.on { 0 } else { 1 };
-                self.arrive();
+                written += self.arrive();
             }
         }
         Moved { taken, written }

@@ -1,6 +1,7 @@
 -- `step_lent` meets its contract: it refuses where the line of its numbers and arrays is not valid, and else does what `step_on` does.
 use Rattle.std.specs.Prelude.{◌≡◌, Bool, true, false, ℤ, Float, Option}
-use Rattle.std.proofs.Common.{refl, ap}
+use Rattle.std.proofs.Common.{refl, ap, drop, arith}
+use Rattle.std.proofs.lemmas.Grind.{common_steps}
 use Rattle.std.proofs.lemmas.Result.{err_from_is_err_and}
 use Rattle.theory.specs.Feeds as F
 use Rattle.refusal.specs.Outcome.{Outcome}
@@ -37,4 +38,5 @@ step_on-step-requires c =
 pub returns-clause-answer : goal.returns-clause-answer
 returns-clause-answer c =
     let v = tested (line_in c.args.n.now c.args.lent.now) c.in_ok-own.ensures.valid refl in
-    stepped _ _ _ _ v (rw c.in_ok-own.ensures.fixed at c.step_on-step.ensures.steps)
+    let next : c.copied-next.result ≡ F.head_of (drop c.args.at c.args.samples.now) = grind (arith, common_steps) in
+    stepped _ _ _ _ v (rw (c.in_ok-own.ensures.fixed, next) at c.step_on-step.ensures.steps)
