@@ -20,7 +20,7 @@ fn nearest_end(x: i64) -> i16
     requires { is_cut w16 x ≡ true }
     ensures { result ≡ cut w16 x }
 {
-    if x < 0 { -32768 } else { 32767 }
+    if x < 0 { i16::MIN } else { i16::MAX }
 }
 
 // Section 2, and the end of every FIR sum: held at the ends of the 16-bit range. No `clamp` with a comparison behind it: they take twice as long where taps are few.

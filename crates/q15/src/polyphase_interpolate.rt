@@ -38,17 +38,19 @@ fn interpolated_count(n: usize, k: usize, l: usize, m: usize) -> usize
     m.min(c)
 }
 
-// A filter's taps, tap t of phase p at t × l + p, where an output is made for each of l phases.
+// A filter's taps, tap t of phase p at t × l + p, where an output is made for each of l phases, of k taps each.
 #[derive(Clone, Copy)]
 struct Phased<'a> {
     coeffs: &'a [i16],
     l: usize,
+    k: usize,
     ghost few: { (1 ≤ l) × (l ≤ most_factor) },
+    ghost inside: { (k * l ≤ length coeffs.now) × (k ≤ most_block) },
 }
 
 // The first outputs of the sample at whose window this is, one at each place. Answers how many of them were cut.
 fn phases(window: &[i16], by: Phased<'_>, places: &mut [i16]) -> u32
-    requires { (length places.old ≤ by.l) × (length window.now * by.l ≤ length by.coeffs.now) × (length window.now ≤ most_block) }
+    requires { (length places.old ≤ by.l) × (length window.now ≡ by.k) }
     ensures span { places.new ≡ listed (length places.old) (phase_output by.entry.coeffs.now by.entry.l (length window.now) window.now 0) }
     ensures cuts { result ≡ cut_count w16 (listed (length places.old) (phase_sum by.entry.coeffs.now by.entry.l (length window.now) window.now 0)) }
 {
@@ -83,7 +85,7 @@ fn one_tap(x: i16, by: Phased<'_>, places: &mut [i16]) -> u32
 
 // `phases`, by the number of taps.
 fn outputs_of(window: &[i16], by: Phased<'_>, places: &mut [i16]) -> u32
-    requires { (length places.old ≤ by.l) × (length window.now * by.l ≤ length by.coeffs.now) × (length window.now ≤ most_block) }
+    requires { (length places.old ≤ by.l) × (length window.now ≡ by.k) }
     ensures span { places.new ≡ listed (length places.old) (phase_output by.entry.coeffs.now by.entry.l (length window.now) window.now 0) }
     ensures cuts { result ≡ cut_count w16 (listed (length places.old) (phase_sum by.entry.coeffs.now by.entry.l (length window.now) window.now 0)) }
 {
@@ -93,20 +95,19 @@ fn outputs_of(window: &[i16], by: Phased<'_>, places: &mut [i16]) -> u32
     }
 }
 
-// An output at each place, by k taps to a phase. Answers how many of them were cut. By the sample's number: of what stands behind chunks_mut a proof knows the
+// An output at each place. Answers how many of them were cut. By the sample's number: of what stands behind chunks_mut a proof knows the
 // lengths alone.
-fn interpolate(src: &[i16], by: Phased<'_>, k: usize, dst: &mut [i16]) -> u32
-    requires { (k * by.l ≤ length by.coeffs.now) × (length src.now ≤ most_block) × (length dst.old ≤ most_block)
-        × ((i p : ℕ) → i * by.l + p < length dst.old → i + k ≤ length src.now) }
-    ensures span { dst.new ≡ listed (length dst.old) (λ j. phase_output by.entry.coeffs.now by.entry.l k src.now (j / by.entry.l) (j % by.entry.l)) }
-    ensures cuts { result ≡ cut_count w16 (listed (length dst.old) (λ j. phase_sum by.entry.coeffs.now by.entry.l k src.now (j / by.entry.l) (j % by.entry.l))) }
+fn interpolate(src: &[i16], by: Phased<'_>, dst: &mut [i16]) -> u32
+    requires { (length dst.old ≤ most_block) × ((i p : ℕ) → i * by.l + p < length dst.old → i + by.k ≤ length src.now) }
+    ensures span { dst.new ≡ listed (length dst.old) (λ j. phase_output by.entry.coeffs.now by.entry.l by.entry.k src.now (j / by.entry.l) (j % by.entry.l)) }
+    ensures cuts { result ≡ cut_count w16 (listed (length dst.old) (λ j. phase_sum by.entry.coeffs.now by.entry.l by.entry.k src.now (j / by.entry.l) (j % by.entry.l))) }
 {
     let count = dst.len();
     let mut from = 0;
     let mut cuts = 0;
     for i in 0..count.div_ceil(by.l) {
         let past = count.min(from + by.l);
-        let more = outputs_of(&src[i..i + k], by, &mut dst[from..past]);
+        let more = outputs_of(&src[i..i + by.k], by, &mut dst[from..past]);
         cuts += more;
         from = past;
     }
@@ -134,7 +135,8 @@ pub fn polyphase_interpolate_q15(
     let by = Phased {
         coeffs,
         l: interpolation_factor,
+        k,
     };
-    let cuts = interpolate(src, by, k, &mut dst[..written]) as usize;
+    let cuts = interpolate(src, by, &mut dst[..written]) as usize;
     Ok(FirBlock { written, cuts })
 }
