@@ -1,7 +1,9 @@
 // 01, sections 2 and 3: Q15, the cut to 16 bits, and one product rounded down by itself.
-ghost use Rattle.std.specs.Prelude.{◌≡◌, true};
+ghost use Rattle.std.specs.Prelude.{◌≡◌, ℕ, ℤ, ◌≤◌, ◌<◌, true, length};
 ghost use Rattle.std.specs.Int.{w16};
-ghost use Rattle.q15.specs.Fixed.{floored_product, cut, is_cut};
+ghost use Rattle.theory.specs.Lists.{listed};
+ghost use Rattle.refusal.specs.Rows.{most_block};
+ghost use Rattle.q15.specs.Fixed.{floored_product, cut, is_cut, cut_count};
 
 // A signed 16-bit number of 1/32768ths, for a value passed singly; lent slices stay i16.
 #[derive(Clone, Copy, PartialEq, Eq, PartialOrd, Ord, Debug)]
@@ -38,6 +40,22 @@ pub fn cut_q15(x: i64) -> Cut
             cut: true,
         },
     }
+}
+
+// A number for each place by its index, cut. Answers how many of them were cut, in 32 bits, as the products have, so that the compiler counts several at once.
+pub(crate) fn fill_cut<F: Fn(usize) -> i64>(places: &mut [i16], number: F) -> u32
+    requires few { length places.old ≤ most_block }
+    requires callable { (i : ℕ) → i < length places.old → F.pre number i }
+    ensures { (g : ℕ → ℤ) → ((i : ℕ) (z : ℤ) → i < length places.old → F.post number i z → z ≡ g i)
+        → (places.new ≡ listed (length places.old) (λ i. cut w16 (g i))) × (result ≡ cut_count w16 (listed (length places.old) g)) }
+{
+    let mut cuts = 0;
+    for (i, place) in places.iter_mut().enumerate() {
+        let made = cut_q15(number(i));
+        *place = made.value.0;
+        cuts += u32::from(made.cut);
+    }
+    cuts
 }
 
 // floor(s × c / 32768)

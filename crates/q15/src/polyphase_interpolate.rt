@@ -10,7 +10,7 @@ ghost use Rattle.q15.specs.PolyphaseInterpolate.{phase_sum, phase_output, interp
 
 use crate::block::{FirBlock, block_rows};
 use crate::fir_sum::phase_sum;
-use crate::fixed::{cut_q15, floored_product};
+use crate::fixed::{fill_cut, floored_product};
 use refusal::Refusal;
 
 // Rows 5, 6 and 7, and 8.
@@ -48,50 +48,39 @@ struct Phased<'a> {
     ghost inside: { (k * l ≤ length coeffs.now) × (k ≤ most_block) },
 }
 
-// The first outputs of the sample at whose window this is, one at each place. Answers how many of them were cut.
-fn phases(window: &[i16], by: Phased<'_>, places: &mut [i16]) -> u32
-    requires { (length places.old ≤ by.l) × (length window.now ≡ by.k) }
-    ensures span { places.new ≡ listed (length places.old) (phase_output by.entry.coeffs.now by.entry.l (length window.now) window.now 0) }
-    ensures cuts { result ≡ cut_count w16 (listed (length places.old) (phase_sum by.entry.coeffs.now by.entry.l (length window.now) window.now 0)) }
-{
-    let mut cuts = 0;
-    for (p, place) in places.iter_mut().enumerate() {
-        let sum = phase_sum(window, by.coeffs, p, by.l);
-        let scaled = by.l as i64 * sum;
-        let made = cut_q15(scaled);
-        *place = made.value.0;
-        cuts += u32::from(made.cut);
+impl Phased<'_> {
+    // The sum of phase p at a sample's window, times the factor.
+    fn sum(self, window: &[i16], p: usize) -> i64
+        requires { (p < self.l) × (length window.now ≡ self.k) }
+        ensures { result ≡ phase_sum self.entry.coeffs.now self.entry.l (length window.now) window.now 0 p }
+    {
+        let sum = phase_sum(window, self.coeffs, p, self.l);
+        self.l as i64 * sum
     }
-    cuts
+
+    // The same of a sample x where a phase has one tap: 32 bits hold it.
+    fn product(self, x: i16, p: usize) -> i64
+        requires { (p < self.l) × (p < length self.coeffs.now) }
+        ensures { result ≡ pos self.entry.l *ℤ floored_product x (at self.entry.coeffs.now p) }
+    {
+        let product = floored_product(x, self.coeffs[p]);
+        i64::from(self.l as i32 * product)
+    }
 }
 
-// The same of a sample x where a phase has one tap: with no sum, and 32 bits wide, the compiler makes several at once. By the
-// tap's number: in a zip with `iter_mut` a proof sees an iterator in place of the places.
-fn one_tap(x: i16, by: Phased<'_>, places: &mut [i16]) -> u32
-    requires { (length places.old ≤ length by.coeffs.now) × (length places.old ≤ by.l) }
-    ensures span { places.new ≡ listed (length places.old) (λ p. cut w16 (pos by.entry.l *ℤ floored_product x (at by.entry.coeffs.now p))) }
-    ensures cuts { result ≡ cut_count w16 (listed (length places.old) (λ p. pos by.entry.l *ℤ floored_product x (at by.entry.coeffs.now p))) }
-{
-    let mut cuts = 0;
-    for (p, place) in places.iter_mut().enumerate() {
-        let product = floored_product(x, by.coeffs[p]);
-        let scaled = by.l as i32 * product;
-        let made = cut_q15(i64::from(scaled));
-        *place = made.value.0;
-        cuts += u32::from(made.cut);
-    }
-    cuts
-}
-
-// `phases`, by the number of taps.
+// The first outputs of the sample at whose window this is, one at each place. Answers how many of them were cut. Where a phase has one tap: with no sum, and 32 bits
+// wide, the compiler makes several at once.
 fn outputs_of(window: &[i16], by: Phased<'_>, places: &mut [i16]) -> u32
     requires { (length places.old ≤ by.l) × (length window.now ≡ by.k) }
     ensures span { places.new ≡ listed (length places.old) (phase_output by.entry.coeffs.now by.entry.l (length window.now) window.now 0) }
     ensures cuts { result ≡ cut_count w16 (listed (length places.old) (phase_sum by.entry.coeffs.now by.entry.l (length window.now) window.now 0)) }
 {
     match window {
-        [x] => one_tap(*x, by, places),
-        _ => phases(window, by, places),
+        [x] => {
+            let x = *x;
+            fill_cut(places, |p| by.product(x, p))
+        }
+        _ => fill_cut(places, |p| by.sum(window, p)),
     }
 }
 
