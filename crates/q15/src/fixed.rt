@@ -42,7 +42,8 @@ pub fn cut_q15(x: i64) -> Cut
     }
 }
 
-// A number for each place by its index, cut. Answers how many of them were cut, in 32 bits, as the products have, so that the compiler counts several at once.
+// A number for each place by its index, cut. Answers how many of them were cut, in 32 bits, as the products have, so that the compiler counts several at once. That
+// the places are few is a clause here and in the callers: each lends a part of its span, of which a type with the bound would have to be made.
 pub(crate) fn fill_cut<F: Fn(usize) -> i64>(places: &mut [i16], number: F) -> u32
     requires few { length places.old ≤ most_block }
     requires callable { (i : ℕ) → i < length places.old → F.pre number i }

@@ -36,7 +36,8 @@ fn decimate_of(src: &[i16], coeffs: &[i16], d: usize, dst: &mut [i16]) -> u32
 }
 
 // The same. Few taps are a constant in each arm, so that the compiler unrolls their sum; its loop for eight and more takes eight at once. A const generic would
-// be no plainer: the last arm is the same body with a number that is no constant.
+// be no plainer: the last arm is the same body with a number that is no constant. Nor would a struct of samples and taps with their bounds: each arm would make one, of
+// a part of the taps.
 pub(crate) fn decimate(src: &[i16], coeffs: &[i16], d: usize, dst: &mut [i16]) -> u32
     requires { (length coeffs.now ≤ most_block) × (length src.now ≤ most_block) × (length dst.old ≤ most_block)
         × ((i : ℕ) → i < length dst.old → i * d + length coeffs.now ≤ length src.now) }
