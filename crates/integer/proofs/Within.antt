@@ -50,9 +50,6 @@ sound N r counter e =
     let b = factor_within r t.0 in
     record { stages = s.0; factor = t.0; least = b.0; most = b.1; below = ltb-true counter r t.1 }
 
-pub valid_stages : (N r counter : ℕ) → valid_at N r counter ≡ true → (1 ≤ N) × (N ≤ 8)
-valid_stages N r counter e = stages_within N (sound N r counter e).stages
-
 -- a valid interpolator has a stage at least, and so a stage fewer can be counted
 pub interpolator_stages : (N r : ℕ) → interpolator_valid N r ≡ true → (1 ≤ N) × (N ≤ 8)
 unfolding interpolator_valid

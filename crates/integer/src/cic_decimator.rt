@@ -10,7 +10,7 @@ ghost use Rattle.integer.specs.CicDecimator as D;
 
 use crate::exact_range::{Ends, range_of};
 use crate::gain::{bits_of, gain_of, scaled, scaling_bits};
-use crate::limits::{MOST_STAGES, factor_ok, settings_answer, stages_ok};
+use crate::limits::{MOST_STAGES, Settings, factor_ok, settings_answer, stages_ok};
 use crate::stages::{comb, integrate, run};
 use refusal::{Moved, Refusal};
 
@@ -97,7 +97,7 @@ fn whole_sums_of<const N: usize>(
     src: &[i32],
     dst: &mut [i32],
 )
-    requires { (D.valid_at N r 0 ≡ true) × (length src.now ≡ length dst.old * r) }
+    requires { (0 < r) × (length src.now ≡ length dst.old * r) }
     ensures sums { dst.new ≡ outs D.decimator (D.decimator_of N r integrators.old combs.old 0) src.now }
     ensures state { D.decimator_of N r integrators.new combs.new 0 ≡ state D.decimator (D.decimator_of N r integrators.old combs.old 0) src.now }
 {
@@ -121,7 +121,7 @@ fn whole_sums_of_one(
     src: &[i32],
     dst: &mut [i32],
 )
-    requires { (D.valid_at 1 r 0 ≡ true) × (length src.now ≡ length dst.old * r) }
+    requires { (0 < r) × (length src.now ≡ length dst.old * r) }
     ensures sums { dst.new ≡ outs D.decimator (D.decimator_of 1 r integrators.old combs.old 0) src.now }
     ensures state { D.decimator_of 1 r integrators.new combs.new 0 ≡ state D.decimator (D.decimator_of 1 r integrators.old combs.old 0) src.now }
 {
@@ -137,19 +137,18 @@ fn whole_sums_of_one(
     }
 }
 
-// No struct of the settings: the arms below turn the stages into a constant, and those above the factor, so each would take it apart again.
 fn whole_sums(
-    stages: usize,
-    r: usize,
+    settings: Settings,
     integrators: &mut [i32; MOST_STAGES],
     combs: &mut [i32; MOST_STAGES],
     src: &[i32],
     dst: &mut [i32],
 )
-    requires { (D.valid_at stages r 0 ≡ true) × (length src.now ≡ length dst.old * r) }
-    ensures sums { dst.new ≡ outs D.decimator (D.decimator_of stages r integrators.old combs.old 0) src.now }
-    ensures state { D.decimator_of stages r integrators.new combs.new 0 ≡ state D.decimator (D.decimator_of stages r integrators.old combs.old 0) src.now }
+    requires { length src.now ≡ length dst.old * settings.r }
+    ensures sums { dst.new ≡ outs D.decimator (D.decimator_of settings.stages settings.r integrators.old combs.old 0) src.now }
+    ensures state { D.decimator_of settings.stages settings.r integrators.new combs.new 0 ≡ state D.decimator (D.decimator_of settings.stages settings.r integrators.old combs.old 0) src.now }
 {
+    let Settings { stages, r, .. } = settings;
     if dst.is_empty() {
         return;
     }
@@ -165,31 +164,29 @@ fn whole_sums(
     }
 }
 
-// A sum for each place of dst. One that has begun stands apart: all others have r samples, so that the loop over them looks at that number once. Seven
-// parameters: a state's fields as they are lent, and the two spans.
+// A sum for each place of dst. One that has begun stands apart: all others have r samples, so that the loop over them looks at that number once.
 fn sums(
-    stages: usize,
-    r: usize,
+    settings: Settings,
     sample_counter: usize,
     integrators: &mut [i32; MOST_STAGES],
     combs: &mut [i32; MOST_STAGES],
     src: &[i32],
     dst: &mut [i32],
 )
-    requires { (D.valid_at stages r sample_counter ≡ true) × (length src.now ≡ length dst.old * r - sample_counter) }
-    ensures sums { dst.new ≡ outs D.decimator (D.decimator_of stages r integrators.old combs.old sample_counter) src.now }
-    ensures state { D.decimator_of stages r integrators.new combs.new (sample_counter + length src.now - length dst.old * r) ≡ state D.decimator (D.decimator_of stages r integrators.old combs.old sample_counter) src.now }
+    requires { (sample_counter < settings.r) × (length src.now ≡ length dst.old * settings.r - sample_counter) }
+    ensures sums { dst.new ≡ outs D.decimator (D.decimator_of settings.stages settings.r integrators.old combs.old sample_counter) src.now }
+    ensures state { D.decimator_of settings.stages settings.r integrators.new combs.new (sample_counter + length src.now - length dst.old * settings.r) ≡ state D.decimator (D.decimator_of settings.stages settings.r integrators.old combs.old sample_counter) src.now }
 {
     if sample_counter == 0 {
-        whole_sums(stages, r, integrators, combs, src, dst);
+        whole_sums(settings, integrators, combs, src, dst);
         return;
     }
     if dst.is_empty() {
         return;
     }
-    let first = r - sample_counter;
-    dst[0] = sum_of(stages, integrators, combs, &src[..first]);
-    whole_sums(stages, r, integrators, combs, &src[first..], &mut dst[1..]);
+    let first = settings.r - sample_counter;
+    dst[0] = sum_of(settings.stages, integrators, combs, &src[..first]);
+    whole_sums(settings, integrators, combs, &src[first..], &mut dst[1..]);
 }
 
 // A block, the fields lent.
@@ -210,9 +207,9 @@ pub fn block_at(
     state_answer(stages, r, counted)?;
     let written = dst.len().min((src.len() + counted) / r);
     let taken = (written * r).saturating_sub(counted);
+    let settings = Settings { stages, r };
     sums(
-        stages,
-        r,
+        settings,
         counted,
         integrators,
         combs,

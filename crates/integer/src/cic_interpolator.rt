@@ -1,5 +1,5 @@
 // 01, section 7: the cascaded integrator-comb interpolator.
-ghost use Rattle.std.specs.Prelude.{◌≡◌, ◌-◌, ◌*◌, ◌≤◌, true, cond, IfOk, ◌++◌, length, take, drop, nat_le};
+ghost use Rattle.std.specs.Prelude.{◌≡◌, ◌-◌, ◌*◌, ◌≤◌, ◌<◌, cond, IfOk, ◌++◌, length, take, drop, nat_le};
 ghost use Rattle.std.specs.Option.{option_map_or};
 ghost use Rattle.refusal.specs.Outcome.{number_in, none_moved, told, told_on, told_opened};
 ghost use Rattle.integer.specs.Opening.{opening, on_state};
@@ -8,7 +8,7 @@ ghost use Rattle.integer.specs.Stages.{integrated, combed};
 ghost use Rattle.integer.specs.CicInterpolator as I;
 
 use crate::gain::{bits_of, gain_of};
-use crate::limits::{MOST_STAGES, factor_ok, settings_answer, stages_ok};
+use crate::limits::{MOST_STAGES, Settings, factor_ok, settings_answer, stages_ok};
 use crate::stages::{comb, integrate, write_back};
 use refusal::{Moved, Refusal};
 
@@ -129,7 +129,7 @@ fn raise_of<const N: usize>(
     src: &[i32],
     dst: &mut [i32],
 )
-    requires { (I.valid_at N r ≡ true) × (length src.now * r ≤ length dst.old) }
+    requires { (0 < N) × (0 < r) × (length src.now * r ≤ length dst.old) }
     ensures state { I.interpolator_of N r combs.new integrators.new ≡ I.state (I.interpolator_of N r combs.old integrators.old) src.now }
     ensures span { dst.new ≡ I.outs (I.interpolator_of N r combs.old integrators.old) src.now ++ drop (length src.now * r) dst.old }
 {
@@ -152,7 +152,7 @@ fn raise_one(
     src: &[i32],
     dst: &mut [i32],
 )
-    requires { (I.valid_at 1 r ≡ true) × (length src.now * r ≤ length dst.old) }
+    requires { (0 < r) × (length src.now * r ≤ length dst.old) }
     ensures state { I.interpolator_of 1 r combs.new integrators.new ≡ I.state (I.interpolator_of 1 r combs.old integrators.old) src.now }
     ensures span { dst.new ≡ I.outs (I.interpolator_of 1 r combs.old integrators.old) src.now ++ drop (length src.now * r) dst.old }
 {
@@ -165,19 +165,18 @@ fn raise_one(
     }
 }
 
-// No struct of the settings: the arms below turn the stages into a constant, and those above the factor, so each would take it apart again.
 fn raise(
-    stages: usize,
-    r: usize,
+    settings: Settings,
     combs: &mut [i32; MOST_STAGES],
     integrators: &mut [i32; MOST_STAGES],
     src: &[i32],
     dst: &mut [i32],
 )
-    requires { (I.valid_at stages r ≡ true) × (length src.now * r ≤ length dst.old) }
-    ensures state { I.interpolator_of stages r combs.new integrators.new ≡ I.state (I.interpolator_of stages r combs.old integrators.old) src.now }
-    ensures span { dst.new ≡ I.outs (I.interpolator_of stages r combs.old integrators.old) src.now ++ drop (length src.now * r) dst.old }
+    requires { length src.now * settings.r ≤ length dst.old }
+    ensures state { I.interpolator_of settings.stages settings.r combs.new integrators.new ≡ I.state (I.interpolator_of settings.stages settings.r combs.old integrators.old) src.now }
+    ensures span { dst.new ≡ I.outs (I.interpolator_of settings.stages settings.r combs.old integrators.old) src.now ++ drop (length src.now * settings.r) dst.old }
 {
+    let Settings { stages, r, .. } = settings;
     match stages {
         1 => raise_one(r, combs, integrators, src, dst),
         2 => raise_of::<2>(r, combs, integrators, src, dst),
@@ -206,7 +205,8 @@ pub fn block_at(
     state_answer(stages, r)?;
     span_answer(dst.len(), r)?;
     let taken = src.len().min(dst.len() / r);
-    raise(stages, r, combs, integrators, &src[..taken], dst);
+    let settings = Settings { stages, r };
+    raise(settings, combs, integrators, &src[..taken], dst);
     Ok(Moved {
         taken,
         written: taken * r,

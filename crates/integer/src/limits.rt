@@ -1,5 +1,5 @@
 // 01, section 1: "Stages N 1 to 8, factor r 1 to 4,096".
-ghost use Rattle.std.specs.Prelude.{◌≡◌};
+ghost use Rattle.std.specs.Prelude.{◌≡◌, ◌≤◌};
 ghost use Rattle.refusal.specs.Outcome.{number_in};
 ghost use Rattle.integer.specs.Limits.{stages_ok, factor_ok};
 ghost use Rattle.integer.specs.Opening.{settings_number};
@@ -25,6 +25,14 @@ pub fn factor_ok(r: usize) -> bool
     ensures { result ≡ factor_ok r }
 {
     (1..=MOST_FACTOR).contains(&r)
+}
+
+// Stages and a factor inside the limits, as a state that is not refused has them. What has one of them as a constant is lent the other alone.
+#[derive(Clone, Copy)]
+pub(crate) struct Settings {
+    pub stages: usize,
+    pub r: usize,
+    ghost inside: { ((1 ≤ stages) × (stages ≤ 8)) × ((1 ≤ r) × (r ≤ 4096)) },
 }
 
 // Rows 1 and 2, of an opening.

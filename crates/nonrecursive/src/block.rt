@@ -15,7 +15,13 @@ use refusal::{Moved, NONE_MOVED, Refusal};
 // The most values of a chunk.
 const TAPE: usize = 256;
 
-// The stages and the factor stay apart below, as a state's fields are lent: a halving takes the one, the count of frames the other.
+// A valid state's stages and factor. They go by themselves where one is enough, and where the state is not known to be valid.
+#[derive(Clone, Copy)]
+struct Settings {
+    stages: usize,
+    r: usize,
+    ghost inside: { D.valid_at stages r 0 ≡ true },
+}
 
 // Pairs of values at the front of the tape each hand one on, in their order. How many stands beside the tape: lent exactly its values instead, a block of three stages at r = 16 takes a fifth more
 // time. By the pair's number: what a pair hands on is written before later pairs are read.
@@ -144,47 +150,39 @@ fn lay(tape: &mut [i32], samples: &[i32])
 }
 
 // A frame of r samples for each place of dst, where the place is 0: they go through the halvings on a tape.
-fn chunk(
-    stages: usize,
-    r: usize,
-    neighbours: &mut [i32; MOST_NEIGHBOURS],
-    src: &[i32],
-    dst: &mut [i32],
-)
-    requires { (D.valid_at stages r 0 ≡ true) × (length src.now ≡ length dst.old * r) × (length src.now ≤ 256) }
-    ensures sums { dst.new ≡ outs D.nonrecursive (D.nonrecursive_of stages r neighbours.old 0) src.now }
-    ensures state { D.nonrecursive_of stages r neighbours.new 0 ≡ state D.nonrecursive (D.nonrecursive_of stages r neighbours.old 0) src.now }
+fn chunk(settings: Settings, neighbours: &mut [i32; MOST_NEIGHBOURS], src: &[i32], dst: &mut [i32])
+    requires { (length src.now ≡ length dst.old * settings.r) × (length src.now ≤ 256) }
+    ensures sums { dst.new ≡ outs D.nonrecursive (D.nonrecursive_of settings.stages settings.r neighbours.old 0) src.now }
+    ensures state { D.nonrecursive_of settings.stages settings.r neighbours.new 0 ≡ state D.nonrecursive (D.nonrecursive_of settings.stages settings.r neighbours.old 0) src.now }
 {
     let count = dst.len();
     let mut tape = blank();
     lay(&mut tape, src);
-    thin_tape(stages, r, neighbours, &mut tape, count);
+    thin_tape(settings.stages, settings.r, neighbours, &mut tape, count);
     dst.copy_from_slice(&tape[..count]);
 }
 
 // Whole frames, where the place is 0: as many as the samples and the span have room for. No range: a turn has as many as the tape holds of those that are left. By
 // positions: they are the counts that it answers, and would stand beside the parts that src and dst are split into.
 fn frames(
-    stages: usize,
-    r: usize,
+    settings: Settings,
     neighbours: &mut [i32; MOST_NEIGHBOURS],
     src: &[i32],
     dst: &mut [i32],
 ) -> Moved
-    requires { D.valid_at stages r 0 ≡ true }
-    ensures counts { (result.taken ≤ length src.now) × (result.written ≤ length dst.old) × (result.taken ≡ result.written * r) }
-    ensures state { D.nonrecursive_of stages r neighbours.new 0 ≡ state D.nonrecursive (D.nonrecursive_of stages r neighbours.old 0) (take result.taken src.now) }
-    ensures span { let sums = outs D.nonrecursive (D.nonrecursive_of stages r neighbours.old 0) (take result.taken src.now) in
+    ensures counts { (result.taken ≤ length src.now) × (result.written ≤ length dst.old) × (result.taken ≡ result.written * settings.r) }
+    ensures state { D.nonrecursive_of settings.stages settings.r neighbours.new 0 ≡ state D.nonrecursive (D.nonrecursive_of settings.stages settings.r neighbours.old 0) (take result.taken src.now) }
+    ensures span { let sums = outs D.nonrecursive (D.nonrecursive_of settings.stages settings.r neighbours.old 0) (take result.taken src.now) in
         (length sums ≡ result.written) × (dst.new ≡ sums ++ drop result.written dst.old) }
 {
+    let r = settings.r;
     let mut taken = 0;
     let mut written = 0;
     let mut count = frames_in(r, src.len(), dst.len());
     while 0 < count {
         let samples = count * r;
         chunk(
-            stages,
-            r,
+            settings,
             neighbours,
             &src[taken..taken + samples],
             &mut dst[written..written + count],
@@ -198,23 +196,21 @@ fn frames(
 
 // The same, where a frame may have begun: then nothing is done.
 fn whole_frames(
-    stages: usize,
-    r: usize,
+    settings: Settings,
     place: usize,
     neighbours: &mut [i32; MOST_NEIGHBOURS],
     src: &[i32],
     dst: &mut [i32],
 ) -> Moved
-    requires { D.valid_at stages r place ≡ true }
-    ensures counts { (result.taken ≤ length src.now) × (result.written ≤ length dst.old) × (result.taken ≤ result.written * r - place) }
-    ensures state { D.nonrecursive_of stages r neighbours.new place ≡ state D.nonrecursive (D.nonrecursive_of stages r neighbours.old place) (take result.taken src.now) }
-    ensures span { let sums = outs D.nonrecursive (D.nonrecursive_of stages r neighbours.old place) (take result.taken src.now) in
+    ensures counts { (result.taken ≤ length src.now) × (result.written ≤ length dst.old) × (result.taken ≤ result.written * settings.r - place) }
+    ensures state { D.nonrecursive_of settings.stages settings.r neighbours.new place ≡ state D.nonrecursive (D.nonrecursive_of settings.stages settings.r neighbours.old place) (take result.taken src.now) }
+    ensures span { let sums = outs D.nonrecursive (D.nonrecursive_of settings.stages settings.r neighbours.old place) (take result.taken src.now) in
         (length sums ≡ result.written) × (dst.new ≡ sums ++ drop result.written dst.old) }
 {
     if place != 0 {
         return NONE_MOVED;
     }
-    frames(stages, r, neighbours, src, dst)
+    frames(settings, neighbours, src, dst)
 }
 
 // Samples up to the end of a frame that has begun.
@@ -244,9 +240,9 @@ pub fn block_at(
     state_answer(stages, r, *place)?;
     let head = to_a_frame(r, *place, src.len());
     let begun = one_by_one(stages, r, place, neighbours, &src[..head], dst);
+    let settings = Settings { stages, r };
     let framed = whole_frames(
-        stages,
-        r,
+        settings,
         *place,
         neighbours,
         &src[begun.taken..],

@@ -37,7 +37,7 @@ pub byte_one : (b : Bool) → bool_byte b ≡ cond b 1 0
 byte_one true = refl
 byte_one false = refl
 
-byte_most : (b : Bool) → bool_byte b ≤ 1
+pub byte_most : (b : Bool) → bool_byte b ≤ 1
 byte_most true = omega arith
 byte_most false = omega arith
 

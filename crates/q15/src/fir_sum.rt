@@ -7,7 +7,8 @@ ghost use Rattle.refusal.specs.Rows.{most_block};
 use crate::fixed::floored_product;
 
 // The sum over k of floor(s[k] × c[k] / 32768), for the taps c. It is kept negated: 65,536 products of -32768 by -32768 make 2^31, which an i32 holds only
-// below zero. The samples go by their index: over a zip a proof does not know that the numbers fit 16 bits.
+// below zero. The samples go by their index: over a zip a proof does not know that the numbers fit 16 bits. The bound of the taps is a clause: a stream at
+// each output and a block in each of its arms lend a part of theirs, of which a type with the bound would have to be made.
 pub(crate) fn fir_sum(s: &[i16], c: &[i16]) -> i64
     requires { (length c.now ≤ length s.now) × (length c.now ≤ most_block) }
     ensures { result ≡ fir_sum (λ k. k) c.now (length c.now) s.now 0 }

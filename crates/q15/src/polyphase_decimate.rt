@@ -10,7 +10,7 @@ ghost use Rattle.q15.specs.Rounding.{Rounded};
 
 use crate::block::{FirBlock, block_rows};
 use crate::fir_sum::fir_sum;
-use crate::fixed::cut_q15;
+use crate::fixed::fill_cut;
 use refusal::Refusal;
 
 // How many outputs n samples, t taps and factor d make, in a span of m places.
@@ -25,24 +25,19 @@ fn decimated_count(n: usize, t: usize, d: usize, m: usize) -> usize
     m.min(k)
 }
 
-// An output at each place. Answers how many of them were cut, in 32 bits, as the products have, so that the compiler counts several at once.
+// An output at each place. Answers how many of them were cut.
 fn decimate_of(src: &[i16], coeffs: &[i16], d: usize, dst: &mut [i16]) -> u32
     requires { (length coeffs.now ≤ most_block) × (length src.now ≤ most_block) × (length dst.old ≤ most_block)
         × ((i : ℕ) → i < length dst.old → i * d + length coeffs.now ≤ length src.now) }
     ensures span { dst.new ≡ listed (length dst.old) (λ i. filtered coeffs.now (length coeffs.now) src.now (i * d)) }
     ensures cuts { result ≡ cut_count w16 (listed (length dst.old) (λ i. window_sum coeffs.now (length coeffs.now) src.now (i * d))) }
 {
-    let mut cuts = 0;
-    for (i, place) in dst.iter_mut().enumerate() {
-        let made = cut_q15(fir_sum(&src[i * d..], coeffs));
-        *place = made.value.0;
-        cuts += u32::from(made.cut);
-    }
-    cuts
+    fill_cut(dst, |i| fir_sum(&src[i * d..], coeffs))
 }
 
 // The same. Few taps are a constant in each arm, so that the compiler unrolls their sum; its loop for eight and more takes eight at once. A const generic would
-// be no plainer: the last arm is the same body with a number that is no constant.
+// be no plainer: the last arm is the same body with a number that is no constant. Nor would a struct of samples and taps with their bounds: each arm would make one, of
+// a part of the taps.
 pub(crate) fn decimate(src: &[i16], coeffs: &[i16], d: usize, dst: &mut [i16]) -> u32
     requires { (length coeffs.now ≤ most_block) × (length src.now ≤ most_block) × (length dst.old ≤ most_block)
         × ((i : ℕ) → i < length dst.old → i * d + length coeffs.now ≤ length src.now) }

@@ -10,7 +10,7 @@ ghost use Rattle.q15.specs.PolyphaseInterpolate.{phase_sum, phase_output, interp
 
 use crate::block::{FirBlock, block_rows};
 use crate::fir_sum::phase_sum;
-use crate::fixed::{cut_q15, floored_product};
+use crate::fixed::{fill_cut, floored_product};
 use refusal::Refusal;
 
 // Rows 5, 6 and 7, and 8.
@@ -38,75 +38,65 @@ fn interpolated_count(n: usize, k: usize, l: usize, m: usize) -> usize
     m.min(c)
 }
 
-// A filter's taps, tap t of phase p at t × l + p, where an output is made for each of l phases.
+// A filter's taps, tap t of phase p at t × l + p, where an output is made for each of l phases, of k taps each.
 #[derive(Clone, Copy)]
 struct Phased<'a> {
     coeffs: &'a [i16],
     l: usize,
+    k: usize,
     ghost few: { (1 ≤ l) × (l ≤ most_factor) },
+    ghost inside: { (k * l ≤ length coeffs.now) × (k ≤ most_block) },
 }
 
-// The first outputs of the sample at whose window this is, one at each place. Answers how many of them were cut.
-fn phases(window: &[i16], by: Phased<'_>, places: &mut [i16]) -> u32
-    requires { (length places.old ≤ by.l) × (length window.now * by.l ≤ length by.coeffs.now) × (length window.now ≤ most_block) }
-    ensures span { places.new ≡ listed (length places.old) (phase_output by.entry.coeffs.now by.entry.l (length window.now) window.now 0) }
-    ensures cuts { result ≡ cut_count w16 (listed (length places.old) (phase_sum by.entry.coeffs.now by.entry.l (length window.now) window.now 0)) }
-{
-    let mut cuts = 0;
-    for (p, place) in places.iter_mut().enumerate() {
-        let sum = phase_sum(window, by.coeffs, p, by.l);
-        let scaled = by.l as i64 * sum;
-        let made = cut_q15(scaled);
-        *place = made.value.0;
-        cuts += u32::from(made.cut);
+impl Phased<'_> {
+    // The sum of phase p at a sample's window, times the factor.
+    fn sum(self, window: &[i16], p: usize) -> i64
+        requires { (p < self.l) × (length window.now ≡ self.k) }
+        ensures { result ≡ phase_sum self.entry.coeffs.now self.entry.l (length window.now) window.now 0 p }
+    {
+        let sum = phase_sum(window, self.coeffs, p, self.l);
+        self.l as i64 * sum
     }
-    cuts
-}
 
-// The same of a sample x where a phase has one tap: with no sum, and 32 bits wide, the compiler makes several at once. By the
-// tap's number: in a zip with `iter_mut` a proof sees an iterator in place of the places.
-fn one_tap(x: i16, by: Phased<'_>, places: &mut [i16]) -> u32
-    requires { (length places.old ≤ length by.coeffs.now) × (length places.old ≤ by.l) }
-    ensures span { places.new ≡ listed (length places.old) (λ p. cut w16 (pos by.entry.l *ℤ floored_product x (at by.entry.coeffs.now p))) }
-    ensures cuts { result ≡ cut_count w16 (listed (length places.old) (λ p. pos by.entry.l *ℤ floored_product x (at by.entry.coeffs.now p))) }
-{
-    let mut cuts = 0;
-    for (p, place) in places.iter_mut().enumerate() {
-        let product = floored_product(x, by.coeffs[p]);
-        let scaled = by.l as i32 * product;
-        let made = cut_q15(i64::from(scaled));
-        *place = made.value.0;
-        cuts += u32::from(made.cut);
+    // The same of a sample x where a phase has one tap: 32 bits hold it.
+    fn product(self, x: i16, p: usize) -> i64
+        requires { (p < self.l) × (p < length self.coeffs.now) }
+        ensures { result ≡ pos self.entry.l *ℤ floored_product x (at self.entry.coeffs.now p) }
+    {
+        let product = floored_product(x, self.coeffs[p]);
+        i64::from(self.l as i32 * product)
     }
-    cuts
 }
 
-// `phases`, by the number of taps.
+// The first outputs of the sample at whose window this is, one at each place. Answers how many of them were cut. Where a phase has one tap: with no sum, and 32 bits
+// wide, the compiler makes several at once.
 fn outputs_of(window: &[i16], by: Phased<'_>, places: &mut [i16]) -> u32
-    requires { (length places.old ≤ by.l) × (length window.now * by.l ≤ length by.coeffs.now) × (length window.now ≤ most_block) }
+    requires { (length places.old ≤ by.l) × (length window.now ≡ by.k) }
     ensures span { places.new ≡ listed (length places.old) (phase_output by.entry.coeffs.now by.entry.l (length window.now) window.now 0) }
     ensures cuts { result ≡ cut_count w16 (listed (length places.old) (phase_sum by.entry.coeffs.now by.entry.l (length window.now) window.now 0)) }
 {
     match window {
-        [x] => one_tap(*x, by, places),
-        _ => phases(window, by, places),
+        [x] => {
+            let x = *x;
+            fill_cut(places, |p| by.product(x, p))
+        }
+        _ => fill_cut(places, |p| by.sum(window, p)),
     }
 }
 
-// An output at each place, by k taps to a phase. Answers how many of them were cut. By the sample's number: of what stands behind chunks_mut a proof knows the
+// An output at each place. Answers how many of them were cut. By the sample's number: of what stands behind chunks_mut a proof knows the
 // lengths alone.
-fn interpolate(src: &[i16], by: Phased<'_>, k: usize, dst: &mut [i16]) -> u32
-    requires { (k * by.l ≤ length by.coeffs.now) × (length src.now ≤ most_block) × (length dst.old ≤ most_block)
-        × ((i p : ℕ) → i * by.l + p < length dst.old → i + k ≤ length src.now) }
-    ensures span { dst.new ≡ listed (length dst.old) (λ j. phase_output by.entry.coeffs.now by.entry.l k src.now (j / by.entry.l) (j % by.entry.l)) }
-    ensures cuts { result ≡ cut_count w16 (listed (length dst.old) (λ j. phase_sum by.entry.coeffs.now by.entry.l k src.now (j / by.entry.l) (j % by.entry.l))) }
+fn interpolate(src: &[i16], by: Phased<'_>, dst: &mut [i16]) -> u32
+    requires { (length dst.old ≤ most_block) × ((i p : ℕ) → i * by.l + p < length dst.old → i + by.k ≤ length src.now) }
+    ensures span { dst.new ≡ listed (length dst.old) (λ j. phase_output by.entry.coeffs.now by.entry.l by.entry.k src.now (j / by.entry.l) (j % by.entry.l)) }
+    ensures cuts { result ≡ cut_count w16 (listed (length dst.old) (λ j. phase_sum by.entry.coeffs.now by.entry.l by.entry.k src.now (j / by.entry.l) (j % by.entry.l))) }
 {
     let count = dst.len();
     let mut from = 0;
     let mut cuts = 0;
     for i in 0..count.div_ceil(by.l) {
         let past = count.min(from + by.l);
-        let more = outputs_of(&src[i..i + k], by, &mut dst[from..past]);
+        let more = outputs_of(&src[i..i + by.k], by, &mut dst[from..past]);
         cuts += more;
         from = past;
     }
@@ -134,7 +124,8 @@ pub fn polyphase_interpolate_q15(
     let by = Phased {
         coeffs,
         l: interpolation_factor,
+        k,
     };
-    let cuts = interpolate(src, by, k, &mut dst[..written]) as usize;
+    let cuts = interpolate(src, by, &mut dst[..written]) as usize;
     Ok(FirBlock { written, cuts })
 }

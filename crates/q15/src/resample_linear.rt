@@ -45,36 +45,45 @@ fn between_samples(a: i16, b: i16, frac: usize) -> Q15
     Q15((x + part) as i16)
 }
 
-// The index of the sample after i, or i at the last.
-fn next_index(n: usize, i: usize) -> usize
-    requires { (i < n) × (n ≤ most_block) }
-    ensures { (result ≡ next_index n i) × (result < n) }
-{
-    (i + 1).min(n - 1)
+// The samples of a block, of which there is one at least.
+#[derive(Clone, Copy)]
+struct Samples<'a> {
+    all: &'a [i16],
+    ghost some: { (1 ≤ length all.now) × (length all.now ≤ most_block) },
 }
 
-// The value at a position in 65536ths of a sample.
-#[tactic(auto, unfolding(crate::specs::ResampleLinear::linear_at))]
-fn linear_at(src: &[i16], position: usize) -> Q15
-    requires { (0 < length src.now) × (length src.now ≤ most_block) }
-    ensures { result.0 ≡ linear_at src.now position }
-{
-    let n = src.len();
-    let i = position / 65536;
-    if n <= i {
-        return Q15(src[n - 1]);
+impl Samples<'_> {
+    // The index of the sample after i, or i at the last.
+    fn next_index(self, i: usize) -> usize
+        requires { i < length self.all.now }
+        ensures { (result ≡ next_index (length self.entry.all.now) i) × (result < length self.entry.all.now) }
+    {
+        let n = self.all.len();
+        (i + 1).min(n - 1)
     }
-    let next = next_index(n, i);
-    between_samples(src[i], src[next], position % 65536)
-}
 
-// The whole span.
-fn resample(src: &[i16], ratio: usize, dst: &mut [i16])
-    requires { (0 < length src.now) × (length src.now ≤ most_block) × (ratio < 2 ^ 31) × (length dst.old ≤ most_block) }
-    ensures { dst.new ≡ listed (length dst.old) (λ i. linear_at src.now (i * ratio)) }
-{
-    for (i, place) in dst.iter_mut().enumerate() {
-        *place = linear_at(src, i * ratio).0;
+    // The value at a position in 65536ths of a sample.
+    #[tactic(auto, unfolding(crate::specs::ResampleLinear::linear_at))]
+    fn linear_at(self, position: usize) -> Q15
+        ensures { result.0 ≡ linear_at self.entry.all.now position }
+    {
+        let src = self.all;
+        let i = position / 65536;
+        if src.len() <= i {
+            return Q15(src[src.len() - 1]);
+        }
+        let next = self.next_index(i);
+        between_samples(src[i], src[next], position % 65536)
+    }
+
+    // The whole span.
+    fn resample(self, ratio: usize, dst: &mut [i16])
+        requires { (ratio < 2 ^ 31) × (length dst.old ≤ most_block) }
+        ensures { dst.new ≡ listed (length dst.old) (λ i. linear_at self.entry.all.now (i * ratio)) }
+    {
+        for (i, place) in dst.iter_mut().enumerate() {
+            *place = self.linear_at(i * ratio).0;
+        }
     }
 }
 
@@ -84,6 +93,7 @@ pub fn resample_linear_q15(src: &[i16], dst: &mut [i16], ratio_q16: i32) -> Resu
     ensures span { dst.new ≡ linear_span src.now ratio_q16 dst.old }
 {
     linear_rows(src.len(), dst.len(), ratio_q16)?;
-    resample(src, ratio_q16 as usize, dst);
+    let samples = Samples { all: src };
+    samples.resample(ratio_q16 as usize, dst);
     Ok(dst.len())
 }

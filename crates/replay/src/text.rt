@@ -15,9 +15,9 @@ const WIDTH: usize = 9;
 // The most words of a record.
 const MOST_WORDS: u32 = 200000;
 
-const BLANK: u8 = 32;
+const BLANK: u8 = b' ';
 
-const LINE_END: u8 = 10;
+const LINE_END: u8 = b'\n';
 
 // Why no record was read.
 #[derive(Debug, Drop)]
@@ -45,8 +45,8 @@ fn digit(b: u8) -> Option<u32>
     ensures value { (d : ℕ) → d < 16 → b ≡ digit_glyph false d → result ≡ Some d }
 {
     match b {
-        48..=57 => Some(u32::from(b - 48)),
-        97..=102 => Some(u32::from(b - 87)),
+        b'0'..=b'9' => Some(u32::from(b - b'0')),
+        b'a'..=b'f' => Some(u32::from(b - b'a') + 10),
         _ => None,
     }
 }

@@ -41,6 +41,7 @@ impl<const N: usize> State for Parts<N> {
     }
 }
 
+// What follows stands twice, as in cascade.rt: one type for both would want a trait that names each method here once more, for either.
 #[derive(Drop)]
 pub(crate) struct Dec(HbfDec);
 

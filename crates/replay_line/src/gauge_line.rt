@@ -7,7 +7,7 @@ use records::span::Span;
 use refusal::Refusal;
 use std::alloc::{AllocError, Global};
 
-// Which kind thins: 0 the integrators, any other number the neighbours.
+// Which kind thins: 0 the integrators, any other number the neighbours. No `From`: the type is nonrecursive's.
 fn thinning_of(number: usize) -> Thinning {
     match number {
         0 => Thinning::Integrators,

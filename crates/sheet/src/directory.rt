@@ -103,7 +103,7 @@ pub(crate) fn place_at(bytes: &[u8], k: usize) -> Place
     }
 }
 
-// Whether an entry lies in the data.
+// Whether an entry lies in the data. That its numbers have 32 bits is a clause here and no ghost field of `Place`: callers make one, of zeros, where a call is refused.
 fn in_data(entry: Place, from: usize, past: usize) -> bool
     requires { (entry.offset < 4294967296) × (entry.size < 4294967296) }
     ensures { result ≡ (leb from entry.offset && leb (entry.offset + entry.size) past) }

@@ -1,7 +1,7 @@
 -- It refuses where the state is not valid. Else it makes the sums that the samples complete and the span has places for; where a place is left, the samples after
 -- them complete no sum.
 use Rattle.std.proofs.Common.{◌≡◌, List, ℤ, ◌++◌, take, drop, refl, ◌∙◌, take_all, length-append, length-drop, length-take-le, ◌+◌, ◌-◌, ◌*◌, ◌/◌, ◌<◌, ◌≤◌, min, ℕ, length, ap, le_trans, mul-le-mul_right, mod-lt, div-add-mod', div-mul-le_self, add-mul, one-mul, arith}
-use Rattle.integer.proofs.Within.{accepted, sound}
+use Rattle.integer.proofs.Within.{accepted, sound, stages_within}
 use Rattle.integer.proofs.Blocking.{full, all_taken}
 use Rattle.integer.proofs.cic_decimator.block_at.Goals as goal
 
@@ -19,6 +19,21 @@ no_more count places r total e some h =
     let next : count + 1 ≤ places = omega arith in
     let less : total < count * r + r = omega (arith, ap (λ n. n * r) q, div-add-mod' total r, mod-lt total p) in
     (less, omega (arith, less, mul-le-mul_right r next, add-mul count 1 r, one-mul r))
+
+pub invariant_of-settings : goal.invariant_of-settings
+invariant_of-settings c =
+    let n = sound _ _ _ (accepted _ c.in_ok-state_answer.ensures) in
+    record { inside = (stages_within _ n.stages, (n.least, n.most)) }
+
+pub sums-requires : goal.sums-requires
+sums-requires c =
+    let a = c.args in
+    let t = c.saturating_sub-taken.result in
+    let w = c.min-written.result in
+    let n = sound _ _ _ (accepted _ c.in_ok-state_answer.ensures) in
+    let lent : length (take t a.src.now) ≡ t = length-take-le t a.src.now (omega (arith, enough _ _ _ _ c.min-written.ensures, c.saturating_sub-taken.ensures)) in
+    let places : length (take w a.dst.now) ≡ w = length-take-le w a.dst.now (omega (arith, c.min-written.ensures)) in
+    (n.below, rw (lent, places) c.saturating_sub-taken.ensures)
 
 pub overflow_add-src : goal.overflow_add-src
 overflow_add-src c = let n = sound _ _ _ (accepted _ c.in_ok-state_answer.ensures) in omega (arith, n.most, n.below, c.well_formed)

@@ -1,6 +1,5 @@
 -- A turn is a sum more.
 use Rattle.std.proofs.Common.{◌≡◌, ℕ, ◌+◌, ◌*◌, ◌<◌, ◌≤◌, arith, w32, to_z, of_z, rules, add-mul, one-mul, mul-le-mul_right, length-drop, drop-drop}
-use Rattle.integer.proofs.Within.{sound}
 use Rattle.integer.proofs.Blocking.{one_more}
 use Rattle.integer.proofs.cic_decimator.whole_sums_of.Goals as goal
 
@@ -22,14 +21,14 @@ split_at-requires g c =
     rw c.loop-place.invariant.rest (omega (arith, length-drop (i * a.r) a.src.now))
 
 pub sum_of-requires : goal.sum_of-requires
-sum_of-requires g c = rw c.split_at.ensures.front_len ((sound _ _ _ c.requires.0).least)
+sum_of-requires g c = rw c.split_at.ensures.front_len (c.requires.0)
 
 pub loop-place-preserved : goal.loop-place-preserved
 loop-place-preserved g c =
     let a = c.args in
     let l = c.loop-place in
     let i = l.place-index in
-    let n = (sound _ _ _ c.requires.0).least in
+    let n = c.requires.0 in
     let h = there i _ a.r _ c.loop-place-test.true c.requires.1 in
     let sum : to_z w32 (of_z w32 c.sum_of.result) ≡ c.sum_of.result = search rules in
     let made = rw (c.split_at.ensures.front, l.invariant.rest) at c.sum_of.ensures in

@@ -3,8 +3,8 @@ use Rattle.std.proofs.Common.{◌≡◌, ℕ, ◌+◌, ◌-◌, ◌≤◌, List,
 use borrow.Rule.Slice.PartMut.{put_mid}
 use Rattle.integer.proofs.Within.{accepted}
 use Rattle.nonrecursive.specs.NonrecursiveDecimator.{nonrecursive_of}
-use Rattle.nonrecursive.proofs.NonrecursiveStreaming.{valid_parts}
-use Rattle.nonrecursive.proofs.InParts.{front_valid, in_parts}
+use Rattle.nonrecursive.proofs.NonrecursiveStreaming.{valid_parts, valid_from}
+use Rattle.nonrecursive.proofs.InParts.{in_parts}
 use Rattle.nonrecursive.proofs.block.block_at.Goals as goal
 
 -- a slice to the end, and what a call on it leaves
@@ -19,10 +19,10 @@ put_end a k l new h =
 pub to_a_frame-head-requires : goal.to_a_frame-head-requires
 to_a_frame-head-requires c = (valid_parts _ _ _ (accepted _ c.in_ok-state_answer.ensures)).1
 
-pub whole_frames-framed-requires : goal.whole_frames-framed-requires
-whole_frames-framed-requires c =
-    let a = c.args in
-    front_valid _ _ _ _ (accepted _ c.in_ok-state_answer.ensures) a.src.now a.dst.now c.to_a_frame-head.result _ c.one_by_one-begun.ensures.feed.2
+pub invariant_of-settings : goal.invariant_of-settings
+invariant_of-settings c =
+    let ok = valid_parts _ _ _ (accepted _ c.in_ok-state_answer.ensures) in
+    record { inside = valid_from _ _ 0 ok.0 (omega (arith, ok.1)) }
 
 pub returns : goal.returns
 returns c =

@@ -10,19 +10,19 @@ sums_fit count r samples tape h e l = let p : 1 ≤ r = omega arith in omega (ar
 pub thin_tape-requires : goal.thin_tape-requires
 thin_tape-requires c =
     let a = c.args in (
-      (numbers a.stages a.r c.requires.0).power,
-      omega (arith, c.lay.auto.tape, c.blank-tape.ensures, c.requires.1, c.requires.2),
-      omega (arith, enough a.stages a.r c.requires.0, c.told-neighbours),
+      (numbers a.settings.stages a.settings.r a.settings.inside).power,
+      omega (arith, c.lay.auto.tape, c.blank-tape.ensures, c.requires.0, c.requires.1),
+      omega (arith, enough a.settings.stages a.settings.r a.settings.inside, c.told-neighbours),
     )
 
 pub slice_bounds-tape-end : goal.slice_bounds-tape-end
 slice_bounds-tape-end c =
-    sums_fit _ _ _ c.thin_tape.new.tape (positive _ _ c.requires.0) c.requires.1 (omega (arith, c.thin_tape.ensures.2, c.lay.auto.tape, c.blank-tape.ensures, c.requires.2))
+    sums_fit _ _ _ c.thin_tape.new.tape (positive _ _ c.args.settings.inside) c.requires.0 (omega (arith, c.thin_tape.ensures.2, c.lay.auto.tape, c.blank-tape.ensures, c.requires.1))
 
 pub slice_bounds-copy_from_slice-end : goal.slice_bounds-copy_from_slice-end
 slice_bounds-copy_from_slice-end c =
     sym (length-take-le _ c.thin_tape.new.tape
-    (sums_fit _ _ _ c.thin_tape.new.tape (positive _ _ c.requires.0) c.requires.1 (omega (arith, c.thin_tape.ensures.2, c.lay.auto.tape, c.blank-tape.ensures, c.requires.2))))
+    (sums_fit _ _ _ c.thin_tape.new.tape (positive _ _ c.args.settings.inside) c.requires.0 (omega (arith, c.thin_tape.ensures.2, c.lay.auto.tape, c.blank-tape.ensures, c.requires.1))))
 
 pub copy_from_slice-requires : goal.copy_from_slice-requires
 copy_from_slice-requires c = slice_bounds-copy_from_slice-end c
@@ -31,10 +31,10 @@ pub returns : goal.returns
 returns c =
     let a = c.args in
     let s = a.neighbours.now in
-    let ok = c.requires.0 in
-    let laid = rw c.requires.1 at c.lay.ensures in
+    let ok = a.settings.inside in
+    let laid = rw c.requires.0 at c.lay.ensures in
     let thinned = rw laid at c.thin_tape.ensures in
     record {
-      sums = rw (c.copy_from_slice.ensures.after, thinned.1) (sym (chunk_outs a.stages a.r ok s a.src.now (length a.dst.now) c.told-neighbours c.requires.1));
-      state = rw thinned.0 (chunk_state a.stages a.r ok s a.src.now (length a.dst.now) c.told-neighbours c.requires.1);
+      sums = rw (c.copy_from_slice.ensures.after, thinned.1) (sym (chunk_outs a.settings.stages a.settings.r ok s a.src.now (length a.dst.now) c.told-neighbours c.requires.0));
+      state = rw thinned.0 (chunk_state a.settings.stages a.settings.r ok s a.src.now (length a.dst.now) c.told-neighbours c.requires.0);
     }

@@ -7,12 +7,12 @@ use Rattle.nonrecursive.proofs.block.frames.Given as goal
 abbrev pub invariant-loop-count : goal.invariant-loop-count
 invariant-loop-count l =
     record {
-      samples : l.taken + l.count * l.r ≤ length l.src;
+      samples : l.taken + l.count * l.settings.r ≤ length l.src;
       places : l.written + l.count ≤ length l.dst;
-      few : l.count * l.r ≤ 256;
-      paid : l.taken ≡ l.written * l.r;
-      made : Made nonrecursive (nonrecursive_of l.stages l.r l.initial.neighbours 0) l.src l.initial.dst l.dst
-          (nonrecursive_of l.stages l.r l.neighbours 0) l.taken l.written;
+      few : l.count * l.settings.r ≤ 256;
+      paid : l.taken ≡ l.written * l.settings.r;
+      made : Made nonrecursive (nonrecursive_of l.settings.stages l.settings.r l.initial.neighbours 0) l.src l.initial.dst l.dst
+          (nonrecursive_of l.settings.stages l.settings.r l.neighbours 0) l.taken l.written;
     }
 
 abbrev pub decreases-loop-count : goal.decreases-loop-count

@@ -7,7 +7,7 @@ use Rattle.q15.proofs.polyphase_interpolate.interpolate.Goals as goal
 pub slice_bounds-outputs_of-end : goal.slice_bounds-outputs_of-end
 slice_bounds-outputs_of-end c =
     let b = begun c.loop-i.i (length c.args.dst.now) c.args.by.l c.args.by.few.0 (omega arith) in
-    c.requires.3 c.loop-i.i 0 (omega (arith, b))
+    c.requires.1 c.loop-i.i 0 (omega (arith, b))
 
 pub overflow_add-cuts : goal.overflow_add-cuts
 unfolding phase_output
@@ -15,9 +15,9 @@ overflow_add-cuts c =
     let a = c.args in
     let v = c.loop-i in
     let made = c.outputs_of-more in
-    let few = few_raised a.by.coeffs.now a.src.now a.dst.now a.by.l a.k a.by.few.0 c.requires.3 v.dst v.i v.from v.cuts (omega arith) v.auto.dst
+    let few = few_raised a.by.coeffs.now a.src.now a.dst.now a.by.l a.by.k a.by.few.0 c.requires.1 v.dst v.i v.from v.cuts (omega arith) v.auto.dst
     (record { filled = v.invariant.filled; from_is = v.invariant.from_is }) c.min-past.result c.min-past.ensures made.new.places made.result made.ensures.span made.ensures.cuts in
-    omega (arith, few, c.requires.2)
+    omega (arith, few, c.requires.0)
 
 pub loop-i-preserved : goal.loop-i-preserved
 unfolding phase_output
@@ -25,7 +25,7 @@ loop-i-preserved c =
     let a = c.args in
     let v = c.loop-i in
     let made = c.outputs_of-more in
-    let next = next_raised a.by.coeffs.now a.src.now a.dst.now a.by.l a.k a.by.few.0 c.requires.3 v.dst v.i v.from v.cuts (omega arith) v.auto.dst
+    let next = next_raised a.by.coeffs.now a.src.now a.dst.now a.by.l a.by.k a.by.few.0 c.requires.1 v.dst v.i v.from v.cuts (omega arith) v.auto.dst
     (record { filled = v.invariant.filled; from_is = v.invariant.from_is }) c.min-past.result c.min-past.ensures made.new.places made.result made.ensures.span made.ensures.cuts in
     record { filled = next.filled; from_is = next.from_is }
 
@@ -34,4 +34,4 @@ unfolding phase_output
 returns-clause-span c =
     let a = c.args in
     let v = c.loop-i in
-    (all_raised a.by.coeffs.now a.src.now a.dst.now a.by.l a.k a.by.few.0 c.requires.3 v.dst v.i v.from v.cuts (omega arith) (record { filled = v.invariant.filled; from_is = v.invariant.from_is })).0
+    (all_raised a.by.coeffs.now a.src.now a.dst.now a.by.l a.by.k a.by.few.0 c.requires.1 v.dst v.i v.from v.cuts (omega arith) (record { filled = v.invariant.filled; from_is = v.invariant.from_is })).0

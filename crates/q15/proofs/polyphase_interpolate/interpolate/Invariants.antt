@@ -7,6 +7,6 @@ use Rattle.q15.proofs.polyphase_interpolate.interpolate.Given as goal
 
 abbrev pub invariant-loop-i : goal.invariant-loop-i
 invariant-loop-i l = record {
-  filled : CutFilled (λ (j : ℕ). phase_sum l.by.coeffs.now l.by.l l.k l.src (j / l.by.l) (j % l.by.l)) l.initial.dst (length l.initial.dst) l.dst l.from l.cuts;
+  filled : CutFilled (λ (j : ℕ). phase_sum l.by.coeffs.now l.by.l l.by.k l.src (j / l.by.l) (j % l.by.l)) l.initial.dst (length l.initial.dst) l.dst l.from l.cuts;
   from_is : l.from ≡ min (l.i * l.by.l) (length l.initial.dst);
 }

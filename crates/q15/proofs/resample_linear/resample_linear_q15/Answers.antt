@@ -19,7 +19,13 @@ resample-requires c =
     let bits = to_z-of_z c.ranges.ratio_q16 in
     let in_range = linear_in _ _ _ (sym c.in_ok-linear_rows.ensures) in
     let limits = in_range.0 in
-    rw bits (limits.least, limits.most, (ratio_fits c.args.ratio_q16 c.ranges.ratio_q16 (rw bits at in_range.1)).1, limits.span_most)
+    rw bits ((ratio_fits c.args.ratio_q16 c.ranges.ratio_q16 (rw bits at in_range.1)).1, limits.span_most)
+
+pub invariant_of-samples : goal.invariant_of-samples
+invariant_of-samples c =
+    let bits = to_z-of_z c.ranges.ratio_q16 in
+    let limits = (linear_in _ _ _ (sym c.in_ok-linear_rows.ensures)).0 in
+    record { some = (limits.least, limits.most) }
 
 pub returns-clause-span : goal.returns-clause-span
 unfolding resampled
