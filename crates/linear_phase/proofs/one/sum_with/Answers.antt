@@ -4,10 +4,10 @@ use Rattle.linear_phase.proofs.Newest.{first_pair, next_pair}
 use Rattle.linear_phase.proofs.one.sum_with.Goals as goal
 
 pub loop-t-init : goal.loop-t-init
-loop-t-init c = let a = c.args in first_pair a.delay.now a.x a.antisymmetric a.taps.now _ (omega (arith, c.requires)) c.pair.ensures
+loop-t-init c = let a = c.args in first_pair a.delay.now a.x a.fir.kind.antisymmetric a.fir.taps.now _ (omega (arith, c.requires, c.args.fir.inside, c.args.fir.reach)) c.pair.ensures
 
 pub loop-t-preserved : goal.loop-t-preserved
 loop-t-preserved c =
     let l = c.loop-t in
     let a = c.args in
-    next_pair a.delay.now a.x a.antisymmetric a.taps.now l.t _ _ (omega (arith, l.auto)) (omega (arith, c.loop-t-test.true, c.requires.1)) l.invariant c.pair-in-loop-t.ensures
+    next_pair a.delay.now a.x a.fir.kind.antisymmetric a.fir.taps.now l.t _ _ (omega (arith, l.auto)) (omega (arith, c.loop-t-test.true, c.requires, c.args.fir.reach)) l.invariant c.pair-in-loop-t.ensures

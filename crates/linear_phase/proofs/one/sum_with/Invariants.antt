@@ -4,4 +4,4 @@ use Rattle.linear_phase.specs.Windows.{window_acc}
 use Rattle.linear_phase.proofs.one.sum_with.Given as goal
 
 abbrev pub invariant-loop-t : goal.invariant-loop-t
-invariant-loop-t l = l.acc ≡ window_acc l.antisymmetric l.taps (l.delay ++ (l.x ∷ [])) l.t
+invariant-loop-t l = l.acc ≡ window_acc l.fir.kind.antisymmetric l.fir.taps.now (l.delay ++ (l.x ∷ [])) l.t

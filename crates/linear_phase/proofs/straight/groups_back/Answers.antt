@@ -10,12 +10,12 @@ pub loop-end-preserved : goal.loop-end-preserved
 loop-end-preserved c =
     let a = c.args in
     let l = c.loop-end in
-    group_along a.fir.centre a.fir.minus a.fir.taps.now a.fir.long a.src.now a.span.now l.span l.end l.invariant (omega (arith, c.loop-end-test.true)) _ _
-    (c.outputs_at.ensures ∙ ap (λ (v : List Float). window_values a.fir.centre a.fir.minus a.fir.taps.now a.fir.long v 16) (rest a.src.now (l.end - 16)))
+    group_along a.fir.kind.odd a.fir.kind.antisymmetric a.fir.taps.now a.fir.long a.src.now a.span.now l.span l.end l.invariant (omega (arith, c.loop-end-test.true)) _ _
+    (c.outputs_at.ensures ∙ ap (λ (v : List Float). window_values a.fir.kind.odd a.fir.kind.antisymmetric a.fir.taps.now a.fir.long v 16) (rest a.src.now (l.end - 16)))
     c.put_group.ensures
 
 pub returns : goal.returns
 returns c =
     let a = c.args in
     let l = c.loop-end in
-    all_along a.fir.centre a.fir.minus a.fir.taps.now a.fir.long a.src.now a.span.now l.span l.end l.invariant _ c.singles.ensures
+    all_along a.fir.kind.odd a.fir.kind.antisymmetric a.fir.taps.now a.fir.long a.src.now a.span.now l.span l.end l.invariant _ c.singles.ensures
