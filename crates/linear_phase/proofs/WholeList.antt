@@ -41,15 +41,6 @@ unfolding reach
 reaches true M h = record { least = omega arith; most = omega arith }
 reaches false M h = record { least = omega arith; most = omega arith }
 
--- with a half inside 02's limits
-pub record Within (M L : ℕ) : Type 0 where
-  pub some : 1 ≤ L
-  pub least : M ≤ L
-  pub most : L ≤ 46
-
-pub within : (odd : Bool) {M L : ℕ} → (1 ≤ M) × (M ≤ 23) × (L ≡ reach odd M) → Within M L
-within odd {M} {L} h = let r = reaches odd M h.0 in record { some = omega (arith, r.least, h); least = omega (arith, r.least, h); most = omega (arith, r.most, h) }
-
 pub reach_odd : (odd : Bool) (M : ℕ) → odd ≡ true → reach odd M ≡ 2 * M
 unfolding reach
 reach_odd odd M e = ap (λ (o : Bool). cond o (2 * M) (2 * M - 1)) e

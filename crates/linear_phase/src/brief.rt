@@ -18,8 +18,8 @@ pub(crate) fn is_brief(m: usize, n: usize) -> bool
     m <= 3 || m <= 4 && n <= 4
 }
 
-// The delay moves down by one place, and x stands at its end. It goes from the end on: the other way would be a copy in memory to the compiler. By the number: a turn reads a place and
-// writes it, and of what `iter_mut` lends a proof knows the lengths alone.
+// The delay moves down by one place, and x stands at its end. It goes from the end on: the other way would be a copy in memory to the compiler. By the number: with
+// `iter_mut` turned round a proof sees an iterator in place of the places.
 fn push(delay: &mut [f32], x: f32)
     requires { 1 ≤ length delay.old }
     ensures { delay.new ≡ slid delay.old (x ∷ []) }

@@ -37,14 +37,9 @@ fn sums_at(acc: &mut [f32], line: &[f32], fir: Folded<'_>)
     ensures { acc.new ≡ W.window_sums fir.entry.kind.antisymmetric fir.entry.taps.now fir.entry.long line.now (length acc.old) (length fir.entry.taps.now) }
 {
     let long = fir.long;
+    let minus = fir.kind.antisymmetric;
     for (t, tap) in fir.taps.iter().enumerate() {
-        add_pairs(
-            acc,
-            &line[t..],
-            &line[long - t..],
-            *tap,
-            fir.kind.antisymmetric,
-        );
+        add_pairs(acc, &line[t..], &line[long - t..], *tap, minus);
     }
 }
 

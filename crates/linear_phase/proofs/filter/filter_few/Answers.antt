@@ -1,5 +1,5 @@
 -- `linear_phase::filter::filter_few` meets its contract: delay and samples stand on the tape, and the outputs are those at the windows.
-use Rattle.std.proofs.Common.{◌≡◌, ◌+◌, ◌-◌, ◌≤◌, List, ◌++◌, length, take, drop, refl, sym, ap, ◌∙◌, option_copied, arith, length-take-le}
+use Rattle.std.proofs.Common.{◌≡◌, ◌+◌, ◌-◌, ◌≤◌, List, ◌++◌, length, take, drop, sym, ap, ◌∙◌, option_copied, arith, length-take-le}
 use Rattle.std.specs.Prelude.{unwrap_or}
 use lib.ListN.{length-replicate}
 use lib.Ieee.{Float}

@@ -1,5 +1,5 @@
 -- `linear_phase::filter::filter_short` meets its contract: delay and first samples stand on the tape, so the last of all are the next delay, and the outputs are those at the windows.
-use Rattle.std.proofs.Common.{◌≡◌, ℕ, ◌+◌, ◌-◌, ◌≤◌, min, List, ◌++◌, length, take, drop, refl, sym, ap, ap₂, ◌∙◌, arith, length-take-le}
+use Rattle.std.proofs.Common.{◌≡◌, ℕ, ◌+◌, ◌-◌, ◌≤◌, min, List, ◌++◌, length, take, drop, sym, ap, ap₂, ◌∙◌, arith, length-take-le}
 use lib.Ieee.{Float}
 use Rattle.float.proofs.Laid.{samples_behind}
 use Rattle.linear_phase.specs.Windows.{InRow}
