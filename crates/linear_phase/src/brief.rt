@@ -33,6 +33,7 @@ fn push(delay: &mut [f32], x: f32)
 }
 
 // Sample by sample, an output of each into the span, whose number reads the samples (as in `add_pairs`). It is stored last: before the delay moves, with one tap it costs 7.0 instructions a sample of a long block for 2.5.
+#[inline(always)]
 fn each(delay: &mut [f32], fir: Folded<'_>, src: &[f32], span: &mut [f32])
     requires { (length delay.old ≡ fir.long) × (length span.old ≡ length src.now) }
     ensures delay { delay.new ≡ state (W.linear_phase fir.entry.kind.odd fir.entry.kind.antisymmetric fir.entry.taps.now) delay.old src.now }
@@ -46,15 +47,15 @@ fn each(delay: &mut [f32], fir: Folded<'_>, src: &[f32], span: &mut [f32])
     }
 }
 
-// The same through M taps and the delay in front of the lent one, a copy of the loop for each M and each parity. The delay moves in an array of this function: no
+// The same through M taps and the delay in front of the lent one, a copy of the loop for each M and each kind. The delay moves in an array of this function: no
 // store to the span can be one to it.
-fn held<const M: usize, const ODD: bool>(
+fn held<const M: usize, const ODD: bool, const MINUS: bool>(
     fir: Folded<'_>,
     delay: &mut [f32; LINEAR_PHASE_DELAYS],
     src: &[f32],
     span: &mut [f32],
 )
-    requires known { (M ≡ length fir.taps.now) × (ODD ≡ fir.kind.odd) × (M ≤ 4) }
+    requires known { (M ≡ length fir.taps.now) × (ODD ≡ fir.kind.odd) × (MINUS ≡ fir.kind.antisymmetric) × (M ≤ 4) }
     requires lent { length span.old ≡ length src.now }
     ensures delay { let next = state (W.linear_phase fir.entry.kind.odd fir.entry.kind.antisymmetric fir.entry.taps.now) (take fir.entry.long delay.old) src.now in
         delay.new ≡ next ++ drop fir.entry.long delay.old }
@@ -62,7 +63,7 @@ fn held<const M: usize, const ODD: bool>(
 {
     let kind = Kind {
         odd: ODD,
-        ..fir.kind
+        antisymmetric: MINUS,
     };
     let known = Folded::of(&fir.taps[..M], kind);
     let long = known.long;
@@ -72,7 +73,28 @@ fn held<const M: usize, const ODD: bool>(
     delay[..long].copy_from_slice(&window[..long]);
 }
 
-// A copy for each of the eight lengths.
+// A copy for each number of taps.
+fn filter_kind<const ODD: bool, const MINUS: bool>(
+    fir: Folded<'_>,
+    delay: &mut [f32; LINEAR_PHASE_DELAYS],
+    src: &[f32],
+    span: &mut [f32],
+)
+    requires known { (ODD ≡ fir.kind.odd) × (MINUS ≡ fir.kind.antisymmetric) × (length fir.taps.now ≤ 4) }
+    requires lent { length span.old ≡ length src.now }
+    ensures delay { let next = state (W.linear_phase fir.entry.kind.odd fir.entry.kind.antisymmetric fir.entry.taps.now) (take fir.entry.long delay.old) src.now in
+        delay.new ≡ next ++ drop fir.entry.long delay.old }
+    ensures span { span.new ≡ outs (W.linear_phase fir.entry.kind.odd fir.entry.kind.antisymmetric fir.entry.taps.now) (take fir.entry.long delay.old) src.now }
+{
+    match fir.taps.len() {
+        1 => held::<1, ODD, MINUS>(fir, delay, src, span),
+        2 => held::<2, ODD, MINUS>(fir, delay, src, span),
+        3 => held::<3, ODD, MINUS>(fir, delay, src, span),
+        _ => held::<4, ODD, MINUS>(fir, delay, src, span),
+    }
+}
+
+// A copy for each kind.
 #[inline(never)]
 pub(crate) fn filter_brief(
     fir: Folded<'_>,
@@ -85,19 +107,10 @@ pub(crate) fn filter_brief(
         delay.new ≡ next ++ drop fir.entry.long delay.old }
     ensures span { span.new ≡ outs (W.linear_phase fir.entry.kind.odd fir.entry.kind.antisymmetric fir.entry.taps.now) (take fir.entry.long delay.old) src.now }
 {
-    if fir.kind.odd {
-        match fir.taps.len() {
-            1 => held::<1, true>(fir, delay, src, span),
-            2 => held::<2, true>(fir, delay, src, span),
-            3 => held::<3, true>(fir, delay, src, span),
-            _ => held::<4, true>(fir, delay, src, span),
-        }
-    } else {
-        match fir.taps.len() {
-            1 => held::<1, false>(fir, delay, src, span),
-            2 => held::<2, false>(fir, delay, src, span),
-            3 => held::<3, false>(fir, delay, src, span),
-            _ => held::<4, false>(fir, delay, src, span),
-        }
+    match (fir.kind.odd, fir.kind.antisymmetric) {
+        (false, false) => filter_kind::<false, false>(fir, delay, src, span),
+        (false, true) => filter_kind::<false, true>(fir, delay, src, span),
+        (true, false) => filter_kind::<true, false>(fir, delay, src, span),
+        (true, true) => filter_kind::<true, true>(fir, delay, src, span),
     }
 }

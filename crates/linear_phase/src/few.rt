@@ -6,7 +6,9 @@ use crate::kinds::Folded;
 use crate::lanes::{outputs_at, put_group};
 use crate::one::value_with;
 
-fn group_of<const N: usize>(tape: &[f32], fir: Folded<'_>, span: &mut [f32])
+// Of exactly so many. Inlined where it is called: a group with two callers no longer keeps its sums in registers.
+#[inline(always)]
+pub(crate) fn group_of<const N: usize>(tape: &[f32], fir: Folded<'_>, span: &mut [f32])
     requires { (fir.long + length span.old ≤ length tape.now) × (length span.old ≡ N) }
     ensures { span.new ≡ W.window_values fir.entry.kind.odd fir.entry.kind.antisymmetric fir.entry.taps.now fir.entry.long tape.now (length span.old) }
 {

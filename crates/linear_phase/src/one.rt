@@ -24,6 +24,7 @@ fn sum_with(delay: &[f32], fir: Folded<'_>, x: f32) -> f32
 }
 
 // The output at that window; the centre is added last.
+#[inline(always)]
 pub(crate) fn value_with(delay: &[f32], fir: Folded<'_>, x: f32) -> f32
     requires { length delay.now ≡ fir.long }
     ensures { result ≡ W.window_value fir.entry.kind.odd fir.entry.kind.antisymmetric fir.entry.taps.now (delay.now ++ (x ∷ [])) }
@@ -47,6 +48,7 @@ fn move_in(delay: &mut [f32], x: f32)
 }
 
 // The sample goes in, and its output comes out.
+#[inline(always)]
 pub(crate) fn filter_one(delay: &mut [f32], fir: Folded<'_>, x: f32) -> f32
     requires { length delay.old ≡ fir.long }
     ensures delay { delay.new ≡ slid delay.old (x ∷ []) }

@@ -4,9 +4,9 @@ ghost use Rattle.std.specs.Prelude.{◌≡◌, true, ◌++◌, ◌+◌, ◌≤�
 ghost use Rattle.theory.specs.Sections.{state, outs};
 ghost use Rattle.linear_phase.specs.Windows as W;
 
-use crate::few::singles;
+use crate::few::{group_of, singles};
 use crate::kinds::{Folded, Kind};
-use crate::lanes::{LANES, group_at, outputs_at, put_all, put_group};
+use crate::lanes::{LANES, group_at, put_all};
 use crate::limits::LINEAR_PHASE_DELAYS;
 use crate::moves::{copy_taken, taken};
 
@@ -18,16 +18,6 @@ pub(crate) fn is_straight(m: usize, long: usize, n: usize) -> bool
     ensures { result ≡ true → (2 ≤ m) × (m ≤ 5) × (long ≤ n) }
 {
     2 <= m && m <= 5 && long <= n
-}
-
-// Outputs at the first windows of the tape. With `group_of`, which does the same, each group there has two callers, and the compiler no longer keeps its sums in registers.
-fn first_outputs<const N: usize>(tape: &[f32], fir: Folded<'_>, span: &mut [f32])
-    requires { (fir.long + length span.old ≤ length tape.now) × (length span.old ≡ N) }
-    ensures { span.new ≡ W.window_values fir.entry.kind.odd fir.entry.kind.antisymmetric fir.entry.taps.now fir.entry.long tape.now (length span.old) }
-{
-    let mut y = [0.0f32; N];
-    outputs_at(&mut y, tape, fir);
-    put_group(span, &y);
 }
 
 // Outputs at the windows from the front of the samples on: whole groups from the end on, and one by one what is left in front. So no load stands a little behind a store that
@@ -76,7 +66,7 @@ fn straight<const M: usize, const LONG: usize, const ODD: bool, const MINUS: boo
     let newest = src.len() - LONG;
     copy_taken::<LONG>(&mut delay[..LONG], &src[newest..]);
     groups_back(src, known, &mut span[LONG..]);
-    first_outputs::<LONG>(&tape, known, &mut span[..LONG]);
+    group_of::<LONG>(&tape, known, &mut span[..LONG]);
 }
 
 // A copy for each length, and for each kind.

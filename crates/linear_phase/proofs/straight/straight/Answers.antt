@@ -50,8 +50,8 @@ returns-clause-span g c =
     let r_long : length c.groups_back.new.span ≡ length c.args.span.now - g.row.LONG = omega (arith, c.groups_back.auto.span, rest_long, c.requires.lent.1) in
     let first_long = length-take-le k (take k a.span.now ++ (r ++ drop (n - k) (drop k a.span.now))) (omega (arith, within, long_behind a.span.now r k (n - k) (omega (arith, within)) r_long)) in
     let others = rw (c.requires.known.2, c.requires.known.3) at c.groups_back.ensures in
-    let head = rw (c.requires.known.2, c.requires.known.3) at c.first_outputs.ensures in
-    ap (λ (l : List Float). c.first_outputs.new.span ++ l) (behind_front a.span.now r k within)
+    let head = rw (c.requires.known.2, c.requires.known.3) at c.group_of.ensures in
+    ap (λ (l : List Float). c.group_of.new.span ++ l) (behind_front a.span.now r k within)
     ∙ straight_outs a.fir.kind.odd a.fir.kind.antisymmetric a.fir.taps.now d v tape (sym is) (omega (arith, is, c.requires.known)) (omega (arith, is, fits)) on.0 on.1
     (head ∙ ap₂ {C = List Float} (λ (t : List Float) (m : ℕ). window_values a.fir.kind.odd a.fir.kind.antisymmetric t k tape m) own first_long)
     (others ∙ ap₂ {C = List Float} (λ (t : List Float) (m : ℕ). window_values a.fir.kind.odd a.fir.kind.antisymmetric t k v m) own rest_long)
