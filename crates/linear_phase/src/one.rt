@@ -8,19 +8,30 @@ use crate::moves::move_down;
 
 // Σ (new ± old) × taps[t] from 0.0, t ascending, at the window of the delay with x behind it.
 #[inline(always)]
+fn sum_of<const MINUS: bool>(delay: &[f32], taps: &[f32], x: f32) -> f32
+    requires { (1 ≤ length taps.now) × (length taps.now ≤ length delay.now) }
+    ensures { result ≡ W.window_acc MINUS taps.now (delay.now ++ (x ∷ [])) (length taps.now) }
+{
+    let long = delay.len();
+    let mut acc = 0.0f32 + pair(MINUS, x, delay[0]) * taps[0];
+    // By the number: it begins at 1, and is a place of the taps, and of the delay from both ends.
+    for t in 1..taps.len() {
+        acc += pair(MINUS, delay[long - t], delay[t]) * taps[t];
+    }
+    acc
+}
+
+// That sum, by a loop for either sign: one loop for both makes sum and difference of each pair.
+#[inline(always)]
 fn sum_with(delay: &[f32], fir: Folded<'_>, x: f32) -> f32
     requires { length delay.now ≡ fir.long }
     ensures { result ≡ W.window_acc fir.entry.kind.antisymmetric fir.entry.taps.now (delay.now ++ (x ∷ [])) (length fir.entry.taps.now) }
 {
-    let long = delay.len();
-    let minus = fir.kind.antisymmetric;
-    let taps = fir.taps;
-    let mut acc = 0.0f32 + pair(minus, x, delay[0]) * taps[0];
-    // By the number: it begins at 1, and is a place of the taps, and of the delay from both ends.
-    for t in 1..taps.len() {
-        acc += pair(minus, delay[long - t], delay[t]) * taps[t];
+    if fir.kind.antisymmetric {
+        sum_of::<true>(delay, fir.taps, x)
+    } else {
+        sum_of::<false>(delay, fir.taps, x)
     }
-    acc
 }
 
 // The output at that window; the centre is added last.
