@@ -6,7 +6,7 @@ ghost use Rattle.linear_phase.specs.Windows as W;
 
 use crate::few::{group_of, singles};
 use crate::kinds::{Folded, Kind};
-use crate::lanes::{LANES, group_at, put_all};
+use crate::lanes::{LANES, group_at, put_group};
 use crate::limits::LINEAR_PHASE_DELAYS;
 use crate::moves::{copy_taken, taken};
 
@@ -32,7 +32,7 @@ fn groups_back(src: &[f32], fir: Folded<'_>, span: &mut [f32])
     while LANES <= end {
         let at = end - LANES;
         let y = group_at(src, at, fir);
-        put_all(&mut span[at..end], y);
+        put_group(&mut span[at..end], &y);
         end = at;
     }
     singles(src, fir, &mut span[..end]);
