@@ -2,6 +2,7 @@
 ghost use Rattle.std.specs.Prelude.{◌≡◌, true, [], ◌∷◌, ◌++◌, ◌≤◌, length, take, drop};
 ghost use Rattle.theory.specs.Sections.{state, outs};
 ghost use Rattle.half_band.specs.Windows.{slid};
+ghost use Rattle.linear_phase.specs.LinearPhase as P;
 ghost use Rattle.linear_phase.specs.Windows as W;
 
 use crate::kinds::{Folded, Kind};
@@ -50,47 +51,45 @@ fn each(delay: &mut [f32], fir: Folded<'_>, src: &[f32], span: &mut [f32])
 // The same through M taps and the delay in front of the lent one, a copy of the loop for each M and each kind. The delay moves in an array of this function: no
 // store to the span can be one to it.
 fn held<const M: usize, const ODD: bool, const MINUS: bool>(
-    fir: Folded<'_>,
+    taps: &[f32],
     delay: &mut [f32; LINEAR_PHASE_DELAYS],
     src: &[f32],
     span: &mut [f32],
 )
-    requires known { (M ≡ length fir.taps.now) × (ODD ≡ fir.kind.odd) × (MINUS ≡ fir.kind.antisymmetric) × (M ≤ 4) }
-    requires lent { length span.old ≡ length src.now }
-    ensures delay { let next = state (W.linear_phase fir.entry.kind.odd fir.entry.kind.antisymmetric fir.entry.taps.now) (take fir.entry.long delay.old) src.now in
-        delay.new ≡ next ++ drop fir.entry.long delay.old }
-    ensures span { span.new ≡ outs (W.linear_phase fir.entry.kind.odd fir.entry.kind.antisymmetric fir.entry.taps.now) (take fir.entry.long delay.old) src.now }
+    requires { (M ≡ length taps.now) × (1 ≤ M) × (M ≤ 4) × (length span.old ≡ length src.now) }
+    ensures delay { let next = state (W.linear_phase ODD MINUS taps.now) (take (P.reach ODD (length taps.now)) delay.old) src.now in
+        delay.new ≡ next ++ drop (P.reach ODD (length taps.now)) delay.old }
+    ensures span { span.new ≡ outs (W.linear_phase ODD MINUS taps.now) (take (P.reach ODD (length taps.now)) delay.old) src.now }
 {
     let kind = Kind {
         odd: ODD,
         antisymmetric: MINUS,
     };
-    let known = Folded::of(&fir.taps[..M], kind);
-    let long = known.long;
+    let fir = Folded::of(&taps[..M], kind);
+    let long = fir.long;
     let mut window = [0.0f32; SHORT_DELAY];
     window[..long].copy_from_slice(&delay[..long]);
-    each(&mut window[..long], known, src, span);
+    each(&mut window[..long], fir, src, span);
     delay[..long].copy_from_slice(&window[..long]);
 }
 
-// A copy for each number of taps.
+// A copy for each number of taps. Lent the taps alone: a filter goes through memory at each call.
 fn filter_kind<const ODD: bool, const MINUS: bool>(
-    fir: Folded<'_>,
+    taps: &[f32],
     delay: &mut [f32; LINEAR_PHASE_DELAYS],
     src: &[f32],
     span: &mut [f32],
 )
-    requires known { (ODD ≡ fir.kind.odd) × (MINUS ≡ fir.kind.antisymmetric) × (length fir.taps.now ≤ 4) }
-    requires lent { length span.old ≡ length src.now }
-    ensures delay { let next = state (W.linear_phase fir.entry.kind.odd fir.entry.kind.antisymmetric fir.entry.taps.now) (take fir.entry.long delay.old) src.now in
-        delay.new ≡ next ++ drop fir.entry.long delay.old }
-    ensures span { span.new ≡ outs (W.linear_phase fir.entry.kind.odd fir.entry.kind.antisymmetric fir.entry.taps.now) (take fir.entry.long delay.old) src.now }
+    requires { (1 ≤ length taps.now) × (length taps.now ≤ 4) × (length span.old ≡ length src.now) }
+    ensures delay { let next = state (W.linear_phase ODD MINUS taps.now) (take (P.reach ODD (length taps.now)) delay.old) src.now in
+        delay.new ≡ next ++ drop (P.reach ODD (length taps.now)) delay.old }
+    ensures span { span.new ≡ outs (W.linear_phase ODD MINUS taps.now) (take (P.reach ODD (length taps.now)) delay.old) src.now }
 {
-    match fir.taps.len() {
-        1 => held::<1, ODD, MINUS>(fir, delay, src, span),
-        2 => held::<2, ODD, MINUS>(fir, delay, src, span),
-        3 => held::<3, ODD, MINUS>(fir, delay, src, span),
-        _ => held::<4, ODD, MINUS>(fir, delay, src, span),
+    match taps.len() {
+        1 => held::<1, ODD, MINUS>(taps, delay, src, span),
+        2 => held::<2, ODD, MINUS>(taps, delay, src, span),
+        3 => held::<3, ODD, MINUS>(taps, delay, src, span),
+        _ => held::<4, ODD, MINUS>(taps, delay, src, span),
     }
 }
 
@@ -108,9 +107,9 @@ pub(crate) fn filter_brief(
     ensures span { span.new ≡ outs (W.linear_phase fir.entry.kind.odd fir.entry.kind.antisymmetric fir.entry.taps.now) (take fir.entry.long delay.old) src.now }
 {
     match (fir.kind.odd, fir.kind.antisymmetric) {
-        (false, false) => filter_kind::<false, false>(fir, delay, src, span),
-        (false, true) => filter_kind::<false, true>(fir, delay, src, span),
-        (true, false) => filter_kind::<true, false>(fir, delay, src, span),
-        (true, true) => filter_kind::<true, true>(fir, delay, src, span),
+        (false, false) => filter_kind::<false, false>(fir.taps, delay, src, span),
+        (false, true) => filter_kind::<false, true>(fir.taps, delay, src, span),
+        (true, false) => filter_kind::<true, false>(fir.taps, delay, src, span),
+        (true, true) => filter_kind::<true, true>(fir.taps, delay, src, span),
     }
 }
