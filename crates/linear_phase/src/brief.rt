@@ -6,7 +6,8 @@ ghost use Rattle.linear_phase.specs.LinearPhase as P;
 ghost use Rattle.linear_phase.specs.Windows as W;
 
 use crate::kinds::{Folded, Kind};
-use crate::limits::LINEAR_PHASE_DELAYS;
+use crate::lent::Half;
+use crate::limits::{LINEAR_PHASE_DELAYS, MOST_LINEAR_PHASE_TAPS};
 use crate::one::value_with;
 
 // The longest delay of four taps.
@@ -73,7 +74,7 @@ fn held<const M: usize, const ODD: bool, const MINUS: bool>(
     delay[..long].copy_from_slice(&window[..long]);
 }
 
-// A copy for each number of taps. Lent the taps alone: a filter goes through memory at each call.
+// A copy for each number of taps.
 fn filter_kind<const ODD: bool, const MINUS: bool>(
     taps: &[f32],
     delay: &mut [f32; LINEAR_PHASE_DELAYS],
@@ -93,23 +94,25 @@ fn filter_kind<const ODD: bool, const MINUS: bool>(
     }
 }
 
-// A copy for each kind.
+// A copy for each kind. Lent a half, which goes through registers: a `Folded` goes through memory, which costs a block of two samples a twelfth.
 #[inline(never)]
 pub(crate) fn filter_brief(
-    fir: Folded<'_>,
+    half: Half,
+    taps: &[f32; MOST_LINEAR_PHASE_TAPS],
     delay: &mut [f32; LINEAR_PHASE_DELAYS],
     src: &[f32],
     span: &mut [f32],
 )
-    requires { (length fir.taps.now ≤ 4) × (length span.old ≡ length src.now) }
-    ensures delay { let next = state (W.linear_phase fir.entry.kind.odd fir.entry.kind.antisymmetric fir.entry.taps.now) (take fir.entry.long delay.old) src.now in
-        delay.new ≡ next ++ drop fir.entry.long delay.old }
-    ensures span { span.new ≡ outs (W.linear_phase fir.entry.kind.odd fir.entry.kind.antisymmetric fir.entry.taps.now) (take fir.entry.long delay.old) src.now }
+    requires { (half.m ≤ 4) × (length span.old ≡ length src.now) }
+    ensures delay { let next = state (W.linear_phase half.kind.odd half.kind.antisymmetric (take half.m taps.now)) (take (P.reach half.kind.odd half.m) delay.old) src.now in
+        delay.new ≡ next ++ drop (P.reach half.kind.odd half.m) delay.old }
+    ensures span { span.new ≡ outs (W.linear_phase half.kind.odd half.kind.antisymmetric (take half.m taps.now)) (take (P.reach half.kind.odd half.m) delay.old) src.now }
 {
-    match (fir.kind.odd, fir.kind.antisymmetric) {
-        (false, false) => filter_kind::<false, false>(fir.taps, delay, src, span),
-        (false, true) => filter_kind::<false, true>(fir.taps, delay, src, span),
-        (true, false) => filter_kind::<true, false>(fir.taps, delay, src, span),
-        (true, true) => filter_kind::<true, true>(fir.taps, delay, src, span),
+    let taps = &taps[..half.m];
+    match (half.kind.odd, half.kind.antisymmetric) {
+        (false, false) => filter_kind::<false, false>(taps, delay, src, span),
+        (false, true) => filter_kind::<false, true>(taps, delay, src, span),
+        (true, false) => filter_kind::<true, false>(taps, delay, src, span),
+        (true, true) => filter_kind::<true, true>(taps, delay, src, span),
     }
 }

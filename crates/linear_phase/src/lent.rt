@@ -102,12 +102,12 @@ impl Half {
             span[0] = self.process(taps, delay, src[0]);
             return;
         }
-        let fir = self.folded(taps);
-        if is_straight(self.m, fir.long, src.len()) {
-            return filter_straight(fir, delay, src, span);
+        let long = self.kind.reach(self.m);
+        if is_straight(self.m, long, src.len()) {
+            return filter_straight(self, taps, delay, src, span);
         }
         if is_brief(self.m, src.len()) {
-            return filter_brief(fir, delay, src, span);
+            return filter_brief(self, taps, delay, src, span);
         }
         if src.len() == 2 {
             let y = self.process(taps, delay, src[0]);

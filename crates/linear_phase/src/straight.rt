@@ -2,12 +2,14 @@
 // compiler knows the window, and makes several at once.
 ghost use Rattle.std.specs.Prelude.{◌≡◌, true, ◌++◌, ◌+◌, ◌≤◌, length, take, drop};
 ghost use Rattle.theory.specs.Sections.{state, outs};
+ghost use Rattle.linear_phase.specs.LinearPhase as P;
 ghost use Rattle.linear_phase.specs.Windows as W;
 
 use crate::few::{group_of, singles};
 use crate::kinds::{Folded, Kind};
 use crate::lanes::{LANES, group_at, put_group};
-use crate::limits::LINEAR_PHASE_DELAYS;
+use crate::lent::Half;
+use crate::limits::{LINEAR_PHASE_DELAYS, MOST_LINEAR_PHASE_TAPS};
 use crate::moves::{copy_taken, taken};
 
 // Places for the longest of these delays and as many samples.
@@ -40,66 +42,65 @@ fn groups_back(src: &[f32], fir: Folded<'_>, span: &mut [f32])
 
 // The taps go to an array of this function: no store to the span can be one to it.
 fn straight<const M: usize, const LONG: usize, const ODD: bool, const MINUS: bool>(
-    fir: Folded<'_>,
+    taps: &[f32],
     delay: &mut [f32; LINEAR_PHASE_DELAYS],
     src: &[f32],
     span: &mut [f32],
 )
-    requires known { (M ≡ length fir.taps.now) × (LONG ≡ fir.long) × (ODD ≡ fir.kind.odd) × (MINUS ≡ fir.kind.antisymmetric) × (LONG ≤ 10) }
-    requires lent { (length span.old ≡ length src.now) × (fir.long ≤ length src.now) }
-    ensures delay { let next = state (W.linear_phase fir.entry.kind.odd fir.entry.kind.antisymmetric fir.entry.taps.now) (take fir.entry.long delay.old) src.now in
-        delay.new ≡ next ++ drop fir.entry.long delay.old }
-    ensures span { span.new ≡ outs (W.linear_phase fir.entry.kind.odd fir.entry.kind.antisymmetric fir.entry.taps.now) (take fir.entry.long delay.old) src.now }
+    requires known { (M ≡ length taps.now) × (LONG ≡ P.reach ODD (length taps.now)) × (1 ≤ M) × (M ≤ 5) × (LONG ≤ 10) }
+    requires lent { (length span.old ≡ length src.now) × (LONG ≤ length src.now) }
+    ensures delay { let next = state (W.linear_phase ODD MINUS taps.now) (take (P.reach ODD (length taps.now)) delay.old) src.now in
+        delay.new ≡ next ++ drop (P.reach ODD (length taps.now)) delay.old }
+    ensures span { span.new ≡ outs (W.linear_phase ODD MINUS taps.now) (take (P.reach ODD (length taps.now)) delay.old) src.now }
 {
-    let own = taken::<M>(fir.taps);
-    let known = Folded {
-        taps: &own,
-        long: LONG,
-        kind: Kind {
-            odd: ODD,
-            antisymmetric: MINUS,
-        },
+    let own = taken::<M>(taps);
+    let kind = Kind {
+        odd: ODD,
+        antisymmetric: MINUS,
     };
+    let fir = Folded::of(&own, kind);
     let mut tape = [0.0f32; TAPE];
     copy_taken::<LONG>(&mut tape[..LONG], delay);
     copy_taken::<LONG>(&mut tape[LONG..LONG + LONG], src);
     let newest = src.len() - LONG;
     copy_taken::<LONG>(&mut delay[..LONG], &src[newest..]);
-    groups_back(src, known, &mut span[LONG..]);
-    group_of::<LONG>(&tape, known, &mut span[..LONG]);
+    groups_back(src, fir, &mut span[LONG..]);
+    group_of::<LONG>(&tape, fir, &mut span[..LONG]);
 }
 
-// A copy for each length, and for each kind.
+// A copy for each length, and for each kind. Lent a half, as `filter_brief`.
 #[tactic(auto, unfolding(crate::specs::LinearPhase::reach))]
 #[inline(never)]
 pub(crate) fn filter_straight(
-    fir: Folded<'_>,
+    half: Half,
+    taps: &[f32; MOST_LINEAR_PHASE_TAPS],
     delay: &mut [f32; LINEAR_PHASE_DELAYS],
     src: &[f32],
     span: &mut [f32],
 )
-    requires few_taps { (2 ≤ length fir.taps.now) × (length fir.taps.now ≤ 5) }
-    requires lent { (length span.old ≡ length src.now) × (fir.long ≤ length src.now) }
-    ensures delay { let next = state (W.linear_phase fir.entry.kind.odd fir.entry.kind.antisymmetric fir.entry.taps.now) (take fir.entry.long delay.old) src.now in
-        delay.new ≡ next ++ drop fir.entry.long delay.old }
-    ensures span { span.new ≡ outs (W.linear_phase fir.entry.kind.odd fir.entry.kind.antisymmetric fir.entry.taps.now) (take fir.entry.long delay.old) src.now }
+    requires few_taps { (2 ≤ half.m) × (half.m ≤ 5) }
+    requires lent { (length span.old ≡ length src.now) × (P.reach half.kind.odd half.m ≤ length src.now) }
+    ensures delay { let next = state (W.linear_phase half.kind.odd half.kind.antisymmetric (take half.m taps.now)) (take (P.reach half.kind.odd half.m) delay.old) src.now in
+        delay.new ≡ next ++ drop (P.reach half.kind.odd half.m) delay.old }
+    ensures span { span.new ≡ outs (W.linear_phase half.kind.odd half.kind.antisymmetric (take half.m taps.now)) (take (P.reach half.kind.odd half.m) delay.old) src.now }
 {
-    match (fir.kind.odd, fir.kind.antisymmetric, fir.taps.len()) {
-        (false, false, 2) => straight::<2, 3, false, false>(fir, delay, src, span),
-        (false, false, 3) => straight::<3, 5, false, false>(fir, delay, src, span),
-        (false, false, 4) => straight::<4, 7, false, false>(fir, delay, src, span),
-        (false, false, _) => straight::<5, 9, false, false>(fir, delay, src, span),
-        (false, true, 2) => straight::<2, 3, false, true>(fir, delay, src, span),
-        (false, true, 3) => straight::<3, 5, false, true>(fir, delay, src, span),
-        (false, true, 4) => straight::<4, 7, false, true>(fir, delay, src, span),
-        (false, true, _) => straight::<5, 9, false, true>(fir, delay, src, span),
-        (true, false, 2) => straight::<2, 4, true, false>(fir, delay, src, span),
-        (true, false, 3) => straight::<3, 6, true, false>(fir, delay, src, span),
-        (true, false, 4) => straight::<4, 8, true, false>(fir, delay, src, span),
-        (true, false, _) => straight::<5, 10, true, false>(fir, delay, src, span),
-        (true, true, 2) => straight::<2, 4, true, true>(fir, delay, src, span),
-        (true, true, 3) => straight::<3, 6, true, true>(fir, delay, src, span),
-        (true, true, 4) => straight::<4, 8, true, true>(fir, delay, src, span),
-        (true, true, _) => straight::<5, 10, true, true>(fir, delay, src, span),
+    let taps = &taps[..half.m];
+    match (half.kind.odd, half.kind.antisymmetric, half.m) {
+        (false, false, 2) => straight::<2, 3, false, false>(taps, delay, src, span),
+        (false, false, 3) => straight::<3, 5, false, false>(taps, delay, src, span),
+        (false, false, 4) => straight::<4, 7, false, false>(taps, delay, src, span),
+        (false, false, _) => straight::<5, 9, false, false>(taps, delay, src, span),
+        (false, true, 2) => straight::<2, 3, false, true>(taps, delay, src, span),
+        (false, true, 3) => straight::<3, 5, false, true>(taps, delay, src, span),
+        (false, true, 4) => straight::<4, 7, false, true>(taps, delay, src, span),
+        (false, true, _) => straight::<5, 9, false, true>(taps, delay, src, span),
+        (true, false, 2) => straight::<2, 4, true, false>(taps, delay, src, span),
+        (true, false, 3) => straight::<3, 6, true, false>(taps, delay, src, span),
+        (true, false, 4) => straight::<4, 8, true, false>(taps, delay, src, span),
+        (true, false, _) => straight::<5, 10, true, false>(taps, delay, src, span),
+        (true, true, 2) => straight::<2, 4, true, true>(taps, delay, src, span),
+        (true, true, 3) => straight::<3, 6, true, true>(taps, delay, src, span),
+        (true, true, 4) => straight::<4, 8, true, true>(taps, delay, src, span),
+        (true, true, _) => straight::<5, 10, true, true>(taps, delay, src, span),
     }
 }

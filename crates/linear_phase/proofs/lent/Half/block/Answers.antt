@@ -16,24 +16,24 @@ pub returns-then-is_straight : goal.returns-then-is_straight
 returns-then-is_straight c =
     let a = c.args in
     let s = a.self in
-    let o = rw (c.folded-fir.ensures.0, c.folded-fir.ensures.2) at c.filter_straight.ensures in
+    let o = c.filter_straight.ensures in
     record {
       delay =
           ap (phase_of s.m s.kind.odd s.kind.antisymmetric a.taps.now) o.delay
-          ∙ state_is _ _ _ _ _ s.inside c.told-taps c.told-delay _ c.folded-fir.ensures.1 a.src.now _ refl;
-      span = outs_are _ _ _ _ _ s.inside c.told-taps c.told-delay _ c.folded-fir.ensures.1 a.src.now _ o.span;
+          ∙ state_is _ _ _ _ _ s.inside c.told-taps c.told-delay _ refl a.src.now _ refl;
+      span = outs_are _ _ _ _ _ s.inside c.told-taps c.told-delay _ refl a.src.now _ o.span;
     }
 
 pub returns-then-is_brief : goal.returns-then-is_brief
 returns-then-is_brief c =
     let a = c.args in
     let s = a.self in
-    let o = rw (c.folded-fir.ensures.0, c.folded-fir.ensures.2) at c.filter_brief.ensures in
+    let o = c.filter_brief.ensures in
     record {
       delay =
           ap (phase_of s.m s.kind.odd s.kind.antisymmetric a.taps.now) o.delay
-          ∙ state_is _ _ _ _ _ s.inside c.told-taps c.told-delay _ c.folded-fir.ensures.1 a.src.now _ refl;
-      span = outs_are _ _ _ _ _ s.inside c.told-taps c.told-delay _ c.folded-fir.ensures.1 a.src.now _ o.span;
+          ∙ state_is _ _ _ _ _ s.inside c.told-taps c.told-delay _ refl a.src.now _ refl;
+      span = outs_are _ _ _ _ _ s.inside c.told-taps c.told-delay _ refl a.src.now _ o.span;
     }
 
 pub returns-then-src-eq2 : goal.returns-then-src-eq2
