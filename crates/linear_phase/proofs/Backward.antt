@@ -13,7 +13,7 @@ use lib.Ieee.{Float, nan}
 use Rattle.theory.specs.Lists.{listed}
 use Rattle.theory.proofs.Listed.{length_listed}
 use Rattle.q15.proofs.Filling.{listed_more, listed_ext}
-use Rattle.linear_phase.specs.Windows.{centred_value, window_values, put_in_front, picked, window_start, OnTape}
+use Rattle.linear_phase.specs.Windows.{window_value, window_values, put_in_front, picked, window_start, OnTape}
 use Rattle.linear_phase.proofs.SideBySide.{output_at, values_long}
 use Rattle.linear_phase.proofs.Tapes.{taken_from}
 
@@ -37,12 +37,12 @@ module _ (long : ℕ) (tape v : List Float) (r : ℕ) (room : long + r ≤ lengt
           ∙ ap (λ (k : ℕ). take (k + r) (take long tape ++ v)) in_front
 
   -- the outputs of windows that all begin there
-  few_values : (centre antisymmetric : Bool) (c : List Float) (end : ℕ) → end ≤ r
-      → window_values centre antisymmetric c long tape end ≡ listed end (λ i. centred_value centre antisymmetric c (take (suc long) (drop i (take long tape ++ v))))
+  few_values : (odd antisymmetric : Bool) (c : List Float) (end : ℕ) → end ≤ r
+      → window_values odd antisymmetric c long tape end ≡ listed end (λ i. window_value odd antisymmetric c (take (suc long) (drop i (take long tape ++ v))))
   unfolding window_values
-  few_values centre antisymmetric c end h =
-      listed_ext end (λ i. centred_value centre antisymmetric c (take (suc long) (drop i tape))) (λ i. centred_value centre antisymmetric c (take (suc long) (drop i (take long tape ++ v))))
-      (λ i l. ap (centred_value centre antisymmetric c) (window_on i (omega arith)))
+  few_values odd antisymmetric c end h =
+      listed_ext end (λ i. window_value odd antisymmetric c (take (suc long) (drop i tape))) (λ i. window_value odd antisymmetric c (take (suc long) (drop i (take long tape ++ v))))
+      (λ i l. ap (window_value odd antisymmetric c) (window_on i (omega arith)))
 
 module _ (long : ℕ) (tape v : List Float) (n : ℕ) (room : long + min n (long + 16) ≤ length tape) (on : OnTape long tape v n) where
   -- delay and samples
@@ -174,13 +174,13 @@ module _ (g : ℕ → Float) (d e : List Float) (end : ℕ) (w : Written g d e e
 
 -- ---- the outputs of `outputs_back`: of the samples src, or, where none are lent, of the span d itself
 abbrev pub output : Bool → Bool → List Float → ℕ → List Float → Option (List Float) → List Float → ℕ → Float
-output centre minus c long tape src d i = centred_value centre minus c (take (suc long) (drop i (take long tape ++ unwrap_or src d)))
+output odd antisymmetric c long tape src d i = window_value odd antisymmetric c (take (suc long) (drop i (take long tape ++ unwrap_or src d)))
 
-module _ (centre minus : Bool) (c : List Float) (long : ℕ) (tape : List Float) (src : Option (List Float)) (d e : List Float) (end : ℕ)
+module _ (odd antisymmetric : Bool) (c : List Float) (long : ℕ) (tape : List Float) (src : Option (List Float)) (d e : List Float) (end : ℕ)
     (b : (1 ≤ length c) × (length c ≤ long) × (long + min (length d) (long + 16) ≤ length tape) × (long + 32 ≤ length tape) × (16 ≤ length d)) (on : OnTape long tape (unwrap_or src d) (length d))
-    (w : Written (output centre minus c long tape src d) d e end) where
+    (w : Written (output odd antisymmetric c long tape src d) d e end) where
   abbrev g : ℕ → Float
-  g = output centre minus c long tape src d
+  g = output odd antisymmetric c long tape src d
 
   source : (s : List Float) → src ≡ Some s → s ≡ unwrap_or src d
   source s q = sym (ap (λ (o : Option (List Float)). unwrap_or o d) q)
@@ -201,43 +201,43 @@ module _ (centre minus : Bool) (c : List Float) (long : ℕ) (tape : List Float)
         omega (arith, start_is, ap length line_is, fit)
 
     -- and its outputs are written
-    pub group_written : (y part : List Float) → y ≡ window_values centre minus c long (drop start line) 16 → part ≡ put_in_front y (take (end - (end - 16)) (drop (end - 16) e))
+    pub group_written : (y part : List Float) → y ≡ window_values odd antisymmetric c long (drop start line) 16 → part ≡ put_in_front y (take (end - (end - 16)) (drop (end - 16) e))
         → Written g d (take (end - 16) e ++ (part ++ drop (end - (end - 16)) (drop (end - 16) e))) (end - 16)
     group_written y part q p =
-        group_back g d e end w y part (end - 16) (omega arith) (omega (arith, whole, ap length q, values_long centre minus c long (drop start line) 16))
+        group_back g d e end w y part (end - 16) (omega arith) (omega (arith, whole, ap length q, values_long odd antisymmetric c long (drop start line) 16))
         (λ k i. ap (λ (l : List Float). get_or l k nan) q
-        ∙ output_at centre minus c long line 16 start k (omega (arith, i, whole))
-        ∙ ap (centred_value centre minus c)
+        ∙ output_at odd antisymmetric c long line 16 start k (omega (arith, i, whole))
+        ∙ ap (window_value odd antisymmetric c)
         (ap₂ {C = List Float} (λ (f : ℕ) (l : List Float). take (suc long) (drop (f + k) l)) start_is line_is
         ∙ group_window long tape (unwrap_or src d) (length d) b.2 on (ltb (end - 16) long) src (end - 16) end e refl refl whole w.most source unwritten (back_long g d e end w) k i))
         p
 
   -- and those in front
-  pub few_written : (part : List Float) → (let k = min (length d) 32 in take k (drop long tape) ≡ take k (unwrap_or src d)) → end < 32 → part ≡ window_values centre minus c long tape (length (take end e))
-      → part ++ drop end e ≡ window_values centre minus c long (take long tape ++ unwrap_or src d) (length d)
+  pub few_written : (part : List Float) → (let k = min (length d) 32 in take k (drop long tape) ≡ take k (unwrap_or src d)) → end < 32 → part ≡ window_values odd antisymmetric c long tape (length (take end e))
+      → part ++ drop end e ≡ window_values odd antisymmetric c long (take long tape ++ unwrap_or src d) (length d)
   unfolding window_values
   few_written part ahead few p =
       let n : length (take end e) ≡ end = length-take-le end e (omega (arith, w.most, back_long g d e end w)) in
       all_back g d e end w part
       (p
-      ∙ ap (window_values centre minus c long tape) n
-      ∙ few_values long tape (unwrap_or src d) (min (length d) 32) (omega (arith, b)) (omega (arith, on.all)) ahead centre minus c end (omega (arith, w.most, few)))
+      ∙ ap (window_values odd antisymmetric c long tape) n
+      ∙ few_values long tape (unwrap_or src d) (min (length d) 32) (omega (arith, b)) (omega (arith, on.all)) ahead odd antisymmetric c end (omega (arith, w.most, few)))
 
 -- ---- the outputs of `groups_back`, along one line
 abbrev pub output_along : Bool → Bool → List Float → ℕ → List Float → ℕ → Float
-output_along centre minus c long line i = centred_value centre minus c (take (suc long) (drop i line))
+output_along odd antisymmetric c long line i = window_value odd antisymmetric c (take (suc long) (drop i line))
 
-module _ (centre minus : Bool) (c : List Float) (long : ℕ) (line d e : List Float) (end : ℕ) (w : Written (output_along centre minus c long line) d e end) where
+module _ (odd antisymmetric : Bool) (c : List Float) (long : ℕ) (line d e : List Float) (end : ℕ) (w : Written (output_along odd antisymmetric c long line) d e end) where
   -- the group before `end` is written
-  pub group_along : 16 ≤ end → (y part : List Float) → y ≡ window_values centre minus c long (drop (end - 16) line) 16 → part ≡ put_in_front y (take (end - (end - 16)) (drop (end - 16) e))
-      → Written (output_along centre minus c long line) d (take (end - 16) e ++ (part ++ drop (end - (end - 16)) (drop (end - 16) e))) (end - 16)
+  pub group_along : 16 ≤ end → (y part : List Float) → y ≡ window_values odd antisymmetric c long (drop (end - 16) line) 16 → part ≡ put_in_front y (take (end - (end - 16)) (drop (end - 16) e))
+      → Written (output_along odd antisymmetric c long line) d (take (end - 16) e ++ (part ++ drop (end - (end - 16)) (drop (end - 16) e))) (end - 16)
   group_along whole y part q p =
-      group_back (output_along centre minus c long line) d e end w y part (end - 16) (omega arith) (omega (arith, whole, ap length q, values_long centre minus c long (drop (end - 16) line) 16))
-      (λ k i. ap (λ (l : List Float). get_or l k nan) q ∙ output_at centre minus c long line 16 (end - 16) k (omega (arith, i, whole))) p
+      group_back (output_along odd antisymmetric c long line) d e end w y part (end - 16) (omega arith) (omega (arith, whole, ap length q, values_long odd antisymmetric c long (drop (end - 16) line) 16))
+      (λ k i. ap (λ (l : List Float). get_or l k nan) q ∙ output_at odd antisymmetric c long line 16 (end - 16) k (omega (arith, i, whole))) p
 
   -- and those in front
-  pub all_along : (part : List Float) → part ≡ window_values centre minus c long line (length (take end e)) → part ++ drop end e ≡ window_values centre minus c long line (length d)
+  pub all_along : (part : List Float) → part ≡ window_values odd antisymmetric c long line (length (take end e)) → part ++ drop end e ≡ window_values odd antisymmetric c long line (length d)
   unfolding window_values
   all_along part p =
-      all_back (output_along centre minus c long line) d e end w part
-      (p ∙ ap (window_values centre minus c long line) (length-take-le end e (omega (arith, w.most, back_long (output_along centre minus c long line) d e end w))))
+      all_back (output_along odd antisymmetric c long line) d e end w part
+      (p ∙ ap (window_values odd antisymmetric c long line) (length-take-le end e (omega (arith, w.most, back_long (output_along odd antisymmetric c long line) d e end w))))

@@ -6,11 +6,11 @@ use Prim.Native.Nat.{ℕ, ◌+◌, ◌-◌, ◌≤◌, ◌<◌}
 use native.Mathlib.Numerals.{add-one}
 use native.Mathlib.Omega.{arith}
 use lib.ListN.{length, get_or, get_or-append, take, length-append}
-use lib.Seq.{get_or_at, get_or-take, take-suc}
+use lib.Seq.{get_or_at, take-suc}
 use lib.Ieee.{Float, nan, binary32, add, mul}
 use Rattle.float.specs.F32.{zero32}
 use Rattle.linear_phase.specs.LinearPhase.{pair}
-use Rattle.linear_phase.specs.Windows.{window_acc, has_centre, centred_value, window_value}
+use Rattle.linear_phase.specs.Windows.{window_acc, has_centre, window_value}
 
 module _ (d : List Float) (x : Float) where
   abbrev window : List Float
@@ -51,28 +51,13 @@ centre_odd false antisymmetric e = absurd (true≢false (sym e))
 
 pub value_centre : (odd antisymmetric : Bool) (c w : List Float) → has_centre odd antisymmetric ≡ true
     → add binary32 (window_acc antisymmetric c w (length c)) (get_or w (length c) nan) ≡ window_value odd antisymmetric c w
-unfolding window_value centred_value
+unfolding window_value
 value_centre odd antisymmetric c w e = rw e
 
 pub value_plain : (odd antisymmetric : Bool) (c w : List Float) → has_centre odd antisymmetric ≡ false → window_acc antisymmetric c w (length c) ≡ window_value odd antisymmetric c w
-unfolding window_value centred_value
+unfolding window_value
 value_plain odd antisymmetric c w e = rw e
 
--- ---- the window in front of a line
-front_window : (line : List Float) (long : ℕ) → long < length line → take long line ++ (get_or line long nan ∷ []) ≡ take (long + 1) line
+-- the window in front of a line
+pub front_window : (line : List Float) (long : ℕ) → long < length line → take long line ++ (get_or line long nan ∷ []) ≡ take (long + 1) line
 front_window line long h = sym (take-suc line long nan h) ∙ ap (λ (k : ℕ). take k line) (sym (add-one long))
-
-module _ (antisymmetric : Bool) (c line : List Float) (long : ℕ) (room : long < length line) (y : Float)
-    (sum : y ≡ window_acc antisymmetric c (take long line ++ (get_or line long nan ∷ [])) (length c)) where
-  all_pairs : y ≡ window_acc antisymmetric c (take (long + 1) line) (length c)
-  all_pairs = sum ∙ ap (λ (w : List Float). window_acc antisymmetric c w (length c)) (front_window line long room)
-
-  pub front_plain : (centre : Bool) → centre ≡ false → y ≡ centred_value centre antisymmetric c (take (long + 1) line)
-  unfolding centred_value
-  front_plain true e = absurd (true≢false e)
-  front_plain false e = all_pairs
-
-  pub front_centred : (centre : Bool) → centre ≡ true → length c ≤ long → add binary32 y (get_or line (length c) nan) ≡ centred_value centre antisymmetric c (take (long + 1) line)
-  unfolding centred_value
-  front_centred true e h = ap₂ {C = Float} (add binary32) all_pairs (sym (get_or-take (long + 1) line (length c) nan (omega arith)))
-  front_centred false e h = absurd (true≢false (sym e))

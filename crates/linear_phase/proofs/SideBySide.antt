@@ -1,6 +1,6 @@
 -- Sums side by side: each keeps its own order, so a pair or a centre more for all of them is one more for each.
 use mathlib.Core.Path.{◌≡◌, refl, sym, ap, ap₂, ◌∙◌}
-use mathlib.Core.Bool.{Bool, true, false}
+use mathlib.Core.Bool.{Bool, true, false, cond}
 use mathlib.Core.List.{List, [], ◌∷◌, ◌++◌, append-nil}
 use Prim.Native.Nat.{ℕ, zero, suc, ◌+◌, ◌-◌, ◌≤◌, ◌<◌}
 use native.Mathlib.Decide.{dec_lt}
@@ -15,7 +15,7 @@ use Rattle.theory.proofs.Listed.{length_listed}
 use Rattle.q15.proofs.Filling.{Filled, listed_ext}
 use Rattle.float.specs.F32.{zero32}
 use Rattle.linear_phase.specs.LinearPhase.{pair}
-use Rattle.linear_phase.specs.Windows.{window_acc, centred_value, window_sums, pairs_onto, pairs_added, no_sums, centres_added, window_values}
+use Rattle.linear_phase.specs.Windows.{window_acc, has_centre, window_value, window_sums, pairs_onto, pairs_added, no_sums, centres_added, window_values}
 
 -- the k-th of n
 listed_at : {B : Type 0} (z : B) (n : ℕ) (g : ℕ → B) (k : ℕ) → k < n → get_or (listed n g) k z ≡ g k
@@ -93,17 +93,23 @@ module _ (long : ℕ) (line : List Float) (n : ℕ) (room : long + n ≤ length 
       sum i = window_acc antisymmetric c (take (suc long) (drop i line)) t
 
   -- no centre
-  pub values_plain : (antisymmetric : Bool) (c : List Float) → window_sums antisymmetric c long line n (length c) ≡ window_values false antisymmetric c long line n
-  unfolding window_sums window_values centred_value
-  values_plain antisymmetric c = refl
+  pub values_plain : (odd antisymmetric : Bool) (c : List Float) → has_centre odd antisymmetric ≡ false
+      → window_sums antisymmetric c long line n (length c) ≡ window_values odd antisymmetric c long line n
+  unfolding window_sums window_values window_value
+  values_plain odd antisymmetric c e =
+      ap (λ (b : Bool). listed n (λ i. cond b (add binary32 (sum i) (get_or (window i) (length c) nan)) (sum i))) (sym e)
+    where
+      sum : ℕ → Float
+      sum i = window_acc antisymmetric c (take (suc long) (drop i line)) (length c)
 
   -- the centre
-  pub values_centred : (antisymmetric : Bool) (c : List Float) → length c ≤ long
-      → centres_added (drop (length c) line) (window_sums antisymmetric c long line n (length c)) ≡ window_values true antisymmetric c long line n
-  unfolding centres_added window_sums window_values centred_value
-  values_centred antisymmetric c h =
+  pub values_centred : (odd antisymmetric : Bool) (c : List Float) → has_centre odd antisymmetric ≡ true → length c ≤ long
+      → centres_added (drop (length c) line) (window_sums antisymmetric c long line n (length c)) ≡ window_values odd antisymmetric c long line n
+  unfolding centres_added window_sums window_values window_value
+  values_centred odd antisymmetric c e h =
       ap (λ (m : ℕ). listed m one) (length_listed n sum)
       ∙ listed_ext n one (λ i. add binary32 (sum i) (get_or (window i) (length c) nan)) (λ i l. ap₂ {C = Float} (add binary32) (listed_at nan n sum i l) (sym (window_place i (length c) h)))
+      ∙ ap (λ (b : Bool). listed n (λ i. cond b (add binary32 (sum i) (get_or (window i) (length c) nan)) (sum i))) (sym e)
     where
       sum : ℕ → Float
       sum i = window_acc antisymmetric c (take (suc long) (drop i line)) (length c)
@@ -124,16 +130,16 @@ pub rest : {A : Type 0} (l : List A) (k : ℕ) → take (length l - k) (drop k l
 rest l k = take_all (length l - k) (drop k l) (omega (arith, length-drop k l))
 
 -- the k-th output along a line from place i on
-pub output_at : (centre antisymmetric : Bool) (c : List Float) (long : ℕ) (line : List Float) (n i k : ℕ) → k < n
-    → get_or (window_values centre antisymmetric c long (drop i line) n) k nan ≡ centred_value centre antisymmetric c (take (suc long) (drop (i + k) line))
+pub output_at : (odd antisymmetric : Bool) (c : List Float) (long : ℕ) (line : List Float) (n i k : ℕ) → k < n
+    → get_or (window_values odd antisymmetric c long (drop i line) n) k nan ≡ window_value odd antisymmetric c (take (suc long) (drop (i + k) line))
 unfolding window_values
-output_at centre antisymmetric c long line n i k h =
-    listed_at nan n (λ j. centred_value centre antisymmetric c (take (suc long) (drop j (drop i line)))) k h
-    ∙ ap (λ (l : List Float). centred_value centre antisymmetric c (take (suc long) l)) (drop-drop k i line)
+output_at odd antisymmetric c long line n i k h =
+    listed_at nan n (λ j. window_value odd antisymmetric c (take (suc long) (drop j (drop i line)))) k h
+    ∙ ap (λ (l : List Float). window_value odd antisymmetric c (take (suc long) l)) (drop-drop k i line)
 
-pub values_long : (centre antisymmetric : Bool) (c : List Float) (long : ℕ) (line : List Float) (n : ℕ) → length (window_values centre antisymmetric c long line n) ≡ n
+pub values_long : (odd antisymmetric : Bool) (c : List Float) (long : ℕ) (line : List Float) (n : ℕ) → length (window_values odd antisymmetric c long line n) ≡ n
 unfolding window_values
-values_long centre antisymmetric c long line n = length_listed n (λ i. centred_value centre antisymmetric c (take (suc long) (drop i line)))
+values_long odd antisymmetric c long line n = length_listed n (λ i. window_value odd antisymmetric c (take (suc long) (drop i line)))
 
 -- an array of zeros, of any length, holds sums with no pair
 pub zero_sums : (n : ℕ) → replicate n zero32 ≡ no_sums (length (replicate n zero32))

@@ -14,7 +14,7 @@ use Rattle.float.proofs.Laid.{delay_in_front, samples_behind, tape_last}
 use Rattle.half_band.specs.Windows.{slid}
 use Rattle.half_band.proofs.Blocks.{outs_length}
 use Rattle.half_band.proofs.Moving.{length_slid}
-use Rattle.linear_phase.specs.Windows.{has_centre, centred_value, window_value, window_values, linear_phase, OnTape, InRow}
+use Rattle.linear_phase.specs.Windows.{window_value, window_values, linear_phase, OnTape, InRow}
 use Rattle.linear_phase.proofs.SideBySide.{rest, values_long}
 use Rattle.linear_phase.proofs.Groups.{values_part, values_front}
 
@@ -55,7 +55,7 @@ module _ (odd antisymmetric : Bool) (c : List Float) where
       ∙ ap (λ (t : List Float). window_value odd antisymmetric c (take (suc (length d)) t)) (dropped i (d ++ (x ∷ v)))
 
   -- all of them
-  pub values_on : (v d : List Float) → 1 ≤ length d → window_values (has_centre odd antisymmetric) antisymmetric c (length d) (d ++ v) (length v) ≡ outs f d v
+  pub values_on : (v d : List Float) → 1 ≤ length d → window_values odd antisymmetric c (length d) (d ++ v) (length v) ≡ outs f d v
   unfolding window_values window_value
   values_on v d h =
       listed_ext (length v) (λ i. window_value odd antisymmetric c (take (suc (length d)) (drop i (d ++ v)))) (λ i. get_or (outs f d v) i nan) (λ i l. sym (value_on v i d h l))
@@ -70,13 +70,13 @@ pub next_of : (odd antisymmetric : Bool) (c d : List Float) {v samples next : Li
     → next ≡ state (linear_phase odd antisymmetric c) d v
 next_of odd antisymmetric c d {v} {samples} e some q = q ∙ ap (λ (l : List Float). drop (length l) (d ++ l)) e ∙ sym (state_on odd antisymmetric c v d some)
 
-pub outs_of : (odd antisymmetric : Bool) (c v tape : List Float) {centre : Bool} {d y : List Float} {long n : ℕ} → centre ≡ has_centre odd antisymmetric → long ≡ length d → length v ≡ n → 1 ≤ length d
-    → take (length d) tape ≡ d → y ≡ window_values centre antisymmetric c long (take long tape ++ v) n → y ≡ outs (linear_phase odd antisymmetric c) d v
-outs_of odd antisymmetric c v tape {centre} {d} {y} {long} {n} b e l some front q =
+pub outs_of : (odd antisymmetric : Bool) (c v tape : List Float) {d y : List Float} {long n : ℕ} → long ≡ length d → length v ≡ n → 1 ≤ length d
+    → take (length d) tape ≡ d → y ≡ window_values odd antisymmetric c long (take long tape ++ v) n → y ≡ outs (linear_phase odd antisymmetric c) d v
+outs_of odd antisymmetric c v tape {d} {y} {long} {n} e l some front q =
     q
-    ∙ ap (λ (k : ℕ). window_values centre antisymmetric c k (take k tape ++ v) n) e
-    ∙ ap (λ (t : List Float). window_values centre antisymmetric c (length d) (t ++ v) n) front
-    ∙ ap₂ {C = List Float} (λ (k : Bool) (m : ℕ). window_values k antisymmetric c (length d) (d ++ v) m) b (sym l)
+    ∙ ap (λ (k : ℕ). window_values odd antisymmetric c k (take k tape ++ v) n) e
+    ∙ ap (λ (t : List Float). window_values odd antisymmetric c (length d) (t ++ v) n) front
+    ∙ ap (λ (m : ℕ). window_values odd antisymmetric c (length d) (d ++ v) m) (sym l)
     ∙ values_on odd antisymmetric c v d some
 
 -- delay and first samples stand on a tape
@@ -104,24 +104,24 @@ taken_from l m k s h g =
     ∙ ap (λ (z : List Float). take s (drop k z)) (take-append-drop m l)
 
 -- outputs at windows that two lines share
-pub same_values : (centre minus : Bool) (c : List Float) (long n : ℕ) (a b : List Float) → long + n ≤ length a → long + n ≤ length b → take (long + n) a ≡ take (long + n) b
-    → window_values centre minus c long a n ≡ window_values centre minus c long b n
+pub same_values : (odd antisymmetric : Bool) (c : List Float) (long n : ℕ) (a b : List Float) → long + n ≤ length a → long + n ≤ length b → take (long + n) a ≡ take (long + n) b
+    → window_values odd antisymmetric c long a n ≡ window_values odd antisymmetric c long b n
 unfolding window_values
-same_values centre minus c long n a b la lb e =
-    listed_ext n (λ i. centred_value centre minus c (take (suc long) (drop i a))) (λ i. centred_value centre minus c (take (suc long) (drop i b)))
-    (λ i l. ap (centred_value centre minus c)
+same_values odd antisymmetric c long n a b la lb e =
+    listed_ext n (λ i. window_value odd antisymmetric c (take (suc long) (drop i a))) (λ i. window_value odd antisymmetric c (take (suc long) (drop i b)))
+    (λ i l. ap (window_value odd antisymmetric c)
     (sym (taken_from a (long + n) i (suc long) (omega arith) la)
     ∙ ap (λ (z : List Float). take (suc long) (drop i z)) e
     ∙ taken_from b (long + n) i (suc long) (omega arith) lb))
 
 -- delay and all samples stand on a tape
-pub few_of : (odd antisymmetric : Bool) (c d v tape : List Float) {centre : Bool} {y : List Float} {long n : ℕ} → centre ≡ has_centre odd antisymmetric → long ≡ length d → length v ≡ n
-    → 1 ≤ length d → length d + length v ≤ length tape → take (length d + length v) tape ≡ d ++ v → y ≡ window_values centre antisymmetric c long tape n → y ≡ outs (linear_phase odd antisymmetric c) d v
-few_of odd antisymmetric c d v tape {centre} {y} {long} {n} b e l some room whole q =
+pub few_of : (odd antisymmetric : Bool) (c d v tape : List Float) {y : List Float} {long n : ℕ} → long ≡ length d → length v ≡ n
+    → 1 ≤ length d → length d + length v ≤ length tape → take (length d + length v) tape ≡ d ++ v → y ≡ window_values odd antisymmetric c long tape n → y ≡ outs (linear_phase odd antisymmetric c) d v
+few_of odd antisymmetric c d v tape {y} {long} {n} e l some room whole q =
     q
-    ∙ ap (λ (k : ℕ). window_values centre antisymmetric c k tape n) e
-    ∙ ap₂ {C = List Float} (λ (k : Bool) (m : ℕ). window_values k antisymmetric c (length d) tape m) b (sym l)
-    ∙ same_values (has_centre odd antisymmetric) antisymmetric c (length d) (length v) tape (d ++ v) room (omega (arith, length-append d v))
+    ∙ ap (λ (k : ℕ). window_values odd antisymmetric c k tape n) e
+    ∙ ap (λ (m : ℕ). window_values odd antisymmetric c (length d) tape m) (sym l)
+    ∙ same_values odd antisymmetric c (length d) (length v) tape (d ++ v) room (omega (arith, length-append d v))
     (whole ∙ sym (take_all (length d + length v) (d ++ v) (omega (arith, length-append d v))))
     ∙ values_on odd antisymmetric c v d some
 
@@ -138,35 +138,35 @@ long_behind t p k n h e =
     ∙ omega (arith, h, e, length-take-le k t (omega arith), length-append p (drop n (drop k t)), length-drop n (drop k t), length-drop k t)
 
 -- the first outputs on a tape of the delay and the first samples, and the others along the samples
-pub straight_outs : (odd antisymmetric : Bool) (c d v tape : List Float) {centre : Bool} {h r : List Float} {long : ℕ} → centre ≡ has_centre odd antisymmetric → long ≡ length d → 1 ≤ length d
-    → length d ≤ length v → length d + length d ≤ length tape → take (length d + length d) tape ≡ d ++ take (length d) v → h ≡ window_values centre antisymmetric c long tape long
-    → r ≡ window_values centre antisymmetric c long v (length v - long) → h ++ r ≡ outs (linear_phase odd antisymmetric c) d v
-straight_outs odd antisymmetric c d v tape {centre} {h} {r} {long} b e some fits room whole eh er =
+pub straight_outs : (odd antisymmetric : Bool) (c d v tape : List Float) {h r : List Float} {long : ℕ} → long ≡ length d → 1 ≤ length d
+    → length d ≤ length v → length d + length d ≤ length tape → take (length d + length d) tape ≡ d ++ take (length d) v → h ≡ window_values odd antisymmetric c long tape long
+    → r ≡ window_values odd antisymmetric c long v (length v - long) → h ++ r ≡ outs (linear_phase odd antisymmetric c) d v
+straight_outs odd antisymmetric c d v tape {h} {r} {long} e some fits room whole eh er =
     ap₂ {C = List Float} ◌++◌ head others
     ∙ sym (take-add (length d) (length v - length d) all)
     ∙ ap (λ (k : ℕ). take k all) (count (length d) (length v) fits)
-    ∙ take_all (length v) all (omega (arith, values_long (has_centre odd antisymmetric) antisymmetric c (length d) (d ++ v) (length v)))
+    ∙ take_all (length v) all (omega (arith, values_long odd antisymmetric c (length d) (d ++ v) (length v)))
     ∙ values_on odd antisymmetric c v d some
   where
     all : List Float
-    all = window_values (has_centre odd antisymmetric) antisymmetric c (length d) (d ++ v) (length v)
+    all = window_values odd antisymmetric c (length d) (d ++ v) (length v)
 
     count : (k n : ℕ) → k ≤ n → k + (n - k) ≡ n
     count k n h = omega arith
 
-    head : h ≡ take (length d) (window_values (has_centre odd antisymmetric) antisymmetric c (length d) (d ++ v) (length v))
+    head : h ≡ take (length d) (window_values odd antisymmetric c (length d) (d ++ v) (length v))
     head =
         eh
-        ∙ ap₂ {C = List Float} (λ (k : ℕ) (a : Bool). window_values a antisymmetric c k tape k) e b
-        ∙ same_values (has_centre odd antisymmetric) antisymmetric c (length d) (length d) tape (d ++ v) room (omega (arith, length-append d v)) (whole ∙ sym (take-append-add d v (length d)))
-        ∙ values_front (has_centre odd antisymmetric) antisymmetric c (length d) (d ++ v) (length v) (length d) fits
+        ∙ ap (λ (k : ℕ). window_values odd antisymmetric c k tape k) e
+        ∙ same_values odd antisymmetric c (length d) (length d) tape (d ++ v) room (omega (arith, length-append d v)) (whole ∙ sym (take-append-add d v (length d)))
+        ∙ values_front odd antisymmetric c (length d) (d ++ v) (length v) (length d) fits
 
-    others : r ≡ take (length v - length d) (drop (length d) (window_values (has_centre odd antisymmetric) antisymmetric c (length d) (d ++ v) (length v)))
+    others : r ≡ take (length v - length d) (drop (length d) (window_values odd antisymmetric c (length d) (d ++ v) (length v)))
     others =
         er
-        ∙ ap₂ {C = List Float} (λ (k : ℕ) (a : Bool). window_values a antisymmetric c k v (length v - k)) e b
-        ∙ ap (λ (l : List Float). window_values (has_centre odd antisymmetric) antisymmetric c (length d) l (length v - length d)) (sym (drop_at d v (length d) refl))
-        ∙ values_part (has_centre odd antisymmetric) antisymmetric c (length d) (d ++ v) (length v) (length d) (length v - length d) (omega arith)
+        ∙ ap (λ (k : ℕ). window_values odd antisymmetric c k v (length v - k)) e
+        ∙ ap (λ (l : List Float). window_values odd antisymmetric c (length d) l (length v - length d)) (sym (drop_at d v (length d) refl))
+        ∙ values_part odd antisymmetric c (length d) (d ++ v) (length v) (length d) (length v - length d) (omega arith)
 
 -- that tape: so many places of zeros, over which the delay was put, and then the first samples behind it
 pub straight_tape : (d v p q zeros : List Float) (k : ℕ) → length d ≡ k → k + k ≤ length zeros → k ≤ length v → p ≡ d → q ≡ take k v

@@ -21,7 +21,7 @@ use Rattle.half_band.proofs.Earlier.{earlier_same, last_of, length_last_of, slid
 use Rattle.q15.proofs.Filling.{listed_ext}
 use Rattle.half_band.proofs.WholeLists.{every_value}
 use Rattle.linear_phase.specs.LinearPhase.{reach, pair, phase_acc, phase_output, phase_filtered}
-use Rattle.linear_phase.specs.Windows.{window_acc, centred_value, has_centre, window_value, linear_phase}
+use Rattle.linear_phase.specs.Windows.{window_acc, has_centre, window_value, linear_phase}
 use Rattle.linear_phase.specs.LinearPhaseFir.{block_outs}
 
 -- the state after u, and one sample more, is the window of the last samples
@@ -40,15 +40,6 @@ pub reaches : (odd : Bool) (M : ℕ) → 1 ≤ M → Reaches M (reach odd M)
 unfolding reach
 reaches true M h = record { least = omega arith; most = omega arith }
 reaches false M h = record { least = omega arith; most = omega arith }
-
--- with a half inside 02's limits
-pub record Within (M L : ℕ) : Type 0 where
-  pub some : 1 ≤ L
-  pub least : M ≤ L
-  pub most : L ≤ 46
-
-pub within : (odd : Bool) {M L : ℕ} → (1 ≤ M) × (M ≤ 23) × (L ≡ reach odd M) → Within M L
-within odd {M} {L} h = let r = reaches odd M h.0 in record { some = omega (arith, r.least, h); least = omega (arith, r.least, h); most = omega (arith, r.most, h) }
 
 pub reach_odd : (odd : Bool) (M : ℕ) → odd ≡ true → reach odd M ≡ 2 * M
 unfolding reach
@@ -89,7 +80,7 @@ module _ (odd antisymmetric : Bool) (c : List Float) (some_taps : 1 ≤ length c
       both false b h = h
 
   value : (w : List Float) (n : ℕ) → n + 1 ≤ length w → window_value odd antisymmetric c (last_of (suc L) (take (n + 1) w)) ≡ phase_output odd antisymmetric c w n
-  unfolding window_value centred_value has_centre phase_output
+  unfolding window_value has_centre phase_output
   value w n l = pick (odd && not antisymmetric) (acc w n (length c) (le_refl (length c)) l) (centre w n l)
     where
       pick : (b : Bool) {x y u v : Float} → x ≡ y → (b ≡ true → u ≡ v) → cond b (add binary32 x u) x ≡ cond b (add binary32 y v) y

@@ -14,17 +14,14 @@ window_acc antisymmetric c w zero = zero32
 window_acc antisymmetric c w (suc t) =
     add binary32 (window_acc antisymmetric c w t) (mul binary32 (pair antisymmetric (get_or w (length w - 1 - t) nan) (get_or w t nan)) (get_or c t nan))
 
--- the output: the centre is added last, where there is one
-unfoldable pub centred_value : Bool → Bool → List Float → List Float → Float
-centred_value centre antisymmetric c w =
-    cond centre (add binary32 (window_acc antisymmetric c w (length c)) (get_or w (length c) nan)) (window_acc antisymmetric c w (length c))
-
 -- "odd symmetric adds the centre sample"
 unfoldable pub has_centre : Bool → Bool → Bool
 has_centre odd antisymmetric = odd && not antisymmetric
 
+-- the output: the centre is added last, where there is one
 unfoldable pub window_value : Bool → Bool → List Float → List Float → Float
-window_value odd antisymmetric c w = centred_value (has_centre odd antisymmetric) antisymmetric c w
+window_value odd antisymmetric c w =
+    cond (has_centre odd antisymmetric) (add binary32 (window_acc antisymmetric c w (length c)) (get_or w (length c) nan)) (window_acc antisymmetric c w (length c))
 
 -- ---- along a line of samples, the window from each place on
 
@@ -49,7 +46,7 @@ centres_added centres sums = listed (length sums) (λ i. add binary32 (get_or su
 
 -- so many outputs
 unfoldable pub window_values : Bool → Bool → List Float → ℕ → List Float → ℕ → List Float
-window_values centre antisymmetric c long line n = listed n (λ i. centred_value centre antisymmetric c (take (suc long) (drop i line)))
+window_values odd antisymmetric c long line n = listed n (λ i. window_value odd antisymmetric c (take (suc long) (drop i line)))
 
 -- outputs put into a span from its front, as many as it has places for
 unfoldable pub put_in_front : List Float → List Float → List Float

@@ -5,7 +5,9 @@ ghost use Rattle.half_band.specs.Windows.{slid};
 ghost use Rattle.linear_phase.specs.LinearPhase as P;
 ghost use Rattle.linear_phase.specs.Windows as W;
 
-use crate::kinds::Kind;
+use crate::kinds::{Folded, Kind};
+use crate::lent::Half;
+use crate::limits::{LINEAR_PHASE_DELAYS, MOST_LINEAR_PHASE_TAPS};
 use crate::one::value_with;
 
 // The longest delay of four taps.
@@ -18,7 +20,8 @@ pub(crate) fn is_brief(m: usize, n: usize) -> bool
     m <= 3 || m <= 4 && n <= 4
 }
 
-// The delay moves down by one place, and x stands at its end. It goes from the end on: the other way would be a copy in memory to the compiler.
+// The delay moves down by one place, and x stands at its end. It goes from the end on: the other way would be a copy in memory to the compiler. By the number: with
+// `iter_mut` turned round a proof sees an iterator in place of the places.
 fn push(delay: &mut [f32], x: f32)
     requires { 1 ≤ length delay.old }
     ensures { delay.new ≡ slid delay.old (x ∷ []) }
@@ -31,74 +34,85 @@ fn push(delay: &mut [f32], x: f32)
     }
 }
 
-// Sample by sample, an output of each into the span. It is stored last: before the delay moves, with one tap it costs 7.0 instructions a sample of a long block for 2.5.
-fn each(delay: &mut [f32], taps: &[f32], kind: Kind, src: &[f32], span: &mut [f32])
-    requires { (1 ≤ length taps.now) × (length delay.old ≡ P.reach kind.odd (length taps.now)) × (length span.old ≡ length src.now) }
-    ensures delay { delay.new ≡ state (W.linear_phase kind.odd kind.antisymmetric taps.now) delay.old src.now }
-    ensures span { span.new ≡ outs (W.linear_phase kind.odd kind.antisymmetric taps.now) delay.old src.now }
+// Sample by sample, an output of each into the span, whose number reads the samples (as in `add_pairs`). It is stored last: before the delay moves, with one tap it costs 7.0 instructions a sample of a long block for 2.5.
+#[inline(always)]
+fn each(delay: &mut [f32], fir: Folded<'_>, src: &[f32], span: &mut [f32])
+    requires { (length delay.old ≡ fir.long) × (length span.old ≡ length src.now) }
+    ensures delay { delay.new ≡ state (W.linear_phase fir.entry.kind.odd fir.entry.kind.antisymmetric fir.entry.taps.now) delay.old src.now }
+    ensures span { span.new ≡ outs (W.linear_phase fir.entry.kind.odd fir.entry.kind.antisymmetric fir.entry.taps.now) delay.old src.now }
 {
     for (i, place) in span.iter_mut().enumerate() {
         let x = src[i];
-        let y = value_with(delay, taps, kind, x);
+        let y = value_with(delay, fir, x);
         push(delay, x);
         *place = y;
     }
 }
 
-// The same through M taps and the delay, both in front of the lent ones, a copy of the loop for each M and each parity. The delay moves in an array of this function: no
+// The same through M taps and the delay in front of the lent one, a copy of the loop for each M and each kind. The delay moves in an array of this function: no
 // store to the span can be one to it.
-fn held<const M: usize, const ODD: bool>(
-    antisymmetric: bool,
+fn held<const M: usize, const ODD: bool, const MINUS: bool>(
     taps: &[f32],
-    delay: &mut [f32],
+    delay: &mut [f32; LINEAR_PHASE_DELAYS],
     src: &[f32],
     span: &mut [f32],
 )
-    requires { (1 ≤ M) × (M ≤ 4) × (length taps.now ≡ 23) × (length delay.old ≡ 46) × (length span.old ≡ length src.now) }
-    ensures delay { let next = state (W.linear_phase ODD antisymmetric (take M taps.now)) (take (P.reach ODD M) delay.old) src.now in
-        delay.new ≡ next ++ drop (P.reach ODD M) delay.old }
-    ensures span { span.new ≡ outs (W.linear_phase ODD antisymmetric (take M taps.now)) (take (P.reach ODD M) delay.old) src.now }
+    requires { (M ≡ length taps.now) × (1 ≤ M) × (M ≤ 4) × (length span.old ≡ length src.now) }
+    ensures delay { let next = state (W.linear_phase ODD MINUS taps.now) (take (P.reach ODD (length taps.now)) delay.old) src.now in
+        delay.new ≡ next ++ drop (P.reach ODD (length taps.now)) delay.old }
+    ensures span { span.new ≡ outs (W.linear_phase ODD MINUS taps.now) (take (P.reach ODD (length taps.now)) delay.old) src.now }
 {
     let kind = Kind {
         odd: ODD,
-        antisymmetric,
+        antisymmetric: MINUS,
     };
-    let long = kind.reach(M);
+    let fir = Folded::of(&taps[..M], kind);
+    let long = fir.long;
     let mut window = [0.0f32; SHORT_DELAY];
     window[..long].copy_from_slice(&delay[..long]);
-    each(&mut window[..long], &taps[..M], kind, src, span);
+    each(&mut window[..long], fir, src, span);
     delay[..long].copy_from_slice(&window[..long]);
 }
 
-// A copy for each of the eight lengths.
-#[inline(never)]
-pub(crate) fn filter_brief(
-    m: usize,
-    kind: Kind,
+// A copy for each number of taps.
+fn filter_kind<const ODD: bool, const MINUS: bool>(
     taps: &[f32],
-    delay: &mut [f32],
+    delay: &mut [f32; LINEAR_PHASE_DELAYS],
     src: &[f32],
     span: &mut [f32],
 )
-    requires { (1 ≤ m) × (m ≤ 4) × (length taps.now ≡ 23) × (length delay.old ≡ 46) × (length span.old ≡ length src.now) }
-    ensures delay { let next = state (W.linear_phase kind.odd kind.antisymmetric (take m taps.now)) (take (P.reach kind.odd m) delay.old) src.now in
-        delay.new ≡ next ++ drop (P.reach kind.odd m) delay.old }
-    ensures span { span.new ≡ outs (W.linear_phase kind.odd kind.antisymmetric (take m taps.now)) (take (P.reach kind.odd m) delay.old) src.now }
+    requires { (1 ≤ length taps.now) × (length taps.now ≤ 4) × (length span.old ≡ length src.now) }
+    ensures delay { let next = state (W.linear_phase ODD MINUS taps.now) (take (P.reach ODD (length taps.now)) delay.old) src.now in
+        delay.new ≡ next ++ drop (P.reach ODD (length taps.now)) delay.old }
+    ensures span { span.new ≡ outs (W.linear_phase ODD MINUS taps.now) (take (P.reach ODD (length taps.now)) delay.old) src.now }
 {
-    let minus = kind.antisymmetric;
-    if kind.odd {
-        match m {
-            1 => held::<1, true>(minus, taps, delay, src, span),
-            2 => held::<2, true>(minus, taps, delay, src, span),
-            3 => held::<3, true>(minus, taps, delay, src, span),
-            _ => held::<4, true>(minus, taps, delay, src, span),
-        }
-    } else {
-        match m {
-            1 => held::<1, false>(minus, taps, delay, src, span),
-            2 => held::<2, false>(minus, taps, delay, src, span),
-            3 => held::<3, false>(minus, taps, delay, src, span),
-            _ => held::<4, false>(minus, taps, delay, src, span),
-        }
+    match taps.len() {
+        1 => held::<1, ODD, MINUS>(taps, delay, src, span),
+        2 => held::<2, ODD, MINUS>(taps, delay, src, span),
+        3 => held::<3, ODD, MINUS>(taps, delay, src, span),
+        _ => held::<4, ODD, MINUS>(taps, delay, src, span),
+    }
+}
+
+// A copy for each kind. Lent a half, which goes through registers: a `Folded` goes through memory, which costs a block of two samples a twelfth.
+#[inline(never)]
+pub(crate) fn filter_brief(
+    half: Half,
+    taps: &[f32; MOST_LINEAR_PHASE_TAPS],
+    delay: &mut [f32; LINEAR_PHASE_DELAYS],
+    src: &[f32],
+    span: &mut [f32],
+)
+    requires { (half.m ≤ 4) × (length span.old ≡ length src.now) }
+    ensures delay { let next = state (W.linear_phase half.kind.odd half.kind.antisymmetric (take half.m taps.now)) (take (P.reach half.kind.odd half.m) delay.old) src.now in
+        delay.new ≡ next ++ drop (P.reach half.kind.odd half.m) delay.old }
+    ensures span { span.new ≡ outs (W.linear_phase half.kind.odd half.kind.antisymmetric (take half.m taps.now)) (take (P.reach half.kind.odd half.m) delay.old) src.now }
+{
+    let taps = &taps[..half.m];
+    match (half.kind.odd, half.kind.antisymmetric) {
+        (false, false) => filter_kind::<false, false>(taps, delay, src, span),
+        (false, true) => filter_kind::<false, true>(taps, delay, src, span),
+        (true, false) => filter_kind::<true, false>(taps, delay, src, span),
+        (true, true) => filter_kind::<true, true>(taps, delay, src, span),
     }
 }

@@ -4,36 +4,33 @@ ghost use Rattle.linear_phase.specs.Windows as W;
 
 use crate::kinds::Folded;
 use crate::lanes::{outputs_at, put_group};
-use crate::one::sum_with;
+use crate::one::value_with;
 
-fn group_of<const N: usize>(tape: &[f32], fir: Folded<'_>, span: &mut [f32])
+// Of exactly so many. Inlined where it is called: a group with two callers no longer keeps its sums in registers.
+#[inline(always)]
+pub(crate) fn group_of<const N: usize>(tape: &[f32], fir: Folded<'_>, span: &mut [f32])
     requires { (fir.long + length span.old ≤ length tape.now) × (length span.old ≡ N) }
-    ensures { span.new ≡ W.window_values fir.entry.centre fir.entry.minus fir.entry.taps.now fir.entry.long tape.now (length span.old) }
+    ensures { span.new ≡ W.window_values fir.entry.kind.odd fir.entry.kind.antisymmetric fir.entry.taps.now fir.entry.long tape.now (length span.old) }
 {
     let mut y = [0.0f32; N];
     outputs_at(&mut y, tape, fir);
     put_group(span, &y);
 }
 
-// The output at the window in front of a line; the centre is added last.
+// The output at the window in front of a line.
 #[inline(always)]
 fn value_at(line: &[f32], fir: Folded<'_>) -> f32
     requires { fir.long + 1 ≤ length line.now }
-    ensures { result ≡ W.centred_value fir.entry.centre fir.entry.minus fir.entry.taps.now (take (fir.entry.long + 1) line.now) }
+    ensures { result ≡ W.window_value fir.entry.kind.odd fir.entry.kind.antisymmetric fir.entry.taps.now (take (fir.entry.long + 1) line.now) }
 {
-    let acc = sum_with(&line[..fir.long], fir.taps, fir.minus, line[fir.long]);
-    if fir.centre {
-        acc + line[fir.taps.len()]
-    } else {
-        acc
-    }
+    value_with(&line[..fir.long], fir, line[fir.long])
 }
 
-// Outputs at the windows from the front of the tape on, one by one.
+// Outputs at the windows from the front of the tape on, one by one, each by its number, where its window begins.
 #[inline(always)]
 pub(crate) fn singles(tape: &[f32], fir: Folded<'_>, span: &mut [f32])
     requires { fir.long + length span.old ≤ length tape.now }
-    ensures { span.new ≡ W.window_values fir.entry.centre fir.entry.minus fir.entry.taps.now fir.entry.long tape.now (length span.old) }
+    ensures { span.new ≡ W.window_values fir.entry.kind.odd fir.entry.kind.antisymmetric fir.entry.taps.now fir.entry.long tape.now (length span.old) }
 {
     for (i, place) in span.iter_mut().enumerate() {
         *place = value_at(&tape[i..], fir);
@@ -43,7 +40,7 @@ pub(crate) fn singles(tape: &[f32], fir: Folded<'_>, span: &mut [f32])
 // Fewer than a group.
 pub(crate) fn few_outputs(tape: &[f32], fir: Folded<'_>, span: &mut [f32])
     requires { (fir.long + length span.old ≤ length tape.now) × (length span.old ≤ 15) }
-    ensures { span.new ≡ W.window_values fir.entry.centre fir.entry.minus fir.entry.taps.now fir.entry.long tape.now (length span.old) }
+    ensures { span.new ≡ W.window_values fir.entry.kind.odd fir.entry.kind.antisymmetric fir.entry.taps.now fir.entry.long tape.now (length span.old) }
 {
     match span.len() {
         0..=2 => singles(tape, fir, span),
@@ -66,7 +63,7 @@ pub(crate) fn few_outputs(tape: &[f32], fir: Folded<'_>, span: &mut [f32])
 // About a group, and some more: what is more does not wait for the sums of a group.
 pub(crate) fn more_outputs(tape: &[f32], fir: Folded<'_>, span: &mut [f32])
     requires { (fir.long + length span.old ≤ length tape.now) × (length span.old ≤ 28) }
-    ensures { span.new ≡ W.window_values fir.entry.centre fir.entry.minus fir.entry.taps.now fir.entry.long tape.now (length span.old) }
+    ensures { span.new ≡ W.window_values fir.entry.kind.odd fir.entry.kind.antisymmetric fir.entry.taps.now fir.entry.long tape.now (length span.old) }
 {
     match span.len() {
         0..=15 => few_outputs(tape, fir, span),

@@ -1,11 +1,10 @@
 // A block of samples through a delay of the last ones, the oldest first.
 ghost use Rattle.std.specs.Prelude.{◌≡◌, true, false, ◌++◌, ◌+◌, ◌-◌, ◌*◌, ◌≤◌, ◌<◌, min, length, take, drop, unwrap_or, option_copied};
 ghost use Rattle.theory.specs.Sections.{state, outs};
-ghost use Rattle.linear_phase.specs.LinearPhase as P;
 ghost use Rattle.linear_phase.specs.Windows as W;
 
 use crate::few::few_outputs;
-use crate::kinds::{Folded, Kind};
+use crate::kinds::Folded;
 use crate::lanes::{LANES, outputs_back, put_all, samples_of};
 use crate::limits::LINEAR_PHASE_DELAYS;
 use crate::moves::{copy_few, move_past, taken};
@@ -32,28 +31,20 @@ fn last_in(delay: &mut [f32], tape: &[f32], samples: &[f32])
 
 // The lent samples, or else those of the span itself, go through the filter, and their outputs into the span.
 #[inline(never)]
-pub(crate) fn filter(
-    delay: &mut [f32],
-    taps: &[f32],
-    kind: Kind,
-    src: Option<&[f32]>,
-    span: &mut [f32],
-)
-    requires in_bounds { (1 ≤ length taps.now) × (length taps.now ≤ 23) × (length delay.old ≡ P.reach kind.odd (length taps.now)) }
-    requires many { (16 < length delay.old) × (16 ≤ length span.old) }
+pub(crate) fn filter(delay: &mut [f32], fir: Folded<'_>, src: Option<&[f32]>, span: &mut [f32])
+    requires whole { length delay.old ≡ fir.long }
+    requires many { (16 < fir.long) × (16 ≤ length span.old) }
     requires src_len { length (unwrap_or (option_copied src) span.old) ≡ length span.old }
     ensures delay { let samples = unwrap_or (option_copied src.entry) span.old in
-        delay.new ≡ state (W.linear_phase kind.odd kind.antisymmetric taps.now) delay.old samples }
+        delay.new ≡ state (W.linear_phase fir.entry.kind.odd fir.entry.kind.antisymmetric fir.entry.taps.now) delay.old samples }
     ensures span { let samples = unwrap_or (option_copied src.entry) span.old in
-        span.new ≡ outs (W.linear_phase kind.odd kind.antisymmetric taps.now) delay.old samples }
+        span.new ≡ outs (W.linear_phase fir.entry.kind.odd fir.entry.kind.antisymmetric fir.entry.taps.now) delay.old samples }
 {
-    let long = delay.len();
-    let head = span.len().min(long + LANES);
+    let head = span.len().min(fir.long + LANES);
     let samples = samples_of(src, span);
     let mut tape = [0.0f32; TAPE];
     lay(&mut tape, delay, &samples[..head]);
     last_in(delay, &tape, samples);
-    let fir = Folded::of(taps, long, kind);
     outputs_back(&tape, src, fir, span);
 }
 
@@ -86,28 +77,25 @@ fn lay_groups(tape: &mut [f32], delay: &[f32], long: usize, samples: &[f32])
 // `filter` for a delay of so many places in front of the lent ones, all of which goes to the tape in whole groups.
 #[inline(never)]
 pub(crate) fn filter_short(
-    delay: &mut [f32],
-    long: usize,
-    taps: &[f32],
-    kind: Kind,
+    delay: &mut [f32; LINEAR_PHASE_DELAYS],
+    fir: Folded<'_>,
     src: Option<&[f32]>,
     span: &mut [f32],
 )
-    requires in_bounds { (1 ≤ length taps.now) × (length taps.now ≤ 23) × (long ≡ P.reach kind.odd (length taps.now)) }
-    requires long_bound { (long ≤ 16) × (length delay.old ≡ 46) }
+    requires long_bound { fir.long ≤ 16 }
     requires src_len { (length (unwrap_or (option_copied src) span.old) ≡ length span.old) × (16 ≤ length span.old) }
     ensures delay { let samples = unwrap_or (option_copied src.entry) span.old in
-        let next = state (W.linear_phase kind.odd kind.antisymmetric taps.now) (take long delay.old) samples in
-        delay.new ≡ next ++ drop long delay.old }
+        let next = state (W.linear_phase fir.entry.kind.odd fir.entry.kind.antisymmetric fir.entry.taps.now) (take fir.entry.long delay.old) samples in
+        delay.new ≡ next ++ drop fir.entry.long delay.old }
     ensures span { let samples = unwrap_or (option_copied src.entry) span.old in
-        span.new ≡ outs (W.linear_phase kind.odd kind.antisymmetric taps.now) (take long delay.old) samples }
+        span.new ≡ outs (W.linear_phase fir.entry.kind.odd fir.entry.kind.antisymmetric fir.entry.taps.now) (take fir.entry.long delay.old) samples }
 {
+    let long = fir.long;
     let line = samples_of(src, span);
     let mut tape = [0.0f32; SHORT_TAPE];
     lay_groups(&mut tape, delay, long, line);
     let newest = line.len() - long;
     copy_few(&mut delay[..long], &line[newest..]);
-    let fir = Folded::of(taps, long, kind);
     outputs_back(&tape, src, fir, span);
 }
 
@@ -118,8 +106,8 @@ pub(crate) const WIDE: usize = 4 * LANES;
 
 // The first places of the delay, in whole groups: what the first of them has behind these is put over.
 #[inline(always)]
-fn lay_delay(tape: &mut [f32], delay: &[f32], long: usize)
-    requires { (long + 16 ≤ length tape.old) × (long ≤ 46) × (16 ≤ length tape.old) × (length delay.now ≡ 46) }
+fn lay_delay(tape: &mut [f32], delay: &[f32; LINEAR_PHASE_DELAYS], long: usize)
+    requires { (long + 16 ≤ length tape.old) × (long ≤ 46) }
     ensures { (take long tape.new ≡ take long delay.now) × (length tape.new ≡ length tape.old) }
 {
     let early = taken(delay);
@@ -137,22 +125,20 @@ fn lay_delay(tape: &mut [f32], delay: &[f32], long: usize)
 // `filter` for fewer samples than a group and a delay in front of the lent places, along a tape of so many.
 #[inline(always)]
 pub(crate) fn filter_few<const T: usize>(
-    delay: &mut [f32],
-    long: usize,
-    taps: &[f32],
-    kind: Kind,
+    delay: &mut [f32; LINEAR_PHASE_DELAYS],
+    fir: Folded<'_>,
     src: Option<&[f32]>,
     span: &mut [f32],
 )
-    requires in_bounds { (1 ≤ length taps.now) × (length taps.now ≤ 23) × (long ≡ P.reach kind.odd (length taps.now)) }
-    requires places { (long + 16 ≤ T) × (T ≤ 64) × (length delay.old ≡ 46) }
+    requires places { (fir.long + 16 ≤ T) × (T ≤ 64) }
     requires src_len { (length (unwrap_or (option_copied src) span.old) ≡ length span.old) × (length span.old < 16) }
     ensures delay { let samples = unwrap_or (option_copied src.entry) span.old in
-        let next = state (W.linear_phase kind.odd kind.antisymmetric taps.now) (take long delay.old) samples in
-        delay.new ≡ next ++ drop long delay.old }
+        let next = state (W.linear_phase fir.entry.kind.odd fir.entry.kind.antisymmetric fir.entry.taps.now) (take fir.entry.long delay.old) samples in
+        delay.new ≡ next ++ drop fir.entry.long delay.old }
     ensures span { let samples = unwrap_or (option_copied src.entry) span.old in
-        span.new ≡ outs (W.linear_phase kind.odd kind.antisymmetric taps.now) (take long delay.old) samples }
+        span.new ≡ outs (W.linear_phase fir.entry.kind.odd fir.entry.kind.antisymmetric fir.entry.taps.now) (take fir.entry.long delay.old) samples }
 {
+    let long = fir.long;
     let past = long + span.len();
     let lent = samples_of(src, span);
     let mut places = [0.0f32; T];
@@ -160,6 +146,5 @@ pub(crate) fn filter_few<const T: usize>(
     lay_delay(tape, delay, long);
     copy_few(&mut tape[long..past], lent);
     move_past(&mut delay[..long], lent);
-    let fir = Folded::of(taps, long, kind);
     few_outputs(tape, fir, span);
 }

@@ -30,29 +30,26 @@ impl Kind {
     }
 }
 
-// What an output is made with: the taps of one half, the delay's length, whether the earlier sample of a pair is subtracted, and whether there is a centre sample.
+// A filter inside its limits: the taps of one half, the length of its delay, and its kind.
 #[derive(Clone, Copy)]
 pub(crate) struct Folded<'a> {
     pub taps: &'a [f32],
     pub long: usize,
-    pub minus: bool,
-    pub centre: bool,
-    ghost inside: { (1 ≤ length taps.now) × (length taps.now ≤ long) },
+    pub kind: Kind,
+    ghost inside: { (1 ≤ length taps.now) × (length taps.now ≤ 23) },
+    ghost reach: { (length taps.now ≤ long) × (long ≤ 2 * length taps.now) × (long ≡ P.reach kind.odd (length taps.now)) },
 }
 
 impl<'a> Folded<'a> {
-    // Of a filter inside its limits.
-    #[tactic(auto, unfolding(crate::specs::LinearPhase::reach))]
     #[inline(always)]
-    pub(crate) fn of(taps: &'a [f32], long: usize, kind: Kind) -> Folded<'a>
-        requires { (1 ≤ length taps.now) × (length taps.now ≤ 23) × (long ≡ P.reach kind.odd (length taps.now)) }
-        ensures { (result.taps.now ≡ taps.now) × (result.long ≡ long) × (result.minus ≡ kind.antisymmetric) × (result.centre ≡ has_centre kind.odd kind.antisymmetric) }
+    pub(crate) fn of(taps: &'a [f32], kind: Kind) -> Folded<'a>
+        requires { (1 ≤ length taps.now) × (length taps.now ≤ 23) }
+        ensures { (result.taps.now ≡ taps.now) × (result.kind ≡ kind) }
     {
         Folded {
             taps,
-            long,
-            minus: kind.antisymmetric,
-            centre: kind.has_centre(),
+            long: kind.reach(taps.len()),
+            kind,
         }
     }
 }

@@ -11,7 +11,7 @@ pub(crate) const LANES: usize = 16;
 // The most outputs that are made at once.
 const MORE: usize = 28;
 
-// One pair more for each sum: (new[j] ± old[j]) × tap.
+// One pair more for each sum: (new[j] ± old[j]) × tap. Here and below the number reads the other lists: of what stands behind `iter_mut` in a zip a proof knows the lengths alone.
 fn add_pairs(acc: &mut [f32], old: &[f32], new: &[f32], tap: f32, minus: bool)
     requires { (length acc.old ≤ length old.now) × (length acc.old ≤ length new.now) }
     ensures { acc.new ≡ W.pairs_added minus tap old.now new.now acc.old }
@@ -34,11 +34,12 @@ fn add_centres(acc: &mut [f32], centres: &[f32])
 // The sums of pairs at the windows that begin at the first places of the line, as many as there are zeros to begin with, t ascending.
 fn sums_at(acc: &mut [f32], line: &[f32], fir: Folded<'_>)
     requires { (fir.long + length acc.old ≤ length line.now) × (acc.old ≡ W.no_sums (length acc.old)) }
-    ensures { acc.new ≡ W.window_sums fir.entry.minus fir.entry.taps.now fir.entry.long line.now (length acc.old) (length fir.entry.taps.now) }
+    ensures { acc.new ≡ W.window_sums fir.entry.kind.antisymmetric fir.entry.taps.now fir.entry.long line.now (length acc.old) (length fir.entry.taps.now) }
 {
     let long = fir.long;
+    let minus = fir.kind.antisymmetric;
     for (t, tap) in fir.taps.iter().enumerate() {
-        add_pairs(acc, &line[t..], &line[long - t..], *tap, fir.minus);
+        add_pairs(acc, &line[t..], &line[long - t..], *tap, minus);
     }
 }
 
@@ -46,18 +47,19 @@ fn sums_at(acc: &mut [f32], line: &[f32], fir: Folded<'_>)
 // registers.
 pub(crate) fn outputs_at(acc: &mut [f32], line: &[f32], fir: Folded<'_>)
     requires { (fir.long + length acc.old ≤ length line.now) × (acc.old ≡ W.no_sums (length acc.old)) }
-    ensures { acc.new ≡ W.window_values fir.entry.centre fir.entry.minus fir.entry.taps.now fir.entry.long line.now (length acc.old) }
+    ensures { acc.new ≡ W.window_values fir.entry.kind.odd fir.entry.kind.antisymmetric fir.entry.taps.now fir.entry.long line.now (length acc.old) }
 {
     sums_at(acc, line, fir);
-    if fir.centre {
+    if fir.kind.has_centre() {
         add_centres(acc, &line[fir.taps.len()..]);
     }
 }
 
-// A whole group of them, at the windows from a place of the line on.
-fn group_at(line: &[f32], from: usize, fir: Folded<'_>) -> [f32; LANES]
+// A whole group of them, at the windows from a place of the line on. Inlined where it is called, so that what is known of a filter there is known here.
+#[inline(always)]
+pub(crate) fn group_at(line: &[f32], from: usize, fir: Folded<'_>) -> [f32; LANES]
     requires { from + (fir.long + 16) ≤ length line.now }
-    ensures { result ≡ W.window_values fir.entry.centre fir.entry.minus fir.entry.taps.now fir.entry.long (drop from line.now) 16 }
+    ensures { result ≡ W.window_values fir.entry.kind.odd fir.entry.kind.antisymmetric fir.entry.taps.now fir.entry.long (drop from line.now) 16 }
 {
     let mut y = [0.0f32; LANES];
     outputs_at(&mut y, &line[from..], fir);
@@ -94,10 +96,7 @@ fn picked<'a>(first: bool, a: &'a [f32], b: &'a [f32]) -> &'a [f32]
 pub(crate) fn samples_of<'a>(src: Option<&'a [f32]>, span: &'a [f32]) -> &'a [f32]
     ensures { result.now ≡ unwrap_or (option_copied src.entry) span.now }
 {
-    match src {
-        Some(lent) => lent,
-        None => span,
-    }
+    src.unwrap_or(span)
 }
 
 // Where the window of output `at` begins: on the tape, which has the delay in front, or among the samples.
@@ -125,7 +124,7 @@ pub(crate) fn outputs_back<'a>(
         take n (drop fir.long tape.now) ≡ take n samples }
     requires on_tape { W.OnTape fir.long tape.now (unwrap_or (option_copied src) span.old) (length span.old) }
     ensures { let z = take fir.entry.long tape.now ++ unwrap_or (option_copied src.entry) span.old in
-        span.new ≡ W.window_values fir.entry.centre fir.entry.minus fir.entry.taps.now fir.entry.long z (length span.old) }
+        span.new ≡ W.window_values fir.entry.kind.odd fir.entry.kind.antisymmetric fir.entry.taps.now fir.entry.long z (length span.old) }
 {
     // By hand: it goes by groups from the end on, and while one is written the samples before it are read; `end` tells what is left in front.
     let mut end = span.len();

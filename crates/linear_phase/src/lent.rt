@@ -1,13 +1,14 @@
 // Samples through a filter inside its limits, whose taps and delay are lent: the roads that they take, by how many they are.
-ghost use Rattle.std.specs.Prelude.{◌≡◌, ◌≤◌, cond, length, unwrap_or, option_copied, IfOk};
+ghost use Rattle.std.specs.Prelude.{◌≡◌, ◌≤◌, cond, length, take, unwrap_or, option_copied, IfOk};
 ghost use Rattle.theory.specs.Sections.{state, outs};
 ghost use Rattle.refusal.specs.Outcome.{number_in};
 ghost use Rattle.refusal.specs.Rows as R;
+ghost use Rattle.linear_phase.specs.LinearPhase.{reach};
 ghost use Rattle.linear_phase.specs.LinearPhaseFir as P;
 
 use crate::brief::{filter_brief, is_brief};
 use crate::filter::{NARROW, WIDE, filter, filter_few, filter_short, is_short};
-use crate::kinds::Kind;
+use crate::kinds::{Folded, Kind};
 use crate::lanes::LANES;
 use crate::limits::{LINEAR_PHASE_DELAYS, MOST_LINEAR_PHASE_TAPS};
 use crate::one::filter_one;
@@ -36,6 +37,14 @@ impl Half {
         Ok(Half { m, kind })
     }
 
+    // The filter of the taps that lie in front of those lent.
+    #[inline(always)]
+    fn folded<'a>(self, taps: &'a [f32; MOST_LINEAR_PHASE_TAPS]) -> Folded<'a>
+        ensures { (result.taps.now ≡ take self.m taps.now) × (result.long ≡ reach self.kind.odd self.m) × (result.kind ≡ self.kind) }
+    {
+        Folded::of(&taps[..self.m], self.kind)
+    }
+
     // One sample, through the taps and the delay that lie in front of those lent. A call of its own would take a third of the time of a short filter's sample.
     #[inline(always)]
     pub(crate) fn process(
@@ -50,9 +59,8 @@ impl Half {
         ensures value { let before = P.phase_of self.m self.kind.odd self.kind.antisymmetric taps.now delay.old in
             result ≡ P.phase_out before x }
     {
-        let m = self.m;
-        let long = self.kind.reach(m);
-        filter_one(&mut delay[..long], &taps[..m], self.kind, x)
+        let fir = self.folded(taps);
+        filter_one(&mut delay[..fir.long], fir, x)
     }
 
     // The samples of the span, likewise, their outputs in their places: one alone in the lent delay, more along a tape.
@@ -96,10 +104,10 @@ impl Half {
         }
         let long = self.kind.reach(self.m);
         if is_straight(self.m, long, src.len()) {
-            return filter_straight(long, &taps[..self.m], self.kind, delay, src, span);
+            return filter_straight(self, taps, delay, src, span);
         }
         if is_brief(self.m, src.len()) {
-            return filter_brief(self.m, self.kind, taps, delay, src, span);
+            return filter_brief(self, taps, delay, src, span);
         }
         if src.len() == 2 {
             let y = self.process(taps, delay, src[0]);
@@ -127,18 +135,17 @@ impl Half {
         ensures span { let before = P.phase_of self.m self.kind.odd self.kind.antisymmetric taps.now delay.old in
             span.new ≡ outs P.phase_fir before (unwrap_or (option_copied src.entry) span.old) }
     {
-        let m = self.m;
-        let long = self.kind.reach(m);
-        let short = is_short(long);
+        let fir = self.folded(taps);
+        let short = is_short(fir.long);
         if span.len() < LANES {
             if short {
-                return filter_few::<NARROW>(delay, long, &taps[..m], self.kind, src, span);
+                return filter_few::<NARROW>(delay, fir, src, span);
             }
-            return filter_few::<WIDE>(delay, long, &taps[..m], self.kind, src, span);
+            return filter_few::<WIDE>(delay, fir, src, span);
         }
         if short {
-            return filter_short(delay, long, &taps[..m], self.kind, src, span);
+            return filter_short(delay, fir, src, span);
         }
-        filter(&mut delay[..long], &taps[..m], self.kind, src, span);
+        filter(&mut delay[..fir.long], fir, src, span);
     }
 }

@@ -1,35 +1,48 @@
 // One sample through a delay of the last samples, the oldest first.
 ghost use Rattle.std.specs.Prelude.{◌≡◌, [], ◌∷◌, ◌++◌, ◌≤◌, length};
 ghost use Rattle.half_band.specs.Windows.{slid};
-ghost use Rattle.linear_phase.specs.LinearPhase as P;
 ghost use Rattle.linear_phase.specs.Windows as W;
 
-use crate::kinds::{Kind, pair};
+use crate::kinds::{Folded, pair};
 use crate::moves::move_down;
 
 // Σ (new ± old) × taps[t] from 0.0, t ascending, at the window of the delay with x behind it.
 #[inline(always)]
-pub(crate) fn sum_with(delay: &[f32], taps: &[f32], antisymmetric: bool, x: f32) -> f32
+fn sum_of<const MINUS: bool>(delay: &[f32], taps: &[f32], x: f32) -> f32
     requires { (1 ≤ length taps.now) × (length taps.now ≤ length delay.now) }
-    ensures { result ≡ W.window_acc antisymmetric taps.now (delay.now ++ (x ∷ [])) (length taps.now) }
+    ensures { result ≡ W.window_acc MINUS taps.now (delay.now ++ (x ∷ [])) (length taps.now) }
 {
     let long = delay.len();
-    let mut acc = 0.0f32 + pair(antisymmetric, x, delay[0]) * taps[0];
+    let mut acc = 0.0f32 + pair(MINUS, x, delay[0]) * taps[0];
     // By the number: it begins at 1, and is a place of the taps, and of the delay from both ends.
     for t in 1..taps.len() {
-        acc += pair(antisymmetric, delay[long - t], delay[t]) * taps[t];
+        acc += pair(MINUS, delay[long - t], delay[t]) * taps[t];
     }
     acc
 }
 
-// The output at that window; the centre is added last.
-pub(crate) fn value_with(delay: &[f32], taps: &[f32], kind: Kind, x: f32) -> f32
-    requires { (1 ≤ length taps.now) × (length delay.now ≡ P.reach kind.odd (length taps.now)) }
-    ensures { result ≡ W.window_value kind.odd kind.antisymmetric taps.now (delay.now ++ (x ∷ [])) }
+// That sum, by a loop for either sign: one loop for both makes sum and difference of each pair.
+#[inline(always)]
+fn sum_with(delay: &[f32], fir: Folded<'_>, x: f32) -> f32
+    requires { length delay.now ≡ fir.long }
+    ensures { result ≡ W.window_acc fir.entry.kind.antisymmetric fir.entry.taps.now (delay.now ++ (x ∷ [])) (length fir.entry.taps.now) }
 {
-    let acc = sum_with(delay, taps, kind.antisymmetric, x);
-    if kind.has_centre() {
-        acc + delay[taps.len()]
+    if fir.kind.antisymmetric {
+        sum_of::<true>(delay, fir.taps, x)
+    } else {
+        sum_of::<false>(delay, fir.taps, x)
+    }
+}
+
+// The output at that window; the centre is added last.
+#[inline(always)]
+pub(crate) fn value_with(delay: &[f32], fir: Folded<'_>, x: f32) -> f32
+    requires { length delay.now ≡ fir.long }
+    ensures { result ≡ W.window_value fir.entry.kind.odd fir.entry.kind.antisymmetric fir.entry.taps.now (delay.now ++ (x ∷ [])) }
+{
+    let acc = sum_with(delay, fir, x);
+    if fir.kind.has_centre() {
+        acc + delay[fir.taps.len()]
     } else {
         acc
     }
@@ -46,12 +59,13 @@ fn move_in(delay: &mut [f32], x: f32)
 }
 
 // The sample goes in, and its output comes out.
-pub(crate) fn filter_one(delay: &mut [f32], taps: &[f32], kind: Kind, x: f32) -> f32
-    requires { (1 ≤ length taps.now) × (length delay.old ≡ P.reach kind.odd (length taps.now)) }
+#[inline(always)]
+pub(crate) fn filter_one(delay: &mut [f32], fir: Folded<'_>, x: f32) -> f32
+    requires { length delay.old ≡ fir.long }
     ensures delay { delay.new ≡ slid delay.old (x ∷ []) }
-    ensures value { result ≡ W.window_value kind.odd kind.antisymmetric taps.now (delay.old ++ (x ∷ [])) }
+    ensures value { result ≡ W.window_value fir.entry.kind.odd fir.entry.kind.antisymmetric fir.entry.taps.now (delay.old ++ (x ∷ [])) }
 {
-    let y = value_with(delay, taps, kind, x);
+    let y = value_with(delay, fir, x);
     move_in(delay, x);
     y
 }

@@ -5,9 +5,11 @@ ghost use Rattle.theory.specs.Sections.{state, outs};
 ghost use Rattle.linear_phase.specs.LinearPhase as P;
 ghost use Rattle.linear_phase.specs.Windows as W;
 
-use crate::few::singles;
+use crate::few::{group_of, singles};
 use crate::kinds::{Folded, Kind};
-use crate::lanes::{LANES, outputs_at, put_group};
+use crate::lanes::{LANES, group_at, put_group};
+use crate::lent::Half;
+use crate::limits::{LINEAR_PHASE_DELAYS, MOST_LINEAR_PHASE_TAPS};
 use crate::moves::{copy_taken, taken};
 
 // Places for the longest of these delays and as many samples.
@@ -20,29 +22,18 @@ pub(crate) fn is_straight(m: usize, long: usize, n: usize) -> bool
     2 <= m && m <= 5 && long <= n
 }
 
-// Outputs at the first windows of the tape. With `group_of`, which does the same, each group there has two callers, and the compiler no longer keeps its sums in registers.
-fn first_outputs<const N: usize>(tape: &[f32], fir: Folded<'_>, span: &mut [f32])
-    requires { (fir.long + length span.old ≤ length tape.now) × (length span.old ≡ N) }
-    ensures { span.new ≡ W.window_values fir.entry.centre fir.entry.minus fir.entry.taps.now fir.entry.long tape.now (length span.old) }
-{
-    let mut y = [0.0f32; N];
-    outputs_at(&mut y, tape, fir);
-    put_group(span, &y);
-}
-
 // Outputs at the windows from the front of the samples on: whole groups from the end on, and one by one what is left in front. So no load stands a little behind a store that
 // was just made: where samples and span have the same place in their pages, the processor takes the one for the other, and waits.
 #[inline(always)]
 fn groups_back(src: &[f32], fir: Folded<'_>, span: &mut [f32])
     requires { fir.long + length span.old ≤ length src.now }
-    ensures { span.new ≡ W.window_values fir.entry.centre fir.entry.minus fir.entry.taps.now fir.entry.long src.now (length span.old) }
+    ensures { span.new ≡ W.window_values fir.entry.kind.odd fir.entry.kind.antisymmetric fir.entry.taps.now fir.entry.long src.now (length span.old) }
 {
     // By hand: it goes by groups from the end on, and `end` tells what is left in front.
     let mut end = span.len();
     while LANES <= end {
         let at = end - LANES;
-        let mut y = [0.0f32; LANES];
-        outputs_at(&mut y, &src[at..], fir);
+        let y = group_at(src, at, fir);
         put_group(&mut span[at..end], &y);
         end = at;
     }
@@ -50,74 +41,66 @@ fn groups_back(src: &[f32], fir: Folded<'_>, span: &mut [f32])
 }
 
 // The taps go to an array of this function: no store to the span can be one to it.
-fn straight<const M: usize, const LONG: usize, const CENTRE: bool>(
-    long: usize,
+fn straight<const M: usize, const LONG: usize, const ODD: bool, const MINUS: bool>(
     taps: &[f32],
-    kind: Kind,
-    delay: &mut [f32],
+    delay: &mut [f32; LINEAR_PHASE_DELAYS],
     src: &[f32],
     span: &mut [f32],
 )
-    requires known { (1 ≤ M) × (M ≤ LONG) × (LONG ≤ 10) × (CENTRE ≡ W.has_centre kind.odd kind.antisymmetric) }
-    requires told { (M ≡ length taps.now) × (LONG ≡ long) }
-    requires lent { (length delay.old ≡ 46) × (length span.old ≡ length src.now) × (long ≤ length src.now) }
-    ensures delay { let next = state (W.linear_phase kind.odd kind.antisymmetric taps.now) (take long delay.old) src.now in
-        delay.new ≡ next ++ drop long delay.old }
-    ensures span { span.new ≡ outs (W.linear_phase kind.odd kind.antisymmetric taps.now) (take long delay.old) src.now }
+    requires known { (M ≡ length taps.now) × (LONG ≡ P.reach ODD (length taps.now)) × (1 ≤ M) × (M ≤ 5) × (LONG ≤ 10) }
+    requires lent { (length span.old ≡ length src.now) × (LONG ≤ length src.now) }
+    ensures delay { let next = state (W.linear_phase ODD MINUS taps.now) (take (P.reach ODD (length taps.now)) delay.old) src.now in
+        delay.new ≡ next ++ drop (P.reach ODD (length taps.now)) delay.old }
+    ensures span { span.new ≡ outs (W.linear_phase ODD MINUS taps.now) (take (P.reach ODD (length taps.now)) delay.old) src.now }
 {
     let own = taken::<M>(taps);
-    let fir = Folded {
-        taps: &own,
-        long: LONG,
-        minus: kind.antisymmetric,
-        centre: CENTRE,
+    let kind = Kind {
+        odd: ODD,
+        antisymmetric: MINUS,
     };
+    let fir = Folded::of(&own, kind);
     let mut tape = [0.0f32; TAPE];
     copy_taken::<LONG>(&mut tape[..LONG], delay);
     copy_taken::<LONG>(&mut tape[LONG..LONG + LONG], src);
     let newest = src.len() - LONG;
     copy_taken::<LONG>(&mut delay[..LONG], &src[newest..]);
     groups_back(src, fir, &mut span[LONG..]);
-    first_outputs::<LONG>(&tape, fir, &mut span[..LONG]);
+    group_of::<LONG>(&tape, fir, &mut span[..LONG]);
 }
 
-// A copy for each length, and for a centre sample.
-#[tactic(auto, unfolding(crate::specs::LinearPhase::reach, crate::specs::Windows::has_centre))]
+// A copy for each length, and for each kind. Lent a half, as `filter_brief`.
+#[tactic(auto, unfolding(crate::specs::LinearPhase::reach))]
 #[inline(never)]
 pub(crate) fn filter_straight(
-    long: usize,
-    taps: &[f32],
-    kind: Kind,
-    delay: &mut [f32],
+    half: Half,
+    taps: &[f32; MOST_LINEAR_PHASE_TAPS],
+    delay: &mut [f32; LINEAR_PHASE_DELAYS],
     src: &[f32],
     span: &mut [f32],
 )
-    requires in_bounds { (2 ≤ length taps.now) × (length taps.now ≤ 5) × (long ≡ P.reach kind.odd (length taps.now)) }
-    requires lent { (length delay.old ≡ 46) × (length span.old ≡ length src.now) × (long ≤ length src.now) }
-    ensures delay { let next = state (W.linear_phase kind.odd kind.antisymmetric taps.now) (take long delay.old) src.now in
-        delay.new ≡ next ++ drop long delay.old }
-    ensures span { span.new ≡ outs (W.linear_phase kind.odd kind.antisymmetric taps.now) (take long delay.old) src.now }
+    requires few_taps { (2 ≤ half.m) × (half.m ≤ 5) }
+    requires lent { (length span.old ≡ length src.now) × (P.reach half.kind.odd half.m ≤ length src.now) }
+    ensures delay { let next = state (W.linear_phase half.kind.odd half.kind.antisymmetric (take half.m taps.now)) (take (P.reach half.kind.odd half.m) delay.old) src.now in
+        delay.new ≡ next ++ drop (P.reach half.kind.odd half.m) delay.old }
+    ensures span { span.new ≡ outs (W.linear_phase half.kind.odd half.kind.antisymmetric (take half.m taps.now)) (take (P.reach half.kind.odd half.m) delay.old) src.now }
 {
-    if !kind.odd {
-        return match taps.len() {
-            2 => straight::<2, 3, false>(long, taps, kind, delay, src, span),
-            3 => straight::<3, 5, false>(long, taps, kind, delay, src, span),
-            4 => straight::<4, 7, false>(long, taps, kind, delay, src, span),
-            _ => straight::<5, 9, false>(long, taps, kind, delay, src, span),
-        };
-    }
-    if kind.antisymmetric {
-        return match taps.len() {
-            2 => straight::<2, 4, false>(long, taps, kind, delay, src, span),
-            3 => straight::<3, 6, false>(long, taps, kind, delay, src, span),
-            4 => straight::<4, 8, false>(long, taps, kind, delay, src, span),
-            _ => straight::<5, 10, false>(long, taps, kind, delay, src, span),
-        };
-    }
-    match taps.len() {
-        2 => straight::<2, 4, true>(long, taps, kind, delay, src, span),
-        3 => straight::<3, 6, true>(long, taps, kind, delay, src, span),
-        4 => straight::<4, 8, true>(long, taps, kind, delay, src, span),
-        _ => straight::<5, 10, true>(long, taps, kind, delay, src, span),
+    let taps = &taps[..half.m];
+    match (half.kind.odd, half.kind.antisymmetric, half.m) {
+        (false, false, 2) => straight::<2, 3, false, false>(taps, delay, src, span),
+        (false, false, 3) => straight::<3, 5, false, false>(taps, delay, src, span),
+        (false, false, 4) => straight::<4, 7, false, false>(taps, delay, src, span),
+        (false, false, _) => straight::<5, 9, false, false>(taps, delay, src, span),
+        (false, true, 2) => straight::<2, 3, false, true>(taps, delay, src, span),
+        (false, true, 3) => straight::<3, 5, false, true>(taps, delay, src, span),
+        (false, true, 4) => straight::<4, 7, false, true>(taps, delay, src, span),
+        (false, true, _) => straight::<5, 9, false, true>(taps, delay, src, span),
+        (true, false, 2) => straight::<2, 4, true, false>(taps, delay, src, span),
+        (true, false, 3) => straight::<3, 6, true, false>(taps, delay, src, span),
+        (true, false, 4) => straight::<4, 8, true, false>(taps, delay, src, span),
+        (true, false, _) => straight::<5, 10, true, false>(taps, delay, src, span),
+        (true, true, 2) => straight::<2, 4, true, true>(taps, delay, src, span),
+        (true, true, 3) => straight::<3, 6, true, true>(taps, delay, src, span),
+        (true, true, 4) => straight::<4, 8, true, true>(taps, delay, src, span),
+        (true, true, _) => straight::<5, 10, true, true>(taps, delay, src, span),
     }
 }

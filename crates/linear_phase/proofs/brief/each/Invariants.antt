@@ -7,6 +7,6 @@ use Rattle.linear_phase.proofs.brief.each.Given as goal
 abbrev pub invariant-loop-i : goal.invariant-loop-i
 invariant-loop-i l =
     record {
-      made : Filled (output l.kind.odd l.kind.antisymmetric l.taps l.initial.delay l.src) l.initial.span (length l.initial.span) l.span l.i;
-      left : Midway l.kind.odd l.kind.antisymmetric l.taps l.initial.delay l.src l.delay l.i;
+      made : Filled (output l.fir.kind.odd l.fir.kind.antisymmetric l.fir.taps.now l.initial.delay l.src) l.initial.span (length l.initial.span) l.span l.i;
+      left : Midway l.fir.kind.odd l.fir.kind.antisymmetric l.fir.taps.now l.initial.delay l.src l.delay l.i;
     }

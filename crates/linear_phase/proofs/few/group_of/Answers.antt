@@ -16,6 +16,6 @@ returns g c =
     let w = g.row.N in
     let o = c.outputs_at in
     let many = length-replicate w zero32 in
-    put_exact w o.new.acc a.span.now _ (ap length o.ensures ∙ values_long a.fir.centre a.fir.minus a.fir.taps.now a.fir.long a.tape.now _ ∙ many) c.requires.1 c.put_group.ensures
+    put_exact w o.new.acc a.span.now _ (ap length o.ensures ∙ values_long a.fir.kind.odd a.fir.kind.antisymmetric a.fir.taps.now a.fir.long a.tape.now _ ∙ many) c.requires.1 c.put_group.ensures
     ∙ o.ensures
-    ∙ ap (window_values a.fir.centre a.fir.minus a.fir.taps.now a.fir.long a.tape.now) (many ∙ sym c.requires.1)
+    ∙ ap (window_values a.fir.kind.odd a.fir.kind.antisymmetric a.fir.taps.now a.fir.long a.tape.now) (many ∙ sym c.requires.1)

@@ -1,9 +1,8 @@
 -- `linear_phase::filter::filter_short` meets its contract: delay and first samples stand on the tape, so the last of all are the next delay, and the outputs are those at the windows.
-use Rattle.std.proofs.Common.{◌≡◌, ℕ, ◌+◌, ◌-◌, ◌≤◌, min, List, ◌++◌, length, take, drop, refl, sym, ap, ap₂, ◌∙◌, arith, length-take-le}
+use Rattle.std.proofs.Common.{◌≡◌, ℕ, ◌+◌, ◌-◌, ◌≤◌, min, List, ◌++◌, length, take, drop, sym, ap, ap₂, ◌∙◌, arith, length-take-le}
 use lib.Ieee.{Float}
 use Rattle.float.proofs.Laid.{samples_behind}
 use Rattle.linear_phase.specs.Windows.{InRow}
-use Rattle.linear_phase.proofs.WholeList.{within}
 use Rattle.linear_phase.proofs.Tapes.{in_row, renamed, next_of, outs_of, many_last}
 use Rattle.linear_phase.proofs.filter.filter_short.Goals as goal
 
@@ -39,27 +38,25 @@ last d v k is fits q = q ∙ ap (λ (m : ℕ). take (length v - (length v - m)) 
 
 pub outputs_back-requires-clause-in_bounds : goal.outputs_back-requires-clause-in_bounds
 outputs_back-requires-clause-in_bounds c =
-    (omega (arith, c.requires.long_bound, c.lay_groups.auto.tape, c.of-fir.ensures), omega (arith, c.requires.long_bound, c.lay_groups.auto.tape, c.of-fir.ensures), c.requires.src_len.1)
+    (omega (arith, c.requires.long_bound, c.lay_groups.auto.tape), omega (arith, c.requires.long_bound, c.lay_groups.auto.tape), c.requires.src_len.1)
 
 pub outputs_back-requires-clause-ahead : goal.outputs_back-requires-clause-ahead
 outputs_back-requires-clause-ahead c =
-    rw c.of-fir.ensures.1 (first_of c.args.long _ c.args.delay.now c.requires.long_bound c.samples_of-line.ensures c.requires.src_len.0 c.lay_groups.ensures)
+    first_of c.args.fir.long _ c.args.delay.now (c.requires.long_bound, c.told-delay) c.samples_of-line.ensures c.requires.src_len.0 c.lay_groups.ensures
 
 pub outputs_back-requires-clause-on_tape : goal.outputs_back-requires-clause-on_tape
 outputs_back-requires-clause-on_tape c =
-    let row = laid _ c.requires.long_bound c.samples_of-line.ensures c.requires.src_len c.lay_groups.ensures in
-    rw c.of-fir.ensures.1 (renamed c.samples_of-line.ensures c.requires.src_len.0 (long_is _ c.requires.long_bound) row.on)
+    let row = laid _ (c.requires.long_bound, c.told-delay) c.samples_of-line.ensures c.requires.src_len c.lay_groups.ensures in
+    renamed c.samples_of-line.ensures c.requires.src_len.0 (long_is _ (c.requires.long_bound, c.told-delay)) row.on
 
 pub returns-clause-delay : goal.returns-clause-delay
 returns-clause-delay c =
-    let b = within _ c.requires.in_bounds in
-    let is = long_is _ c.requires.long_bound in
-    let fits : c.args.long ≤ length c.samples_of-line.result.now = omega (arith, ap length c.samples_of-line.ensures, c.requires.src_len, c.requires.long_bound) in
-    ap (λ (l : List Float). l ++ drop c.args.long c.args.delay.now) (next_of _ _ _ _ c.samples_of-line.ensures (omega (arith, is, b)) (last _ _ c.args.long is fits c.copy_few.ensures))
+    let is = long_is _ (c.requires.long_bound, c.told-delay) in
+    let fits : c.args.fir.long ≤ length c.samples_of-line.result.now = omega (arith, ap length c.samples_of-line.ensures, c.requires.src_len, c.requires.long_bound) in
+    ap (λ (l : List Float). l ++ drop c.args.fir.long c.args.delay.now) (next_of _ _ _ _ c.samples_of-line.ensures (omega (arith, is, c.args.fir.inside, c.args.fir.reach)) (last _ _ c.args.fir.long is fits c.copy_few.ensures))
 
 pub returns-clause-span : goal.returns-clause-span
 returns-clause-span c =
-    let b = within _ c.requires.in_bounds in
-    let is = long_is _ c.requires.long_bound in
-    let row = laid _ c.requires.long_bound c.samples_of-line.ensures c.requires.src_len c.lay_groups.ensures in
-    outs_of _ _ _ _ _ refl (sym is) c.requires.src_len.0 (omega (arith, is, b)) row.front (rw (c.of-fir.ensures.0, c.of-fir.ensures.1, c.of-fir.ensures.2, c.of-fir.ensures.3) at c.outputs_back.ensures)
+    let is = long_is _ (c.requires.long_bound, c.told-delay) in
+    let row = laid _ (c.requires.long_bound, c.told-delay) c.samples_of-line.ensures c.requires.src_len c.lay_groups.ensures in
+    outs_of _ _ _ _ _ (sym is) c.requires.src_len.0 (omega (arith, is, c.args.fir.inside, c.args.fir.reach)) row.front c.outputs_back.ensures

@@ -4,4 +4,4 @@ use Rattle.linear_phase.specs.Windows.{window_sums}
 use Rattle.linear_phase.proofs.lanes.sums_at.Given as goal
 
 abbrev pub invariant-loop-t : goal.invariant-loop-t
-invariant-loop-t l = l.acc ≡ window_sums l.fir.minus l.fir.taps.now l.long l.line (length l.initial.acc) l.t
+invariant-loop-t l = l.acc ≡ window_sums l.fir.kind.antisymmetric l.fir.taps.now l.long l.line (length l.initial.acc) l.t

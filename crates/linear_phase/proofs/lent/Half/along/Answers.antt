@@ -10,12 +10,12 @@ returns-then-short c =
     let a = c.args in
     let s = a.self in
     let v = unwrap_or (option_copied a.src) a.span.now in
-    let o = c.filter_few.ensures in
+    let o = rw (c.folded-fir.ensures.0, c.folded-fir.ensures.2) at c.filter_few.ensures in
     record {
       delay =
           ap (phase_of s.m s.kind.odd s.kind.antisymmetric a.taps.now) o.delay
-          ∙ state_is _ _ _ _ _ s.inside c.told-taps c.told-delay _ c.reach-long.ensures.value v _ refl;
-      span = outs_are _ _ _ _ _ s.inside c.told-taps c.told-delay _ c.reach-long.ensures.value v _ o.span;
+          ∙ state_is _ _ _ _ _ s.inside c.told-taps c.told-delay _ c.folded-fir.ensures.1 v _ refl;
+      span = outs_are _ _ _ _ _ s.inside c.told-taps c.told-delay _ c.folded-fir.ensures.1 v _ o.span;
     }
 
 pub returns-then-span-lt-LANES : goal.returns-then-span-lt-LANES
@@ -23,12 +23,12 @@ returns-then-span-lt-LANES c =
     let a = c.args in
     let s = a.self in
     let v = unwrap_or (option_copied a.src) a.span.now in
-    let o = c.filter_few-then-span-lt-LANES.ensures in
+    let o = rw (c.folded-fir.ensures.0, c.folded-fir.ensures.2) at c.filter_few-then-span-lt-LANES.ensures in
     record {
       delay =
           ap (phase_of s.m s.kind.odd s.kind.antisymmetric a.taps.now) o.delay
-          ∙ state_is _ _ _ _ _ s.inside c.told-taps c.told-delay _ c.reach-long.ensures.value v _ refl;
-      span = outs_are _ _ _ _ _ s.inside c.told-taps c.told-delay _ c.reach-long.ensures.value v _ o.span;
+          ∙ state_is _ _ _ _ _ s.inside c.told-taps c.told-delay _ c.folded-fir.ensures.1 v _ refl;
+      span = outs_are _ _ _ _ _ s.inside c.told-taps c.told-delay _ c.folded-fir.ensures.1 v _ o.span;
     }
 
 pub returns-then-short-2 : goal.returns-then-short-2
@@ -36,12 +36,12 @@ returns-then-short-2 c =
     let a = c.args in
     let s = a.self in
     let v = unwrap_or (option_copied a.src) a.span.now in
-    let o = c.filter_short.ensures in
+    let o = rw (c.folded-fir.ensures.0, c.folded-fir.ensures.2) at c.filter_short.ensures in
     record {
       delay =
           ap (phase_of s.m s.kind.odd s.kind.antisymmetric a.taps.now) o.delay
-          ∙ state_is _ _ _ _ _ s.inside c.told-taps c.told-delay _ c.reach-long.ensures.value v _ refl;
-      span = outs_are _ _ _ _ _ s.inside c.told-taps c.told-delay _ c.reach-long.ensures.value v _ o.span;
+          ∙ state_is _ _ _ _ _ s.inside c.told-taps c.told-delay _ c.folded-fir.ensures.1 v _ refl;
+      span = outs_are _ _ _ _ _ s.inside c.told-taps c.told-delay _ c.folded-fir.ensures.1 v _ o.span;
     }
 
 pub returns : goal.returns
@@ -49,8 +49,8 @@ returns c =
     let a = c.args in
     let s = a.self in
     let v = unwrap_or (option_copied a.src) a.span.now in
-    let o = c.filter.ensures in
+    let o = rw (c.folded-fir.ensures.0, c.folded-fir.ensures.2) at c.filter.ensures in
     record {
-      delay = state_is _ _ _ _ _ s.inside c.told-taps c.told-delay _ c.reach-long.ensures.value v _ o.delay;
-      span = outs_are _ _ _ _ _ s.inside c.told-taps c.told-delay _ c.reach-long.ensures.value v _ o.span;
+      delay = state_is _ _ _ _ _ s.inside c.told-taps c.told-delay _ c.folded-fir.ensures.1 v _ o.delay;
+      span = outs_are _ _ _ _ _ s.inside c.told-taps c.told-delay _ c.folded-fir.ensures.1 v _ o.span;
     }

@@ -20,8 +20,8 @@ returns-then-is_straight c =
     record {
       delay =
           ap (phase_of s.m s.kind.odd s.kind.antisymmetric a.taps.now) o.delay
-          ∙ state_is _ _ _ _ _ s.inside c.told-taps c.told-delay _ c.reach-long.ensures.value a.src.now _ refl;
-      span = outs_are _ _ _ _ _ s.inside c.told-taps c.told-delay _ c.reach-long.ensures.value a.src.now _ o.span;
+          ∙ state_is _ _ _ _ _ s.inside c.told-taps c.told-delay _ refl a.src.now _ refl;
+      span = outs_are _ _ _ _ _ s.inside c.told-taps c.told-delay _ refl a.src.now _ o.span;
     }
 
 pub returns-then-is_brief : goal.returns-then-is_brief

@@ -5,8 +5,8 @@ use Rattle.linear_phase.proofs.lent.Half.process.Goals as goal
 pub returns : goal.returns
 returns c =
     let s = c.args.self in
-    let o = c.filter_one.ensures in
+    let o = rw (c.folded-fir.ensures.0, c.folded-fir.ensures.2) at c.filter_one.ensures in
     record {
-      delay = next_is _ _ _ _ _ s.inside c.told-taps c.told-delay _ c.reach-long.ensures.value c.args.x _ o.delay;
-      value = out_is _ _ _ _ _ s.inside c.told-taps c.told-delay _ c.reach-long.ensures.value c.args.x _ o.value;
+      delay = next_is _ _ _ _ _ s.inside c.told-taps c.told-delay _ c.folded-fir.ensures.1 c.args.x _ o.delay;
+      value = out_is _ _ _ _ _ s.inside c.told-taps c.told-delay _ c.folded-fir.ensures.1 c.args.x _ o.value;
     }
