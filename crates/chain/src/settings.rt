@@ -7,7 +7,7 @@ use nonrecursive::Thinning;
 use q15::FirSettings;
 
 // A part that is off is a number, no taps, depth 0 or no phases, and no Option: so C hands the settings over, and the table of refusals looks at them.
-#[derive(Clone, Copy)]
+#[derive(Clone, Copy, Default)]
 pub struct Settings {
     pub stages: usize,
     pub r: usize,

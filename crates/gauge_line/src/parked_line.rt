@@ -13,34 +13,11 @@ use crate::lines::{numbers, put_numbers};
 use float::settings::{MOST_CELLS, MOST_PHASE_TAPS};
 use half_band::{DEC_CASCADE_DELAYS, MOST_DEPTH};
 use integer::limits::MOST_STAGES;
-use line::{Clock, LineNumbers, Places, Settings};
-use nonrecursive::Thinning;
+use line::{LineNumbers, Places};
 use nonrecursive::nonrecursive_decimator::MOST_NEIGHBOURS;
 use parking::{KeptLine, park_kept, parked_len_kept};
 use q15::MOST_TAPS;
 use taking_up::take_up_lent;
-
-// What taking up writes over.
-const BLANK: LineNumbers = LineNumbers {
-    settings: Settings {
-        stages: 0,
-        r: 0,
-        factor: 0,
-        depth: 0,
-        phases: 0,
-        taps: 0,
-        straight: false,
-        step: 0.0,
-        thinning: Thinning::Integrators,
-    },
-    tap_count: 0,
-    clock: Clock {
-        sample_counter: 0,
-        wait: 0,
-        mu: 0.0,
-        cuts: 0,
-    },
-};
 
 // How many bytes the line's sheet has, so that a span may be made for it.
 #[unsafe(no_mangle)]
@@ -230,7 +207,8 @@ pub extern "C" fn gauge_raw_line_take_up_3(
         depth delays held counts phases phase_taps straight mu step delay prototype cuts thinning neighbours in
         StillTaken bytes.now (record { number = result; state = after }) }
 {
-    let mut n = BLANK;
+    // Taking up writes over it.
+    let mut n = LineNumbers::default();
     let mut lent = Places {
         integrators,
         combs,

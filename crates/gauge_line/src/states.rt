@@ -8,10 +8,8 @@ ghost use Rattle.half_band.specs.HbfDecCascade.{cascade_of};
 ghost use Rattle.half_band.specs.HbfStream.{stream_of};
 ghost use Rattle.linear_phase.specs.LinearPhaseFir.{phase_of};
 ghost use Rattle.gauge_line.specs.Crossing.{is_set, flag_of, kind_of, kind_number};
-ghost use Rattle.gauge_line.specs.States.{exit, decimator_at, nonrecursive_at, interpolator_at, fir_at, stream_at, IsFlag, resampler_at};
+ghost use Rattle.gauge_line.specs.States.{exit, decimator_at, nonrecursive_at, interpolator_at, fir_at, stream_at};
 
-use float::PolyphaseResampF32;
-use float::settings::{MOST_CELLS, MOST_PHASE_TAPS};
 use half_band::{
     DEC_CASCADE_DELAYS, DEC_DELAYS, DecCascade, HbfDec, HbfInt, HbfIntCascade, HbfStream,
     INT_CASCADE_DELAYS, INT_DELAYS, MOST_DEPTH, MOST_HALF_BAND_TAPS,
@@ -286,45 +284,6 @@ pub(crate) fn kind_number(kind: Thinning) -> usize
         Thinning::Integrators => 0,
         Thinning::Neighbours => 1,
     }
-}
-
-// Which kind thins, and the neighbours.
-pub(crate) fn put_thinning(
-    next: Thinning,
-    next_neighbours: &[i32; MOST_NEIGHBOURS],
-    thinning: &mut usize,
-    neighbours: &mut [i32; MOST_NEIGHBOURS],
-)
-    ensures state { (kind_of thinning.new ≡ next) × (neighbours.new ≡ next_neighbours.now) }
-    ensures setting { IsFlag thinning.new }
-{
-    *thinning = kind_number(next);
-    *neighbours = *next_neighbours;
-}
-
-// The setting by its fields: to call `put_setting` it would first be put together of the same four.
-pub(crate) fn put_resampler(
-    next: &PolyphaseResampF32,
-    phases: &mut usize,
-    taps: &mut usize,
-    straight: &mut usize,
-    mu: &mut f32,
-    step: &mut f32,
-    delay: &mut [f32; MOST_PHASE_TAPS],
-    prototype: &mut [f32; MOST_CELLS],
-)
-    ensures state { resampler_at exit phases taps straight mu step delay prototype ≡ next.now }
-    ensures setting { IsFlag straight.new }
-{
-    let next_delay = next.delay;
-    let next_prototype = next.prototype;
-    *phases = next.phases;
-    *taps = next.taps;
-    *straight = flag(next.straight);
-    *mu = next.mu;
-    *step = next.step;
-    *delay = next_delay;
-    *prototype = next_prototype;
 }
 
 pub(crate) fn phase(

@@ -15,7 +15,7 @@ use chain::settings::Settings;
 use refusal::{Moved, Refusal};
 
 // The settings of a line, how many taps its FIR has, and what feeds change.
-#[derive(Clone, Copy)]
+#[derive(Clone, Copy, Default)]
 pub struct LineNumbers {
     pub settings: Settings,
     pub tap_count: usize,

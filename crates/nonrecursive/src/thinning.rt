@@ -9,8 +9,9 @@ use integer::limits::MOST_STAGES;
 use refusal::{Moved, NONE_MOVED};
 
 // The CIC decimator, or sums of neighbours.
-#[derive(Clone, Copy, PartialEq, Eq, Debug)]
+#[derive(Clone, Copy, PartialEq, Eq, Debug, Default)]
 pub enum Thinning {
+    #[default]
     Integrators,
     Neighbours,
 }

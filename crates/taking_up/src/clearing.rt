@@ -9,31 +9,9 @@ ghost use Rattle.line.specs.Placed.{SamePlaces, line_on};
 use float::settings::{MOST_CELLS, MOST_PHASE_TAPS};
 use half_band::{DEC_CASCADE_DELAYS, MOST_DEPTH};
 use integer::limits::MOST_STAGES;
-use line::{Clock, LineNumbers, Places, Settings};
-use nonrecursive::Thinning;
+use line::{LineNumbers, Places};
 use nonrecursive::nonrecursive_decimator::MOST_NEIGHBOURS;
 use q15::MOST_TAPS;
-
-const NONE: LineNumbers = LineNumbers {
-    settings: Settings {
-        stages: 0,
-        r: 0,
-        factor: 0,
-        depth: 0,
-        phases: 0,
-        taps: 0,
-        straight: false,
-        step: 0.0,
-        thinning: Thinning::Integrators,
-    },
-    tap_count: 0,
-    clock: Clock {
-        sample_counter: 0,
-        wait: 0,
-        mu: 0.0,
-        cuts: 0,
-    },
-};
 
 // Both kinds of section 1.
 pub(crate) fn clear_sums(
@@ -86,5 +64,5 @@ pub(crate) fn clear(n: &mut LineNumbers, lent: &mut Places<'_>)
     clear_fir(lent.taps, lent.fir_delay);
     clear_half_band(lent.delays, lent.held, lent.counts);
     clear_resampler(lent.delay, lent.prototype);
-    *n = NONE;
+    *n = LineNumbers::default();
 }
