@@ -4,8 +4,8 @@ ghost use Rattle.half_band.specs.HbfDecCascade.{dec_cascade_opening, dec_cascade
 ghost use Rattle.gauge_line.specs.States.{entry, exit, dec_cascade_at};
 
 use crate::answers::number;
-use crate::states::{dec_cascade, put_cascade};
-use half_band::hbf_dec_cascade::frames_lent;
+use crate::states::put_cascade;
+use half_band::hbf_dec_cascade::{frames_lent, reset_lent};
 use half_band::{DEC_CASCADE_DELAYS, Db98, HbfDecCascade98};
 
 #[unsafe(no_mangle)]
@@ -31,9 +31,7 @@ pub extern "C" fn gauge_raw_hbf_dec_cascade_98_reset(
 ) -> usize
     ensures answer { record { number = result; state = dec_cascade_at exit depth delays } ≡ dec_cascade_reset (dec_cascade_at entry depth delays) }
 {
-    let mut state: HbfDecCascade98 = dec_cascade(*depth, *delays);
-    let answer = state.reset();
-    put_cascade(state.depth, &state.delays, depth, delays);
+    let answer = reset_lent(*depth, delays);
     number(&answer)
 }
 

@@ -4,8 +4,8 @@ ghost use Rattle.half_band.specs.HbfIntCascade.{int_cascade_opening, int_cascade
 ghost use Rattle.gauge_line.specs.States.{entry, exit, int_cascade_at};
 
 use crate::answers::number;
-use crate::states::{int_cascade, put_cascade};
-use half_band::hbf_int_cascade::samples_lent;
+use crate::states::put_cascade;
+use half_band::hbf_int_cascade::{reset_lent, samples_lent};
 use half_band::{HbfIntCascade, INT_CASCADE_DELAYS};
 
 #[unsafe(no_mangle)]
@@ -31,9 +31,7 @@ pub extern "C" fn gauge_raw_hbf_int_cascade_reset(
 ) -> usize
     ensures answer { record { number = result; state = int_cascade_at exit depth delays } ≡ int_cascade_reset (int_cascade_at entry depth delays) }
 {
-    let mut state = int_cascade(*depth, *delays);
-    let answer = state.reset();
-    put_cascade(state.depth, &state.delays, depth, delays);
+    let answer = reset_lent(*depth, delays);
     number(&answer)
 }
 

@@ -6,8 +6,8 @@ ghost use Rattle.gauge_line.specs.Crossing.{crossed};
 ghost use Rattle.gauge_line.specs.States.{entry, exit, stream_at};
 
 use crate::answers::{self, number, output};
-use crate::states::{put_stream, stream};
-use half_band::hbf_stream::sample_lent;
+use crate::states::put_stream;
+use half_band::hbf_stream::{reset_lent, sample_lent};
 use half_band::{DEC_CASCADE_DELAYS, HbfStream, MOST_DEPTH};
 
 #[unsafe(no_mangle)]
@@ -37,9 +37,7 @@ pub extern "C" fn gauge_raw_hbf_stream_reset(
 ) -> usize
     ensures answer { record { number = result; state = stream_at exit depth delays held counts } ≡ stream_reset (stream_at entry depth delays held counts) }
 {
-    let mut state = stream(*depth, *delays, *held, *counts);
-    let answer = state.reset();
-    put_stream(&state, depth, delays, held, counts);
+    let answer = reset_lent(*depth, delays, held, counts);
     number(&answer)
 }
 

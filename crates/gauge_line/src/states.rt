@@ -4,15 +4,13 @@ ghost use Rattle.integer.specs.CicDecimator.{decimator_of};
 ghost use Rattle.integer.specs.CicInterpolator.{interpolator_of};
 ghost use Rattle.nonrecursive.specs.NonrecursiveDecimator.{nonrecursive_of};
 ghost use Rattle.q15.specs.FirDecimator.{fir_state};
-ghost use Rattle.half_band.specs.HbfDecCascade.{cascade_of};
-ghost use Rattle.half_band.specs.HbfStream.{stream_of};
 ghost use Rattle.linear_phase.specs.LinearPhaseFir.{phase_of};
 ghost use Rattle.gauge_line.specs.Crossing.{is_set, flag_of, kind_of, kind_number};
 ghost use Rattle.gauge_line.specs.States.{exit, decimator_at, nonrecursive_at, interpolator_at, fir_at, stream_at};
 
 use half_band::{
-    DEC_CASCADE_DELAYS, DEC_DELAYS, DecCascade, HbfDec, HbfInt, HbfIntCascade, HbfStream,
-    INT_CASCADE_DELAYS, INT_DELAYS, MOST_DEPTH, MOST_HALF_BAND_TAPS,
+    DEC_CASCADE_DELAYS, DEC_DELAYS, HbfDec, HbfInt, HbfStream, INT_DELAYS, MOST_DEPTH,
+    MOST_HALF_BAND_TAPS,
 };
 use integer::limits::MOST_STAGES;
 use integer::{CicDecimator, CicInterpolator};
@@ -20,7 +18,6 @@ use linear_phase::{Kind, LINEAR_PHASE_DELAYS, LinearPhaseFir, MOST_LINEAR_PHASE_
 use nonrecursive::nonrecursive_decimator::MOST_NEIGHBOURS;
 use nonrecursive::{NonrecursiveDecimator, Thinning};
 use q15::{FirDecimator, MOST_TAPS};
-use std::marker::PhantomData;
 
 pub(crate) fn decimator(
     stages: usize,
@@ -189,16 +186,6 @@ pub(crate) fn int(m: usize, coeffs: [f32; MOST_HALF_BAND_TAPS], delay: [f32; INT
     HbfInt { m, coeffs, delay }
 }
 
-pub(crate) fn dec_cascade<T>(depth: usize, delays: [f32; DEC_CASCADE_DELAYS]) -> DecCascade<T>
-    ensures { cascade_of result.depth result.delays ≡ cascade_of depth delays }
-{
-    DecCascade {
-        depth,
-        delays,
-        table: PhantomData,
-    }
-}
-
 // The depth and the delays of a cascade of either direction into the places that were lent for them.
 pub(crate) fn put_cascade<const DELAYS: usize>(
     next_depth: usize,
@@ -210,28 +197,6 @@ pub(crate) fn put_cascade<const DELAYS: usize>(
 {
     *depth = next_depth;
     *delays = *next_delays;
-}
-
-pub(crate) fn int_cascade(depth: usize, delays: [f32; INT_CASCADE_DELAYS]) -> HbfIntCascade
-    ensures { result ≡ record { depth = depth; delays = delays } }
-{
-    HbfIntCascade { depth, delays }
-}
-
-pub(crate) fn stream(
-    depth: usize,
-    delays: [f32; DEC_CASCADE_DELAYS],
-    held: [f32; MOST_DEPTH],
-    counts: [usize; MOST_DEPTH],
-) -> HbfStream
-    ensures { result ≡ stream_of depth delays held counts }
-{
-    HbfStream {
-        depth,
-        delays,
-        held,
-        counts,
-    }
 }
 
 pub(crate) fn put_stream(

@@ -123,6 +123,16 @@ pub fn frames_lent<T: StageTable>(
     Ok(frames)
 }
 
+// `DecCascade::reset`, of the fields lent, over either table: only zeros are written. Refusal 15.
+#[tactic(auto, unfolding(refusal::specs::Rows::outside))]
+pub fn reset_lent(depth: usize, delays: &mut [f32; DEC_CASCADE_DELAYS]) -> Result<(), Refusal>
+    ensures answer { told_reset result (cascade_of depth delays.new) ≡ dec_cascade_reset (cascade_of depth delays.old) }
+{
+    state_answer(depth, MOST_DEPTH)?;
+    delays.fill(0.0);
+    Ok(())
+}
+
 #[tactic(auto, unfolding(refusal::specs::Rows::outside, refusal::specs::Rows::samples_refused))]
 impl<T: StageTable> DecCascade<T> {
     // The state that a caller in C is given of a refused opening.
@@ -165,8 +175,6 @@ impl<T: StageTable> DecCascade<T> {
     pub fn reset(&mut self) -> Result<(), Refusal>
         ensures answer { told_reset result (cascade_of self.new.depth self.new.delays) ≡ dec_cascade_reset (cascade_of self.old.depth self.old.delays) }
     {
-        state_answer(self.depth, MOST_DEPTH)?;
-        self.delays = [0.0; DEC_CASCADE_DELAYS];
-        Ok(())
+        reset_lent(self.depth, &mut self.delays)
     }
 }

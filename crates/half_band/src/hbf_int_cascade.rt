@@ -80,6 +80,16 @@ pub fn samples_lent(
     Ok(count)
 }
 
+// `HbfIntCascade::reset`, of the fields lent: only zeros are written. Refusal 15.
+#[tactic(auto, unfolding(refusal::specs::Rows::outside))]
+pub fn reset_lent(depth: usize, delays: &mut [f32; INT_CASCADE_DELAYS]) -> Result<(), Refusal>
+    ensures answer { told_reset result (int_cascade_of depth delays.new) ≡ int_cascade_reset (int_cascade_of depth delays.old) }
+{
+    state_answer(depth, MOST_DEPTH)?;
+    delays.fill(0.0);
+    Ok(())
+}
+
 #[tactic(auto, unfolding(refusal::specs::Rows::outside))]
 impl HbfIntCascade {
     // The state that a caller in C is given of a refused opening.
@@ -118,8 +128,6 @@ impl HbfIntCascade {
     pub fn reset(&mut self) -> Result<(), Refusal>
         ensures answer { told_reset result self.new ≡ int_cascade_reset self.old }
     {
-        state_answer(self.depth, MOST_DEPTH)?;
-        self.delays = [0.0; INT_CASCADE_DELAYS];
-        Ok(())
+        reset_lent(self.depth, &mut self.delays)
     }
 }

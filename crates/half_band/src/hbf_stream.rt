@@ -99,6 +99,24 @@ pub fn sample_lent(
     Ok(hbf_stream_at(depth, delays, held, counts, x))
 }
 
+// `HbfStream::reset`, of the fields lent: only zeros are written. Refusal 15.
+pub fn reset_lent(
+    depth: usize,
+    delays: &mut [f32; DEC_CASCADE_DELAYS],
+    held: &mut [f32; MOST_DEPTH],
+    counts: &mut [usize; MOST_DEPTH],
+) -> Result<(), Refusal>
+    ensures answer { told_reset result (stream_of depth delays.new held.new counts.new) ≡ stream_reset (stream_of depth delays.old held.old counts.old) }
+{
+    if hbf_stream_refused(depth, counts) {
+        return Err(Refusal::State);
+    }
+    delays.fill(0.0);
+    held.fill(0.0);
+    counts.fill(0);
+    Ok(())
+}
+
 impl HbfStream {
     // A cascade that has taken nothing in yet, of no stages where it stands in a line without one.
     pub fn fresh(depth: usize) -> HbfStream
@@ -135,10 +153,7 @@ impl HbfStream {
     pub fn reset(&mut self) -> Result<(), Refusal>
         ensures answer { told_reset result self.new ≡ stream_reset self.old }
     {
-        if hbf_stream_refused(self.depth, &self.counts) {
-            return Err(Refusal::State);
-        }
-        *self = HbfStream::fresh(self.depth);
-        Ok(())
+        let depth = self.depth;
+        reset_lent(depth, &mut self.delays, &mut self.held, &mut self.counts)
     }
 }
