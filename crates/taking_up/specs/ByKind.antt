@@ -1,5 +1,5 @@
 -- Taking up by the kind of thinning, which the count of entries says: the seven entries and the eight as one record, and each definition of `Taking` at either.
-use Rattle.std.specs.Prelude.{◌≡◌, Bool, ◌&&◌, List, ℕ, ◌+◌, ◌*◌, eqb, length, Result, Ok, Err}
+use Rattle.std.specs.Prelude.{◌≡◌, Bool, ◌&&◌, List, [], ℕ, ◌+◌, ◌*◌, eqb, length, Option, None, Some, Result, Ok, Err, unwrap_or, option_copied}
 use Rattle.refusal.specs.Outcome.{Opened}
 use Rattle.refusal.specs.Table.{number_of}
 use Rattle.refusal.specs.declared.Refusal.{Refusal}
@@ -22,6 +22,14 @@ pub record Parts : Type 0 where
   pub resampler : List ℕ
   pub last : List ℕ
 
+-- the kind: of neighbours there is a last entry
+abbrev pub kind_by : {A : Type 0} → Option A → Thinning
+kind_by None = thinning.Integrators
+kind_by (Some last) = thinning.Neighbours
+
+abbrev pub kind_in : Entries → Thinning
+kind_in e = kind_by e.last
+
 abbrev pub told : Entries → Parts
 told e =
     record {
@@ -32,12 +40,16 @@ told e =
       half_band = e.half_band.now;
       cells = e.cells.now;
       resampler = e.resampler.now;
-      last = e.last.now;
+      last = unwrap_or (option_copied e.last) [];
     }
 
 -- those of the bytes b, for a reader that keeps a count
-abbrev pub parts_in : List ℕ → ℕ → Parts
-parts_in b n =
+abbrev pub last_in : Thinning → List ℕ → ℕ → List ℕ
+last_in thinning.Integrators b n = []
+last_in thinning.Neighbours b n = entry present b n 7
+
+abbrev pub parts_in : Thinning → List ℕ → ℕ → Parts
+parts_in k b n =
     record {
       settings = entry present b n 0;
       cic = entry present b n 1;
@@ -46,7 +58,7 @@ parts_in b n =
       half_band = entry present b n 4;
       cells = entry present b n 5;
       resampler = entry present b n 6;
-      last = entry present b n 7;
+      last = last_in k b n;
     }
 
 -- entries as long as the settings make them: what only one kind has, and what both have

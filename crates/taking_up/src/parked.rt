@@ -1,11 +1,11 @@
-// A parked line: its kind, its settings and its entries, which are as long as the settings make them and within 01's limits; and what they are read as.
+// A parked line: its settings and its entries, which are as long as the settings make them and within 01's limits; and what they are read as.
 ghost use Rattle.std.specs.Prelude.{◌≡◌, ◌&&◌};
 ghost use Rattle.integer.specs.CicDecimator.{decimator_of};
 ghost use Rattle.line.specs.Placed.{SamePlaces, line_on};
 ghost use Rattle.line.specs.Together.{valid_at};
 ghost use Rattle.parking.specs.Limits.{InLimits};
 ghost use Rattle.parking.specs.Told.{numbers_of};
-ghost use Rattle.taking_up.specs.ByKind.{Long, told, line_by};
+ghost use Rattle.taking_up.specs.ByKind.{Long, kind_in, told, line_by};
 ghost use Rattle.taking_up.specs.Taking as T;
 
 use crate::entries::Entries;
@@ -17,18 +17,16 @@ use crate::rows::are_floats;
 use half_band::MOST_DEPTH;
 use integer::limits::MOST_STAGES;
 use line::{Clock, LineNumbers, Places, Settings, numbers_valid};
-use nonrecursive::Thinning;
 use nonrecursive::nonrecursive_decimator::MOST_NEIGHBOURS;
 use parking::settings::ParkedSettings;
 use words::{f32_of_bits, is_f32_bits};
 
 #[derive(Clone, Copy)]
 pub(crate) struct Parked<'a> {
-    pub thinning: Thinning,
     pub q: ParkedSettings,
     pub e: Entries<'a>,
     ghost limits: { InLimits (numbers_of q) },
-    ghost long: { Long thinning (numbers_of q) (told e) },
+    ghost long: { Long (kind_in e) (numbers_of q) (told e) },
 }
 
 impl<'a> Parked<'a> {
@@ -40,25 +38,21 @@ impl<'a> Parked<'a> {
         combs: &mut [i32; MOST_STAGES],
         neighbours: &mut [i32; MOST_NEIGHBOURS],
     ) -> usize
-        ensures sums { let line = line_by self.entry.thinning (numbers_of self.entry.q) (told self.entry.e) in
+        ensures sums { let line = line_by (kind_in self.entry.e) (numbers_of self.entry.q) (told self.entry.e) in
             decimator_of self.entry.q.stages self.entry.q.r integrators.new combs.new result ≡ line.cic }
-        ensures neighbours { let line = line_by self.entry.thinning (numbers_of self.entry.q) (told self.entry.e) in
+        ensures neighbours { let line = line_by (kind_in self.entry.e) (numbers_of self.entry.q) (told self.entry.e) in
             neighbours.new ≡ line.neighbours }
     {
-        match self.thinning {
-            Thinning::Integrators => {
-                read_sums(self.q, self.e.cic, integrators, combs, neighbours)
-            }
-            Thinning::Neighbours => {
-                read_neighbours(self.q, self.e.last, integrators, combs, neighbours)
-            }
+        match self.e.last {
+            None => read_sums(self.q, self.e.cic, integrators, combs, neighbours),
+            Some(last) => read_neighbours(self.q, last, integrators, combs, neighbours),
         }
     }
 
     // The line, into the arrays that are lent, and its numbers.
     pub(crate) fn read(self, lent: &mut Places<'_>) -> LineNumbers
         ensures same { SamePlaces lent.old lent.new }
-        ensures line { line_on result lent.new ≡ line_by self.entry.thinning (numbers_of self.entry.q) (told self.entry.e) }
+        ensures line { line_on result lent.new ≡ line_by (kind_in self.entry.e) (numbers_of self.entry.q) (told self.entry.e) }
     {
         let q = self.q;
         let e = self.e;
@@ -76,7 +70,7 @@ impl<'a> Parked<'a> {
                 taps: q.cells,
                 straight: 1 <= q.straight,
                 step: f32_of_bits(q.step),
-                thinning: self.thinning,
+                thinning: e.thinning(),
             },
             tap_count: q.taps,
             clock: Clock {
