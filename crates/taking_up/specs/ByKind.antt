@@ -6,7 +6,10 @@ use Rattle.refusal.specs.declared.Refusal.{Refusal}
 use Rattle.nonrecursive.specs.declared.thinning.Thinning.{Thinning}
 use Rattle.nonrecursive.specs.declared.thinning.Thinning.TheVariants as thinning
 use Rattle.line.specs.Line as L
+use Rattle.line.specs.Placed.{line_on}
 use Rattle.line.specs.declared.gauge_line.Line.{Line}
+use Rattle.line.specs.declared.lent.LineNumbers.{LineNumbers}
+use Rattle.line.specs.declared.places.Places.{Places}
 use Rattle.sheet.specs.Sheet.{present, entry}
 use Rattle.parking.specs.Parked.{Settings, half_band_bytes, neighbour_count}
 use Rattle.taking_up.specs.Taking.{line_of, thin_line_of, long_as, thin_long_as, opened_in, opened_from, thin_opened_from}
@@ -87,10 +90,10 @@ abbrev pub line_by : Thinning → Settings → Parts → Line
 line_by thinning.Integrators q e = line_of q e.cic e.taps e.delay e.half_band e.cells e.resampler
 line_by thinning.Neighbours q e = thin_line_of q e.taps e.delay e.half_band e.cells e.resampler e.last
 
--- what reading answers: the line that was read, or a refusal, and zeros
-abbrev pub told_read : {A : Type 0} → Result A Refusal → Line → Opened Line
-told_read (Ok a) l = record { number = 0; state = l }
-told_read (Err q) l = record { number = number_of q; state = L.zeros }
+-- what reading answers: the line of the numbers that were read and of the arrays that are lent, or a refusal, and zeros
+abbrev pub told_read : Result LineNumbers Refusal → Places → Opened Line
+told_read (Ok n) lent = record { number = 0; state = line_on n lent }
+told_read (Err q) lent = record { number = number_of q; state = L.zeros }
 
 -- what entries of the right lengths answer, and what entries answer
 abbrev pub opened_in_by : Thinning → Settings → Parts → Opened Line

@@ -17,9 +17,9 @@ ghost use Rattle.parking.specs.Told.{numbers_of};
 
 use crate::clearing::{clear_fir, clear_half_band, clear_resampler, clear_sums};
 use crate::rows::{are_floats, get_all};
-use float::settings::{MOST_CELLS, MOST_PHASE_TAPS};
+use float::settings::{MOST_CELLS, MOST_PHASE_TAPS, MOST_PHASES};
 use half_band::{DEC_CASCADE_DELAYS, MOST_DEPTH};
-use integer::limits::MOST_STAGES;
+use integer::limits::{MOST_FACTOR, MOST_STAGES};
 use nonrecursive::nonrecursive_decimator::MOST_NEIGHBOURS;
 use parking::settings::{ParkedSettings, half_band_bytes, halvings, window};
 use q15::MOST_TAPS;
@@ -52,10 +52,10 @@ pub(crate) fn in_limits(q: ParkedSettings) -> bool
     ensures { result ≡ T.in_limits (numbers_of q) }
 {
     q.stages <= MOST_STAGES
-        && q.r <= 4096
+        && q.r <= MOST_FACTOR
         && q.taps <= MOST_TAPS
         && q.depth <= MOST_DEPTH
-        && q.phases <= 64
+        && q.phases <= MOST_PHASES
         && q.cells <= MOST_PHASE_TAPS
 }
 

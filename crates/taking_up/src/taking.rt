@@ -18,16 +18,16 @@ use crate::entries::Entries;
 use crate::parked::Parked;
 use crate::reading::{in_limits, settings_from};
 use crate::stated::Stated;
-use line::{Clock, Line, LineNumbers, Places, numbers_in, zeros};
+use line::{Clock, Line, LineNumbers, Places, zeros};
 use refusal::Refusal;
 use sheet::TapSheet;
 
-// What entries of the right lengths answer; the line is read where its numbers and arrays lie, and is tested there.
-fn open_parts(stated: Stated<'_>, n: &mut LineNumbers, lent: &mut Places<'_>) -> Result<(), Refusal>
+// What entries of the right lengths answer; the line is read where its arrays lie, and is tested there.
+fn open_parts(stated: Stated<'_>, lent: &mut Places<'_>) -> Result<LineNumbers, Refusal>
     requires { Long (kind_in stated.e) (numbers_of stated.q) (told stated.e) }
     ensures same { SamePlaces lent.old lent.new }
     ensures answer { let s = stated.entry in
-        told_read result (line_on n.new lent.new) ≡ opened_in_by (kind_in s.e) (numbers_of s.q) (told s.e) }
+        told_read result lent.new ≡ opened_in_by (kind_in s.e) (numbers_of s.q) (told s.e) }
 {
     let Stated { q, e } = stated;
     if !in_limits(q) {
@@ -35,17 +35,16 @@ fn open_parts(stated: Stated<'_>, n: &mut LineNumbers, lent: &mut Places<'_>) ->
     }
     let parked = Parked { q, e };
     let read = parked.read(lent);
-    *n = read;
     if !parked.is_fine(read, lent.counts) {
         return Err(Refusal::State);
     }
-    Ok(())
+    Ok(read)
 }
 
 // What the entries answer.
-fn open_entries(e: Entries, n: &mut LineNumbers, lent: &mut Places<'_>) -> Result<(), Refusal>
+fn open_entries(e: Entries, lent: &mut Places<'_>) -> Result<LineNumbers, Refusal>
     ensures same { SamePlaces lent.old lent.new }
-    ensures answer { told_read result (line_on n.new lent.new) ≡ opened_by (kind_in e.entry) (told e.entry) }
+    ensures answer { told_read result lent.new ≡ opened_by (kind_in e.entry) (told e.entry) }
 {
     if e.settings.len() != 24 {
         return Err(Refusal::Parked);
@@ -55,17 +54,17 @@ fn open_entries(e: Entries, n: &mut LineNumbers, lent: &mut Places<'_>) -> Resul
     if !stated.is_long() {
         return Err(Refusal::Parked);
     }
-    open_parts(stated, n, lent)
+    open_parts(stated, lent)
 }
 
 // What the sheet answers; of one that is refused the arrays may hold what was read.
-fn open_sheet(bytes: &[u8], n: &mut LineNumbers, lent: &mut Places<'_>) -> Result<(), Refusal>
+fn open_sheet(bytes: &[u8], lent: &mut Places<'_>) -> Result<LineNumbers, Refusal>
     ensures same { SamePlaces lent.old lent.new }
-    ensures answer { told_read result (line_on n.new lent.new) ≡ K.taken_up P.panel bytes.now }
+    ensures answer { told_read result lent.new ≡ K.taken_up P.panel bytes.now }
 {
     let sheet = TapSheet::checked(bytes)?;
     let e = Entries::of(sheet)?;
-    open_entries(e, n, lent)
+    open_entries(e, lent)
 }
 
 // `take_up` where the numbers and arrays lie. Refused: all of them are zeros.
@@ -77,12 +76,15 @@ pub fn take_up_lent(bytes: &[u8], n: &mut LineNumbers, lent: &mut Places<'_>) ->
     ensures parked { AsParked bytes.now (told_reset result (line_on n.new lent.new)) }
     ensures earlier { StillTaken bytes.now (told_reset result (line_on n.new lent.new)) }
 {
-    match open_sheet(bytes, n, lent) {
+    match open_sheet(bytes, lent) {
+        Ok(read) => {
+            *n = read;
+            Ok(())
+        }
         Err(row) => {
             clear(n, lent);
             Err(row)
         }
-        Ok(()) => Ok(()),
     }
 }
 
@@ -126,7 +128,8 @@ pub fn take_up(bytes: &[u8]) -> Result<Line, Refusal>
     ensures earlier { StillTaken bytes.now (told_opened L.zeros result) }
 {
     let mut line = zeros();
-    let mut n = numbers_in(&line);
+    let mut n = LineNumbers::default();
+    // A function can't make it, as in line's `open`: of a `&mut Line` it may hand out one field and no more.
     let mut lent = Places {
         integrators: &mut line.cic.integrator_state,
         combs: &mut line.cic.comb_state,
