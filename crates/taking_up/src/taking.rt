@@ -88,7 +88,7 @@ pub fn take_up_lent(bytes: &[u8], n: &mut LineNumbers, lent: &mut Places<'_>) ->
     }
 }
 
-// The clock of a line as it was read.
+// The clock of a line as it was read. This and the next as line's `put_clock` and `put_numbers`, which are of that crate alone.
 fn put_clock(line: &mut Line, clock: Clock)
     ensures { line.new ≡ with_clock clock line.old }
 {
