@@ -8,7 +8,7 @@ ghost use Rattle.parking.specs.Kept.{line_kept};
 ghost use Rattle.parking.specs.Parked as P;
 ghost use Rattle.parking.specs.Told.{numbers_of, first_bytes, first_size, last_bytes, last_size};
 
-use crate::kept::KeptLine;
+use crate::fine_line::FineLine;
 use crate::put::put_all;
 use crate::settings::{ParkedSettings, half_band_bytes, halvings, window};
 use nonrecursive::Thinning;
@@ -40,58 +40,58 @@ pub(crate) fn put_settings(span: &mut [u8], q: &ParkedSettings)
     cuts.copy_from_slice(&q.cuts.to_le_bytes());
 }
 
-#[tactic(auto, unfolding(crate::specs::Entries::cic_bytes))]
-fn put_cic(span: &mut [u8], k: &KeptLine<'_>)
-    requires { let d = (line_kept k.now).cic in (d.stages ≤ 8) × (length span.old ≡ 2 + 8 * d.stages) }
-    ensures { span.new ≡ E.cic_bytes (line_kept k.now).cic }
+#[tactic(auto, unfolding(crate::specs::Entries::settings_in, crate::specs::Entries::cic_bytes))]
+fn put_cic(span: &mut [u8], line: &FineLine<'_>)
+    requires { length span.old ≡ 2 + 8 * (line_kept line.now.kept).cic.stages }
+    ensures { span.new ≡ E.cic_bytes (line_kept line.now.kept).cic }
 {
-    let n = k.numbers.settings.stages;
-    let integrators = k.integrators;
-    let combs = k.combs;
+    let n = line.kept.numbers.settings.stages;
+    let integrators = line.kept.integrators;
+    let combs = line.kept.combs;
     let (counter, behind) = span.split_at_mut(2);
     let (front, back) = behind.split_at_mut(4 * n);
-    counter.copy_from_slice(&bytes16(k.numbers.clock.sample_counter));
+    counter.copy_from_slice(&bytes16(line.kept.numbers.clock.sample_counter));
     put_all(front, &integrators[..n]);
     put_all(back, &combs[..n]);
 }
 
 // The CIC entry, of a line of neighbours an empty one.
-pub(crate) fn put_first(span: &mut [u8], k: &KeptLine<'_>)
-    requires { let l = line_kept k.now in (l.cic.stages ≤ 8) × (length span.old ≡ first_size l.thinning l.cic.stages) }
-    ensures { span.new ≡ first_bytes (line_kept k.now) }
+pub(crate) fn put_first(span: &mut [u8], line: &FineLine<'_>)
+    requires { let l = line_kept line.now.kept in length span.old ≡ first_size l.thinning l.cic.stages }
+    ensures { span.new ≡ first_bytes (line_kept line.now.kept) }
 {
-    match k.numbers.settings.thinning {
-        Thinning::Integrators => put_cic(span, k),
+    match line.kept.numbers.settings.thinning {
+        Thinning::Integrators => put_cic(span, line),
         Thinning::Neighbours => {}
     }
 }
 
 // The entries of FIR taps and FIR delay.
-#[tactic(auto, unfolding(crate::specs::Entries::tap_bytes, crate::specs::Entries::delay_bytes))]
-pub(crate) fn put_fir(span: &mut [u8], k: &KeptLine<'_>)
-    requires { let f = (line_kept k.now).fir in (f.tap_count ≤ most_taps) × (length span.old ≡ 2 * f.tap_count + (2 + 2 * f.tap_count)) }
-    ensures { let f = (line_kept k.now).fir in span.new ≡ E.tap_bytes f ++ E.delay_bytes f }
+#[tactic(auto, unfolding(crate::specs::Entries::settings_in, crate::specs::Entries::tap_bytes, crate::specs::Entries::delay_bytes))]
+pub(crate) fn put_fir(span: &mut [u8], line: &FineLine<'_>)
+    requires { let f = (line_kept line.now.kept).fir in length span.old ≡ 2 * f.tap_count + (2 + 2 * f.tap_count) }
+    ensures { let f = (line_kept line.now.kept).fir in span.new ≡ E.tap_bytes f ++ E.delay_bytes f }
 {
-    let n = k.numbers.tap_count;
-    let taps = k.taps;
-    let delay = k.fir_delay;
+    let n = line.kept.numbers.tap_count;
+    let taps = line.kept.taps;
+    let delay = line.kept.fir_delay;
     let (front, behind) = span.split_at_mut(2 * n);
     let (wait, back) = behind.split_at_mut(2);
     put_all(front, &taps[..n]);
-    wait.copy_from_slice(&bytes16(k.numbers.clock.wait));
+    wait.copy_from_slice(&bytes16(line.kept.numbers.clock.wait));
     put_all(back, &delay[..n]);
 }
 
 // One of the half-band stages.
 #[tactic(auto, unfolding(crate::specs::Entries::stage_bytes))]
-fn put_stage(span: &mut [u8], stage: usize, k: &KeptLine<'_>)
-    requires { (stage < 5) × (length (line_kept k.now).half_band.held ≡ 5) × (length span.old ≡ 6 + 4 * E.window_of stage) }
-    ensures { span.new ≡ E.stage_bytes (line_kept k.now).half_band stage }
+fn put_stage(span: &mut [u8], stage: usize, line: &FineLine<'_>)
+    requires { (stage < 5) × (length span.old ≡ 6 + 4 * E.window_of stage) }
+    ensures { span.new ≡ E.stage_bytes (line_kept line.now.kept).half_band stage }
 {
     let from = 96 * stage;
-    let counts = k.counts;
-    let held = k.held;
-    let delays = k.delays;
+    let counts = line.kept.counts;
+    let held = line.kept.held;
+    let delays = line.kept.delays;
     let (count, behind) = span.split_at_mut(2);
     let (sample, back) = behind.split_at_mut(4);
     count.copy_from_slice(&bytes16(counts[stage]));
@@ -100,58 +100,57 @@ fn put_stage(span: &mut [u8], stage: usize, k: &KeptLine<'_>)
 }
 
 // The half-band entry. By the stages' numbers, since by these go their places.
-pub(crate) fn put_half_band(span: &mut [u8], k: &KeptLine<'_>)
-    requires { let s = (line_kept k.now).half_band in (s.depth ≤ 5) × (length s.held ≡ 5) × (length span.old ≡ P.half_band_bytes s.depth) }
-    ensures { let s = (line_kept k.now).half_band in span.new ≡ E.stages_bytes s s.depth }
+pub(crate) fn put_half_band(span: &mut [u8], line: &FineLine<'_>)
+    requires { let s = (line_kept line.now.kept).half_band in length span.old ≡ P.half_band_bytes s.depth }
+    ensures { let s = (line_kept line.now.kept).half_band in span.new ≡ E.stages_bytes s s.depth }
 {
-    for stage in 0..k.numbers.settings.depth {
+    for stage in 0..line.kept.numbers.settings.depth {
         put_stage(
             &mut span[half_band_bytes(stage)..half_band_bytes(stage + 1)],
             stage,
-            k,
+            line,
         );
     }
 }
 
 // The entries of the prototype and the resampler.
-#[tactic(auto, unfolding(crate::specs::Entries::prototype_bytes, crate::specs::Entries::resampler_bytes))]
-pub(crate) fn put_resampler(span: &mut [u8], k: &KeptLine<'_>)
-    requires { let p = (line_kept k.now).resampler in
-        (p.phases ≤ 64) × (p.taps ≤ 16) × (length span.old ≡ 4 * (p.phases * p.taps) + (4 + 4 * p.taps)) }
-    ensures { let p = (line_kept k.now).resampler in span.new ≡ E.prototype_bytes p ++ E.resampler_bytes p }
+#[tactic(auto, unfolding(crate::specs::Entries::settings_in, crate::specs::Entries::prototype_bytes, crate::specs::Entries::resampler_bytes))]
+pub(crate) fn put_resampler(span: &mut [u8], line: &FineLine<'_>)
+    requires { let p = (line_kept line.now.kept).resampler in length span.old ≡ 4 * (p.phases * p.taps) + (4 + 4 * p.taps) }
+    ensures { let p = (line_kept line.now.kept).resampler in span.new ≡ E.prototype_bytes p ++ E.resampler_bytes p }
 {
-    let s = k.numbers.settings;
+    let s = line.kept.numbers.settings;
     let cells = s.phases * s.taps;
-    let prototype = k.prototype;
-    let delay = k.delay;
+    let prototype = line.kept.prototype;
+    let delay = line.kept.delay;
     let (front, behind) = span.split_at_mut(4 * cells);
     let (mu, back) = behind.split_at_mut(4);
     put_all(front, &prototype[..cells]);
-    mu.copy_from_slice(&bits_of_f32(k.numbers.clock.mu).to_le_bytes());
+    mu.copy_from_slice(&bits_of_f32(line.kept.numbers.clock.mu).to_le_bytes());
     put_all(back, &delay[..s.taps]);
 }
 
 // "its place and then N neighbours for each halving"
-#[tactic(auto, unfolding(crate::specs::Entries::neighbours_bytes, crate::specs::Parked::neighbour_count))]
-fn put_neighbours(span: &mut [u8], k: &KeptLine<'_>)
-    requires { let d = (line_kept k.now).cic in (d.stages ≤ 8) × (d.r ≤ 4096) × (length span.old ≡ 2 + 4 * P.neighbour_count d.stages d.r) }
-    ensures { let l = line_kept k.now in span.new ≡ E.neighbours_bytes l.cic l.neighbours }
+#[tactic(auto, unfolding(crate::specs::Entries::settings_in, crate::specs::Entries::neighbours_bytes, crate::specs::Parked::neighbour_count))]
+fn put_neighbours(span: &mut [u8], line: &FineLine<'_>)
+    requires { let d = (line_kept line.now.kept).cic in length span.old ≡ 2 + 4 * P.neighbour_count d.stages d.r }
+    ensures { let l = line_kept line.now.kept in span.new ≡ E.neighbours_bytes l.cic l.neighbours }
 {
-    let s = k.numbers.settings;
+    let s = line.kept.numbers.settings;
     let n = s.stages * halvings(s.r);
-    let neighbours = k.neighbours;
+    let neighbours = line.kept.neighbours;
     let (place, behind) = span.split_at_mut(2);
-    place.copy_from_slice(&bytes16(k.numbers.clock.sample_counter));
+    place.copy_from_slice(&bytes16(line.kept.numbers.clock.sample_counter));
     put_all(behind, &neighbours[..n]);
 }
 
 // The entry that a line of neighbours has more.
-pub(crate) fn put_last(span: &mut [u8], k: &KeptLine<'_>)
-    requires { let l = line_kept k.now in (l.cic.stages ≤ 8) × (l.cic.r ≤ 4096) × (length span.old ≡ last_size l.thinning l.cic.stages l.cic.r) }
-    ensures { span.new ≡ last_bytes (line_kept k.now) }
+pub(crate) fn put_last(span: &mut [u8], line: &FineLine<'_>)
+    requires { let l = line_kept line.now.kept in length span.old ≡ last_size l.thinning l.cic.stages l.cic.r }
+    ensures { span.new ≡ last_bytes (line_kept line.now.kept) }
 {
-    match k.numbers.settings.thinning {
+    match line.kept.numbers.settings.thinning {
         Thinning::Integrators => {}
-        Thinning::Neighbours => put_neighbours(span, k),
+        Thinning::Neighbours => put_neighbours(span, line),
     }
 }

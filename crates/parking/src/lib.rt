@@ -2,6 +2,7 @@
 #![tactic(auto)]
 
 mod entries;
+mod fine_line;
 pub mod kept;
 mod put;
 pub mod settings;

@@ -38,7 +38,7 @@ const HALF_BAND_BYTES: [usize; MOST_DEPTH + 1] = [0, 54, 124, 210, 376, 750];
 pub fn window(k: usize) -> usize
     ensures { result ≡ E.window_of k }
 {
-    if k < MOST_DEPTH { WINDOWS[k] } else { 0 }
+    WINDOWS.get(k).copied().unwrap_or(0)
 }
 
 // How many bytes the half-band entry has; "a depth over 5 counts as 5".
@@ -55,7 +55,7 @@ pub fn halvings(r: usize) -> usize
     ensures value { result ≡ D.halvings r }
     ensures most { result ≤ 63 }
 {
-    if r == 0 { 0 } else { r.ilog2() as usize }
+    r.checked_ilog2().map_or(0, |n| n as usize)
 }
 
 // How many entries the sheet of a line has: of neighbours one more.

@@ -46,7 +46,7 @@ impl Passed {
     // Another entry passed.
     #[tactic(auto, unfolding(crate::specs::Passed::where_full))]
     fn and(self, entry: Place) -> Passed
-        requires { entry.offset + entry.size < 8589934592 }
+        requires { entry.offset + entry.size < 18446744073709551616 }
         ensures last { result.last ≡ entry.offset }
         ensures full { result.full ≡ where_full entry.size entry.offset self.full }
         ensures end { result.end ≡ where_full entry.size (entry.offset + entry.size) self.end }
@@ -95,7 +95,6 @@ pub(crate) fn place_at(bytes: &[u8], k: usize) -> Place
     requires { k < 32 }
     ensures offset { result.offset ≡ S.offset bytes.now k }
     ensures size { result.size ≡ S.size bytes.now k }
-    ensures below { (result.offset < 4294967296) × (result.size < 4294967296) }
 {
     Place {
         offset: le32_at(bytes, 2 + 8 * k) as usize,
@@ -103,12 +102,11 @@ pub(crate) fn place_at(bytes: &[u8], k: usize) -> Place
     }
 }
 
-// Whether an entry lies in the data. That its numbers have 32 bits is a clause here and no ghost field of `Place`: callers make one, of zeros, where a call is refused.
+// Whether an entry lies in the data.
 fn in_data(entry: Place, from: usize, past: usize) -> bool
-    requires { (entry.offset < 4294967296) × (entry.size < 4294967296) }
     ensures { result ≡ (leb from entry.offset && leb (entry.offset + entry.size) past) }
 {
-    from <= entry.offset && entry.offset + entry.size <= past
+    from <= entry.offset && entry.offset <= past && entry.size <= past - entry.offset
 }
 
 // Whether every entry lies in the data and may stand behind those before it. By their numbers, by which their pairs are found.

@@ -303,7 +303,7 @@ module _ (b : List ℕ) where
   all_kept z = (rw (← z), rw (← z))
 
   -- as the code has them: the sheet's own count says which
-  pub taken_by : (k : Thinning) (bytes : List ℕ) (n : ℕ) → 0 ≡ sheet_number present b → bytes ≡ kept_bytes present b → n ≡ kept_count present b → n ≡ count_by k → opened_by k (parts_in bytes n) ≡ taken_up panel b
+  pub taken_by : (k : Thinning) (bytes : List ℕ) (n : ℕ) → 0 ≡ sheet_number present b → bytes ≡ kept_bytes present b → n ≡ kept_count present b → n ≡ count_by k → opened_by k (parts_in k bytes n) ≡ taken_up panel b
   taken_by thinning.Integrators bytes n z e f h = let a = all_kept z in rw (e, a.0, h) (taken_seven (sym z) (sym a.1 ∙ sym f ∙ h))
   taken_by thinning.Neighbours bytes n z e f h = let a = all_kept z in rw (e, a.0, h) (taken_eight (sym z) (sym a.1 ∙ sym f ∙ h))
 

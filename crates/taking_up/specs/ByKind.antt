@@ -1,12 +1,15 @@
 -- Taking up by the kind of thinning, which the count of entries says: the seven entries and the eight as one record, and each definition of `Taking` at either.
-use Rattle.std.specs.Prelude.{◌≡◌, Bool, ◌&&◌, List, ℕ, ◌+◌, ◌*◌, eqb, length, Result, Ok, Err}
+use Rattle.std.specs.Prelude.{◌≡◌, Bool, ◌&&◌, List, [], ℕ, ◌+◌, ◌*◌, eqb, length, Option, None, Some, Result, Ok, Err, unwrap_or, option_copied}
 use Rattle.refusal.specs.Outcome.{Opened}
 use Rattle.refusal.specs.Table.{number_of}
 use Rattle.refusal.specs.declared.Refusal.{Refusal}
 use Rattle.nonrecursive.specs.declared.thinning.Thinning.{Thinning}
 use Rattle.nonrecursive.specs.declared.thinning.Thinning.TheVariants as thinning
 use Rattle.line.specs.Line as L
+use Rattle.line.specs.Placed.{line_on}
 use Rattle.line.specs.declared.gauge_line.Line.{Line}
+use Rattle.line.specs.declared.lent.LineNumbers.{LineNumbers}
+use Rattle.line.specs.declared.places.Places.{Places}
 use Rattle.sheet.specs.Sheet.{present, entry}
 use Rattle.parking.specs.Parked.{Settings, half_band_bytes, neighbour_count}
 use Rattle.taking_up.specs.Taking.{line_of, thin_line_of, long_as, thin_long_as, opened_in, opened_from, thin_opened_from}
@@ -22,6 +25,14 @@ pub record Parts : Type 0 where
   pub resampler : List ℕ
   pub last : List ℕ
 
+-- the kind: of neighbours there is a last entry
+abbrev pub kind_by : {A : Type 0} → Option A → Thinning
+kind_by None = thinning.Integrators
+kind_by (Some last) = thinning.Neighbours
+
+abbrev pub kind_in : Entries → Thinning
+kind_in e = kind_by e.last
+
 abbrev pub told : Entries → Parts
 told e =
     record {
@@ -32,12 +43,16 @@ told e =
       half_band = e.half_band.now;
       cells = e.cells.now;
       resampler = e.resampler.now;
-      last = e.last.now;
+      last = unwrap_or (option_copied e.last) [];
     }
 
 -- those of the bytes b, for a reader that keeps a count
-abbrev pub parts_in : List ℕ → ℕ → Parts
-parts_in b n =
+abbrev pub last_in : Thinning → List ℕ → ℕ → List ℕ
+last_in thinning.Integrators b n = []
+last_in thinning.Neighbours b n = entry present b n 7
+
+abbrev pub parts_in : Thinning → List ℕ → ℕ → Parts
+parts_in k b n =
     record {
       settings = entry present b n 0;
       cic = entry present b n 1;
@@ -46,7 +61,7 @@ parts_in b n =
       half_band = entry present b n 4;
       cells = entry present b n 5;
       resampler = entry present b n 6;
-      last = entry present b n 7;
+      last = last_in k b n;
     }
 
 -- entries as long as the settings make them: what only one kind has, and what both have
@@ -75,10 +90,10 @@ abbrev pub line_by : Thinning → Settings → Parts → Line
 line_by thinning.Integrators q e = line_of q e.cic e.taps e.delay e.half_band e.cells e.resampler
 line_by thinning.Neighbours q e = thin_line_of q e.taps e.delay e.half_band e.cells e.resampler e.last
 
--- what reading answers: the line that was read, or a refusal, and zeros
-abbrev pub told_read : {A : Type 0} → Result A Refusal → Line → Opened Line
-told_read (Ok a) l = record { number = 0; state = l }
-told_read (Err q) l = record { number = number_of q; state = L.zeros }
+-- what reading answers: the line of the numbers that were read and of the arrays that are lent, or a refusal, and zeros
+abbrev pub told_read : Result LineNumbers Refusal → Places → Opened Line
+told_read (Ok n) lent = record { number = 0; state = line_on n lent }
+told_read (Err q) lent = record { number = number_of q; state = L.zeros }
 
 -- what entries of the right lengths answer, and what entries answer
 abbrev pub opened_in_by : Thinning → Settings → Parts → Opened Line

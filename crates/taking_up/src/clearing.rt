@@ -1,4 +1,5 @@
-// Zeros in the numbers and arrays of a line: what a refusal leaves, and what each part is read over.
+// Zeros in the numbers and arrays of a line: what a refusal leaves, and what each part is read over. The arrays one by one, as where they are read: behind a field of `Places` a
+// proof does not know how long they are.
 ghost use Rattle.std.specs.Prelude.{◌≡◌, replicate, pos};
 ghost use Rattle.nonrecursive.specs.NonrecursiveDecimator.{most_neighbours};
 ghost use Rattle.q15.specs.FirDecimator.{most_taps};

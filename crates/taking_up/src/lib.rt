@@ -6,6 +6,7 @@ mod entries;
 mod parked;
 mod reading;
 mod rows;
+mod stated;
 mod taking;
 
 pub use crate::taking::{take_up, take_up_lent};

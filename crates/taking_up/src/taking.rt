@@ -7,9 +7,8 @@ ghost use Rattle.line.specs.Placed.{SamePlaces, line_on, line_together};
 ghost use Rattle.sheet.specs.Sheet as S;
 ghost use Rattle.taking_up.specs.AsParked.{AsParked};
 ghost use Rattle.taking_up.specs.TakenBack.{TakenBack};
-ghost use Rattle.parking.specs.Limits.{InWords};
 ghost use Rattle.parking.specs.Older.{StillTaken};
-ghost use Rattle.taking_up.specs.ByKind.{Long, told, told_read, first_by, rest_by, long_by, opened_in_by, opened_by};
+ghost use Rattle.taking_up.specs.ByKind.{Long, kind_in, told, told_read, opened_in_by, opened_by};
 ghost use Rattle.parking.specs.Parked as P;
 ghost use Rattle.parking.specs.Parking as K;
 ghost use Rattle.parking.specs.Told.{numbers_of};
@@ -18,101 +17,54 @@ use crate::clearing::clear;
 use crate::entries::Entries;
 use crate::parked::Parked;
 use crate::reading::{in_limits, settings_from};
-use line::{Clock, Line, LineNumbers, Places, numbers_in, zeros};
-use nonrecursive::Thinning;
-use parking::settings::{ParkedSettings, half_band_bytes, halvings};
+use crate::stated::Stated;
+use line::{Clock, Line, LineNumbers, Places, zeros};
 use refusal::Refusal;
 use sheet::TapSheet;
 
-// Whether the CIC entry, and of a line of neighbours the last, is as long as the settings make it. Said here again, though parking's `sizes` says it: that one asks for numbers of
-// 16 bits, and a public function asks for nothing.
-#[tactic(auto, unfolding(parking::specs::Parked::neighbour_count))]
-fn first_long(thinning: Thinning, q: ParkedSettings, cic: usize, last: usize) -> bool
-    requires { InWords (numbers_of q) }
-    ensures { result ≡ first_by thinning (numbers_of q) cic last }
-{
-    match thinning {
-        Thinning::Integrators => cic == 2 + 8 * q.stages,
-        Thinning::Neighbours => cic == 0 && last == 2 + 4 * (q.stages * halvings(q.r)),
-    }
-}
-
-// Whether the entries of both kinds are.
-fn rest_long(q: ParkedSettings, e: Entries) -> bool
-    requires { InWords (numbers_of q) }
-    ensures { result ≡ rest_by (numbers_of q) (told e.entry) }
-{
-    e.taps.len() == 2 * q.taps
-        && e.delay.len() == 2 + 2 * q.taps
-        && e.half_band.len() == half_band_bytes(q.depth)
-        && e.cells.len() == 4 * (q.phases * q.cells)
-        && e.resampler.len() == 4 + 4 * q.cells
-}
-
-// Whether the entries behind the settings are as long as these make them. Refusal 21.
-fn long(thinning: Thinning, q: ParkedSettings, e: Entries) -> bool
-    requires { InWords (numbers_of q) }
-    ensures { result ≡ long_by thinning (numbers_of q) (told e.entry) }
-{
-    first_long(thinning, q, e.cic.len(), e.last.len()) && rest_long(q, e)
-}
-
-// What entries of the right lengths answer; the line is read where its numbers and arrays lie, and is tested there.
-fn open_parts(
-    thinning: Thinning,
-    q: ParkedSettings,
-    e: Entries,
-    n: &mut LineNumbers,
-    lent: &mut Places<'_>,
-) -> Result<(), Refusal>
-    requires { Long thinning (numbers_of q) (told e) }
+// What entries of the right lengths answer; the line is read where its arrays lie, and is tested there.
+fn open_parts(stated: Stated<'_>, lent: &mut Places<'_>) -> Result<LineNumbers, Refusal>
+    requires { Long (kind_in stated.e) (numbers_of stated.q) (told stated.e) }
     ensures same { SamePlaces lent.old lent.new }
-    ensures answer { told_read result (line_on n.new lent.new) ≡ opened_in_by thinning (numbers_of q) (told e.entry) }
+    ensures answer { let s = stated.entry in
+        told_read result lent.new ≡ opened_in_by (kind_in s.e) (numbers_of s.q) (told s.e) }
 {
+    let Stated { q, e } = stated;
     if !in_limits(q) {
         return Err(Refusal::State);
     }
-    let parked = Parked { thinning, q, e };
+    let parked = Parked { q, e };
     let read = parked.read(lent);
-    *n = read;
     if !parked.is_fine(read, lent.counts) {
         return Err(Refusal::State);
     }
-    Ok(())
+    Ok(read)
 }
 
 // What the entries answer.
-fn open_entries(
-    thinning: Thinning,
-    e: Entries,
-    n: &mut LineNumbers,
-    lent: &mut Places<'_>,
-) -> Result<(), Refusal>
+fn open_entries(e: Entries, lent: &mut Places<'_>) -> Result<LineNumbers, Refusal>
     ensures same { SamePlaces lent.old lent.new }
-    ensures answer { told_read result (line_on n.new lent.new) ≡ opened_by thinning (told e.entry) }
+    ensures answer { told_read result lent.new ≡ opened_by (kind_in e.entry) (told e.entry) }
 {
     if e.settings.len() != 24 {
         return Err(Refusal::Parked);
     }
     let q = settings_from(e.settings);
-    if !long(thinning, q, e) {
+    let stated = Stated { q, e };
+    if !stated.is_long() {
         return Err(Refusal::Parked);
     }
-    open_parts(thinning, q, e, n, lent)
+    open_parts(stated, lent)
 }
 
 // What the sheet answers; of one that is refused the arrays may hold what was read.
-fn open_sheet(bytes: &[u8], n: &mut LineNumbers, lent: &mut Places<'_>) -> Result<(), Refusal>
+fn open_sheet(bytes: &[u8], lent: &mut Places<'_>) -> Result<LineNumbers, Refusal>
     ensures same { SamePlaces lent.old lent.new }
-    ensures answer { told_read result (line_on n.new lent.new) ≡ K.taken_up P.panel bytes.now }
+    ensures answer { told_read result lent.new ≡ K.taken_up P.panel bytes.now }
 {
     let sheet = TapSheet::checked(bytes)?;
-    let thinning = match sheet.count {
-        7 => Thinning::Integrators,
-        8 => Thinning::Neighbours,
-        _ => return Err(Refusal::Parked),
-    };
-    open_entries(thinning, Entries::of(sheet), n, lent)
+    let e = Entries::of(sheet)?;
+    open_entries(e, lent)
 }
 
 // `take_up` where the numbers and arrays lie. Refused: all of them are zeros.
@@ -124,16 +76,19 @@ pub fn take_up_lent(bytes: &[u8], n: &mut LineNumbers, lent: &mut Places<'_>) ->
     ensures parked { AsParked bytes.now (told_reset result (line_on n.new lent.new)) }
     ensures earlier { StillTaken bytes.now (told_reset result (line_on n.new lent.new)) }
 {
-    match open_sheet(bytes, n, lent) {
+    match open_sheet(bytes, lent) {
+        Ok(read) => {
+            *n = read;
+            Ok(())
+        }
         Err(row) => {
             clear(n, lent);
             Err(row)
         }
-        Ok(()) => Ok(()),
     }
 }
 
-// The clock of a line as it was read.
+// The clock of a line as it was read. This and the next as line's `put_clock` and `put_numbers`, which are of that crate alone.
 fn put_clock(line: &mut Line, clock: Clock)
     ensures { line.new ≡ with_clock clock line.old }
 {
@@ -173,7 +128,8 @@ pub fn take_up(bytes: &[u8]) -> Result<Line, Refusal>
     ensures earlier { StillTaken bytes.now (told_opened L.zeros result) }
 {
     let mut line = zeros();
-    let mut n = numbers_in(&line);
+    let mut n = LineNumbers::default();
+    // A function can't make it, as in line's `open`: of a `&mut Line` it may hand out one field and no more.
     let mut lent = Places {
         integrators: &mut line.cic.integrator_state,
         combs: &mut line.cic.comb_state,

@@ -7,24 +7,24 @@ use Rattle.parking.proofs.LineSheet.{sizes_are, sum_few, sum_is, room_by, behind
 use Rattle.parking.proofs.writing.put_line.Goals as goal
 
 pub split_at_mut-directory-requires : goal.split_at_mut-directory-requires
-split_at_mut-directory-requires c = let r = room_by (line_kept c.args.k.now) c.requires.0 _ c.requires.1 in omega (arith, c.data_from.ensures, c.entry_count-count.ensures)
+split_at_mut-directory-requires c = let r = room_by (line_kept c.args.line.now.kept) c.args.line.now.fine _ c.requires in omega (arith, c.data_from.ensures, c.entry_count-count.ensures)
 
 pub total-requires : goal.total-requires
 total-requires c =
-    let e = sizes_are (line_kept c.args.k.now) c.requires.0 c.entry_count-count.result c.sizes-sizes.result _ c.entry_count-count.ensures c.sizes-sizes.ensures (c.of-q.ensures c.args.k.now) in
-    let m = sum_few (line_kept c.args.k.now) c.requires.0 _ e in
+    let e = sizes_are (line_kept c.args.line.now.kept) c.args.line.now.fine c.entry_count-count.result c.sizes-sizes.result _ c.entry_count-count.ensures c.sizes-sizes.ensures (c.of-q.ensures c.args.line.now.kept) in
+    let m = sum_few (line_kept c.args.line.now.kept) c.args.line.now.fine _ e in
     omega arith
 
 pub put_entries-requires : goal.put_entries-requires
 put_entries-requires c =
-    let l = line_kept c.args.k.now in
-    let q = c.of-q.ensures c.args.k.now in
+    let l = line_kept c.args.line.now.kept in
+    let q = c.of-q.ensures c.args.line.now.kept in
     let d : c.data_from.result ≡ S.data_from (count_by l.thinning) = omega (arith, c.data_from.ensures, c.entry_count-count.ensures) in
-    (c.requires.0, q, c.sizes-sizes.ensures ∙ ap (all_sizes l.thinning) q, behind_long l c.requires.0 _ _ c.requires.1 (rw d at c.split_at_mut-directory.ensures.back_len))
+    (q, c.sizes-sizes.ensures ∙ ap (all_sizes l.thinning) q, behind_long l c.args.line.now.fine _ _ c.requires (rw d at c.split_at_mut-directory.ensures.back_len))
 
 pub returns : goal.returns
 returns c =
-    let l = line_kept c.args.k.now in
-    let e = sizes_are l c.requires.0 c.entry_count-count.result c.sizes-sizes.result _ c.entry_count-count.ensures c.sizes-sizes.ensures (c.of-q.ensures c.args.k.now) in
+    let l = line_kept c.args.line.now.kept in
+    let e = sizes_are l c.args.line.now.fine c.entry_count-count.result c.sizes-sizes.result _ c.entry_count-count.ensures c.sizes-sizes.ensures (c.of-q.ensures c.args.line.now.kept) in
     let d : c.data_from.result ≡ S.data_from (count_by l.thinning) = omega (arith, c.data_from.ensures, c.entry_count-count.ensures) in
-    line_put l c.requires.0 _ _ (directory_put l c.requires.0 _ _ _ c.total.result e (c.total.ensures ∙ sum_is _) (rw d at c.split_at_mut-directory.ensures.front_len) c.lay_directory.ensures) c.put_entries.ensures
+    line_put l c.args.line.now.fine _ _ (directory_put l c.args.line.now.fine _ _ _ c.total.result e (c.total.ensures ∙ sum_is _) (rw d at c.split_at_mut-directory.ensures.front_len) c.lay_directory.ensures) c.put_entries.ensures

@@ -1,6 +1,6 @@
 -- Each array is read in front, over zeros.
 use Rattle.parking.specs.Entries.{resampler_from}
-use Rattle.taking_up.proofs.reading.read_resampler.Goals as goal
+use Rattle.taking_up.proofs.parked.Parked.read_resampler.Goals as goal
 
 pub returns : goal.returns
 unfolding resampler_from

@@ -1,6 +1,6 @@
 -- Each array is read in front, over zeros.
 use Rattle.parking.specs.Entries.{fir_from}
-use Rattle.taking_up.proofs.reading.read_fir.Goals as goal
+use Rattle.taking_up.proofs.parked.Parked.read_fir.Goals as goal
 
 pub returns : goal.returns
 unfolding fir_from
