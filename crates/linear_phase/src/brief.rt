@@ -2,11 +2,11 @@
 ghost use Rattle.std.specs.Prelude.{◌≡◌, true, [], ◌∷◌, ◌++◌, ◌≤◌, length, take, drop};
 ghost use Rattle.theory.specs.Sections.{state, outs};
 ghost use Rattle.half_band.specs.Windows.{slid};
+ghost use Rattle.linear_phase.specs.Handed as H;
 ghost use Rattle.linear_phase.specs.LinearPhase as P;
 ghost use Rattle.linear_phase.specs.Windows as W;
 
-use crate::kinds::{Folded, Kind};
-use crate::lent::Half;
+use crate::kinds::{Folded, Half, Kind};
 use crate::limits::{LINEAR_PHASE_DELAYS, MOST_LINEAR_PHASE_TAPS};
 use crate::one::value_with;
 
@@ -17,7 +17,7 @@ const SHORT_DELAY: usize = 8;
 pub(crate) fn is_brief(m: usize, n: usize) -> bool
     ensures { result ≡ true → m ≤ 4 }
 {
-    m <= 3 || m <= 4 && n <= 4
+    m <= 3 || m == 4 && n <= 4
 }
 
 // The delay moves down by one place, and x stands at its end. It goes from the end on: the other way would be a copy in memory to the compiler. By the number: with
@@ -38,8 +38,8 @@ fn push(delay: &mut [f32], x: f32)
 #[inline(always)]
 fn each(delay: &mut [f32], fir: Folded<'_>, src: &[f32], span: &mut [f32])
     requires { (length delay.old ≡ fir.long) × (length span.old ≡ length src.now) }
-    ensures delay { delay.new ≡ state (W.linear_phase fir.entry.kind.odd fir.entry.kind.antisymmetric fir.entry.taps.now) delay.old src.now }
-    ensures span { span.new ≡ outs (W.linear_phase fir.entry.kind.odd fir.entry.kind.antisymmetric fir.entry.taps.now) delay.old src.now }
+    ensures delay { delay.new ≡ state (H.by fir.entry) delay.old src.now }
+    ensures span { span.new ≡ outs (H.by fir.entry) delay.old src.now }
 {
     for (i, place) in span.iter_mut().enumerate() {
         let x = src[i];
@@ -58,9 +58,8 @@ fn held<const M: usize, const ODD: bool, const MINUS: bool>(
     span: &mut [f32],
 )
     requires { (M ≡ length taps.now) × (1 ≤ M) × (M ≤ 4) × (length span.old ≡ length src.now) }
-    ensures delay { let next = state (W.linear_phase ODD MINUS taps.now) (take (P.reach ODD (length taps.now)) delay.old) src.now in
-        delay.new ≡ next ++ drop (P.reach ODD (length taps.now)) delay.old }
-    ensures span { span.new ≡ outs (W.linear_phase ODD MINUS taps.now) (take (P.reach ODD (length taps.now)) delay.old) src.now }
+    ensures delay { delay.new ≡ H.left_of (W.linear_phase ODD MINUS taps.now) (P.reach ODD (length taps.now)) delay.old src.now }
+    ensures span { span.new ≡ H.made_of (W.linear_phase ODD MINUS taps.now) (P.reach ODD (length taps.now)) delay.old src.now }
 {
     let kind = Kind {
         odd: ODD,
@@ -82,9 +81,8 @@ fn filter_kind<const ODD: bool, const MINUS: bool>(
     span: &mut [f32],
 )
     requires { (1 ≤ length taps.now) × (length taps.now ≤ 4) × (length span.old ≡ length src.now) }
-    ensures delay { let next = state (W.linear_phase ODD MINUS taps.now) (take (P.reach ODD (length taps.now)) delay.old) src.now in
-        delay.new ≡ next ++ drop (P.reach ODD (length taps.now)) delay.old }
-    ensures span { span.new ≡ outs (W.linear_phase ODD MINUS taps.now) (take (P.reach ODD (length taps.now)) delay.old) src.now }
+    ensures delay { delay.new ≡ H.left_of (W.linear_phase ODD MINUS taps.now) (P.reach ODD (length taps.now)) delay.old src.now }
+    ensures span { span.new ≡ H.made_of (W.linear_phase ODD MINUS taps.now) (P.reach ODD (length taps.now)) delay.old src.now }
 {
     match taps.len() {
         1 => held::<1, ODD, MINUS>(taps, delay, src, span),
@@ -104,9 +102,8 @@ pub(crate) fn filter_brief(
     span: &mut [f32],
 )
     requires { (half.m ≤ 4) × (length span.old ≡ length src.now) }
-    ensures delay { let next = state (W.linear_phase half.kind.odd half.kind.antisymmetric (take half.m taps.now)) (take (P.reach half.kind.odd half.m) delay.old) src.now in
-        delay.new ≡ next ++ drop (P.reach half.kind.odd half.m) delay.old }
-    ensures span { span.new ≡ outs (W.linear_phase half.kind.odd half.kind.antisymmetric (take half.m taps.now)) (take (P.reach half.kind.odd half.m) delay.old) src.now }
+    ensures delay { delay.new ≡ H.left_of (H.half_by half taps.now) (H.half_long half) delay.old src.now }
+    ensures span { span.new ≡ H.made_of (H.half_by half taps.now) (H.half_long half) delay.old src.now }
 {
     let taps = &taps[..half.m];
     match (half.kind.odd, half.kind.antisymmetric) {

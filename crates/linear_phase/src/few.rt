@@ -1,6 +1,6 @@
 // Outputs of a few samples in a row, at windows on a tape: one or two alone, more by a group of exactly as many, of which the compiler knows the size.
 ghost use Rattle.std.specs.Prelude.{◌≡◌, ◌+◌, ◌≤◌, length, take};
-ghost use Rattle.linear_phase.specs.Windows as W;
+ghost use Rattle.linear_phase.specs.Handed as H;
 
 use crate::kinds::Folded;
 use crate::lanes::{outputs_at, put_group};
@@ -10,7 +10,7 @@ use crate::one::value_with;
 #[inline(always)]
 pub(crate) fn group_of<const N: usize>(tape: &[f32], fir: Folded<'_>, span: &mut [f32])
     requires { (fir.long + length span.old ≤ length tape.now) × (length span.old ≡ N) }
-    ensures { span.new ≡ W.window_values fir.entry.kind.odd fir.entry.kind.antisymmetric fir.entry.taps.now fir.entry.long tape.now (length span.old) }
+    ensures { span.new ≡ H.values_of fir.entry tape.now (length span.old) }
 {
     let mut y = [0.0f32; N];
     outputs_at(&mut y, tape, fir);
@@ -21,7 +21,7 @@ pub(crate) fn group_of<const N: usize>(tape: &[f32], fir: Folded<'_>, span: &mut
 #[inline(always)]
 fn value_at(line: &[f32], fir: Folded<'_>) -> f32
     requires { fir.long + 1 ≤ length line.now }
-    ensures { result ≡ W.window_value fir.entry.kind.odd fir.entry.kind.antisymmetric fir.entry.taps.now (take (fir.entry.long + 1) line.now) }
+    ensures { result ≡ H.value_of fir.entry (take (fir.entry.long + 1) line.now) }
 {
     value_with(&line[..fir.long], fir, line[fir.long])
 }
@@ -30,7 +30,7 @@ fn value_at(line: &[f32], fir: Folded<'_>) -> f32
 #[inline(always)]
 pub(crate) fn singles(tape: &[f32], fir: Folded<'_>, span: &mut [f32])
     requires { fir.long + length span.old ≤ length tape.now }
-    ensures { span.new ≡ W.window_values fir.entry.kind.odd fir.entry.kind.antisymmetric fir.entry.taps.now fir.entry.long tape.now (length span.old) }
+    ensures { span.new ≡ H.values_of fir.entry tape.now (length span.old) }
 {
     for (i, place) in span.iter_mut().enumerate() {
         *place = value_at(&tape[i..], fir);
@@ -40,7 +40,7 @@ pub(crate) fn singles(tape: &[f32], fir: Folded<'_>, span: &mut [f32])
 // Fewer than a group.
 pub(crate) fn few_outputs(tape: &[f32], fir: Folded<'_>, span: &mut [f32])
     requires { (fir.long + length span.old ≤ length tape.now) × (length span.old ≤ 15) }
-    ensures { span.new ≡ W.window_values fir.entry.kind.odd fir.entry.kind.antisymmetric fir.entry.taps.now fir.entry.long tape.now (length span.old) }
+    ensures { span.new ≡ H.values_of fir.entry tape.now (length span.old) }
 {
     match span.len() {
         0..=2 => singles(tape, fir, span),
@@ -63,7 +63,7 @@ pub(crate) fn few_outputs(tape: &[f32], fir: Folded<'_>, span: &mut [f32])
 // About a group, and some more: what is more does not wait for the sums of a group.
 pub(crate) fn more_outputs(tape: &[f32], fir: Folded<'_>, span: &mut [f32])
     requires { (fir.long + length span.old ≤ length tape.now) × (length span.old ≤ 28) }
-    ensures { span.new ≡ W.window_values fir.entry.kind.odd fir.entry.kind.antisymmetric fir.entry.taps.now fir.entry.long tape.now (length span.old) }
+    ensures { span.new ≡ H.values_of fir.entry tape.now (length span.old) }
 {
     match span.len() {
         0..=15 => few_outputs(tape, fir, span),

@@ -1,6 +1,7 @@
 // A block of samples through a delay of the last ones, the oldest first.
 ghost use Rattle.std.specs.Prelude.{◌≡◌, true, false, ◌++◌, ◌+◌, ◌-◌, ◌*◌, ◌≤◌, ◌<◌, min, length, take, drop, unwrap_or, option_copied};
 ghost use Rattle.theory.specs.Sections.{state, outs};
+ghost use Rattle.linear_phase.specs.Handed as H;
 ghost use Rattle.linear_phase.specs.Windows as W;
 
 use crate::few::few_outputs;
@@ -36,9 +37,9 @@ pub(crate) fn filter(delay: &mut [f32], fir: Folded<'_>, src: Option<&[f32]>, sp
     requires many { (16 < fir.long) × (16 ≤ length span.old) }
     requires src_len { length (unwrap_or (option_copied src) span.old) ≡ length span.old }
     ensures delay { let samples = unwrap_or (option_copied src.entry) span.old in
-        delay.new ≡ state (W.linear_phase fir.entry.kind.odd fir.entry.kind.antisymmetric fir.entry.taps.now) delay.old samples }
+        delay.new ≡ state (H.by fir.entry) delay.old samples }
     ensures span { let samples = unwrap_or (option_copied src.entry) span.old in
-        span.new ≡ outs (W.linear_phase fir.entry.kind.odd fir.entry.kind.antisymmetric fir.entry.taps.now) delay.old samples }
+        span.new ≡ outs (H.by fir.entry) delay.old samples }
 {
     let head = span.len().min(fir.long + LANES);
     let samples = samples_of(src, span);
@@ -74,7 +75,7 @@ fn lay_groups(tape: &mut [f32], delay: &[f32], long: usize, samples: &[f32])
     put_all(&mut tape[at..], next);
 }
 
-// `filter` for a delay of so many places in front of the lent ones, all of which goes to the tape in whole groups.
+// `filter` for a delay no longer than a group, in front of the lent places: it and the samples go to the tape in whole groups, with no call that copies so many as it is told.
 #[inline(never)]
 pub(crate) fn filter_short(
     delay: &mut [f32; LINEAR_PHASE_DELAYS],
@@ -85,10 +86,9 @@ pub(crate) fn filter_short(
     requires long_bound { fir.long ≤ 16 }
     requires src_len { (length (unwrap_or (option_copied src) span.old) ≡ length span.old) × (16 ≤ length span.old) }
     ensures delay { let samples = unwrap_or (option_copied src.entry) span.old in
-        let next = state (W.linear_phase fir.entry.kind.odd fir.entry.kind.antisymmetric fir.entry.taps.now) (take fir.entry.long delay.old) samples in
-        delay.new ≡ next ++ drop fir.entry.long delay.old }
+        delay.new ≡ H.left_of (H.by fir.entry) fir.entry.long delay.old samples }
     ensures span { let samples = unwrap_or (option_copied src.entry) span.old in
-        span.new ≡ outs (W.linear_phase fir.entry.kind.odd fir.entry.kind.antisymmetric fir.entry.taps.now) (take fir.entry.long delay.old) samples }
+        span.new ≡ H.made_of (H.by fir.entry) fir.entry.long delay.old samples }
 {
     let long = fir.long;
     let line = samples_of(src, span);
@@ -122,7 +122,7 @@ fn lay_delay(tape: &mut [f32], delay: &[f32; LINEAR_PHASE_DELAYS], long: usize)
     put_all(&mut tape[last..], late);
 }
 
-// `filter` for fewer samples than a group and a delay in front of the lent places, along a tape of so many.
+// `filter` for fewer samples than a group and a delay in front of the lent places, along a tape of T places: the delay goes there in whole groups, and all outputs are one group.
 #[inline(always)]
 pub(crate) fn filter_few<const T: usize>(
     delay: &mut [f32; LINEAR_PHASE_DELAYS],
@@ -133,10 +133,9 @@ pub(crate) fn filter_few<const T: usize>(
     requires places { (fir.long + 16 ≤ T) × (T ≤ 64) }
     requires src_len { (length (unwrap_or (option_copied src) span.old) ≡ length span.old) × (length span.old < 16) }
     ensures delay { let samples = unwrap_or (option_copied src.entry) span.old in
-        let next = state (W.linear_phase fir.entry.kind.odd fir.entry.kind.antisymmetric fir.entry.taps.now) (take fir.entry.long delay.old) samples in
-        delay.new ≡ next ++ drop fir.entry.long delay.old }
+        delay.new ≡ H.left_of (H.by fir.entry) fir.entry.long delay.old samples }
     ensures span { let samples = unwrap_or (option_copied src.entry) span.old in
-        span.new ≡ outs (W.linear_phase fir.entry.kind.odd fir.entry.kind.antisymmetric fir.entry.taps.now) (take fir.entry.long delay.old) samples }
+        span.new ≡ H.made_of (H.by fir.entry) fir.entry.long delay.old samples }
 {
     let long = fir.long;
     let past = long + span.len();

@@ -1,7 +1,13 @@
-// The four kinds of filters, how far a delay reaches back, and a pair of samples as far from a window's two ends.
-ghost use Rattle.std.specs.Prelude.{◌≡◌, ◌*◌, ◌≤◌, length};
+// The four kinds of filters, how far a delay reaches back, a filter inside its limits without and with its taps, and a pair of samples as far from a window's two ends.
+ghost use Rattle.std.specs.Prelude.{◌≡◌, ◌*◌, ◌≤◌, cond, length, IfOk};
+ghost use Rattle.refusal.specs.Outcome.{number_in};
+ghost use Rattle.refusal.specs.Rows as R;
 ghost use Rattle.linear_phase.specs.LinearPhase as P;
 ghost use Rattle.linear_phase.specs.Windows.{has_centre};
+
+use crate::limits::MOST_LINEAR_PHASE_TAPS;
+use refusal::Refusal;
+use refusal::rows::outside;
 
 // Of odd length, with a centre sample, or of even; the earlier sample of a pair subtracted, or added. Two booleans, not one enum of four: so the state that C holds has them, and the definitions.
 #[derive(Clone, Copy)]
@@ -27,6 +33,28 @@ impl Kind {
         ensures { result ≡ has_centre self.odd self.antisymmetric }
     {
         self.odd && !self.antisymmetric
+    }
+}
+
+// How many taps one half has, inside the limits, and the filter's kind.
+#[derive(Clone, Copy)]
+pub(crate) struct Half {
+    pub m: usize,
+    pub kind: Kind,
+    ghost inside: { (1 ≤ m) × (m ≤ 23) },
+}
+
+impl Half {
+    // What a state's own numbers give. Refusal 15.
+    #[inline(always)]
+    pub(crate) fn of(m: usize, kind: Kind) -> Result<Half, Refusal>
+        ensures number { number_in result ≡ cond (R.outside m 1 23) 15 0 }
+        ensures half { IfOk result (λ h. (h.m ≡ m) × (h.kind ≡ kind)) }
+    {
+        if outside(m, 1, MOST_LINEAR_PHASE_TAPS) {
+            return Err(Refusal::State);
+        }
+        Ok(Half { m, kind })
     }
 }
 

@@ -1,5 +1,6 @@
 // Outputs of samples in a row, so many sums side by side that the machine adds several at once; each sum keeps its own order.
 ghost use Rattle.std.specs.Prelude.{◌≡◌, false, ◌++◌, ◌+◌, ◌≤◌, min, length, take, drop, unwrap_or, option_copied};
+ghost use Rattle.linear_phase.specs.Handed as H;
 ghost use Rattle.linear_phase.specs.Windows as W;
 
 use crate::few::more_outputs;
@@ -47,7 +48,7 @@ fn sums_at(acc: &mut [f32], line: &[f32], fir: Folded<'_>)
 // registers.
 pub(crate) fn outputs_at(acc: &mut [f32], line: &[f32], fir: Folded<'_>)
     requires { (fir.long + length acc.old ≤ length line.now) × (acc.old ≡ W.no_sums (length acc.old)) }
-    ensures { acc.new ≡ W.window_values fir.entry.kind.odd fir.entry.kind.antisymmetric fir.entry.taps.now fir.entry.long line.now (length acc.old) }
+    ensures { acc.new ≡ H.values_of fir.entry line.now (length acc.old) }
 {
     sums_at(acc, line, fir);
     if fir.kind.has_centre() {
@@ -59,7 +60,7 @@ pub(crate) fn outputs_at(acc: &mut [f32], line: &[f32], fir: Folded<'_>)
 #[inline(always)]
 pub(crate) fn group_at(line: &[f32], from: usize, fir: Folded<'_>) -> [f32; LANES]
     requires { from + (fir.long + 16) ≤ length line.now }
-    ensures { result ≡ W.window_values fir.entry.kind.odd fir.entry.kind.antisymmetric fir.entry.taps.now fir.entry.long (drop from line.now) 16 }
+    ensures { result ≡ H.values_of fir.entry (drop from line.now) 16 }
 {
     let mut y = [0.0f32; LANES];
     outputs_at(&mut y, &line[from..], fir);
@@ -124,7 +125,7 @@ pub(crate) fn outputs_back<'a>(
         take n (drop fir.long tape.now) ≡ take n samples }
     requires on_tape { W.OnTape fir.long tape.now (unwrap_or (option_copied src) span.old) (length span.old) }
     ensures { let z = take fir.entry.long tape.now ++ unwrap_or (option_copied src.entry) span.old in
-        span.new ≡ W.window_values fir.entry.kind.odd fir.entry.kind.antisymmetric fir.entry.taps.now fir.entry.long z (length span.old) }
+        span.new ≡ H.values_of fir.entry z (length span.old) }
 {
     // By hand: it goes by groups from the end on, and while one is written the samples before it are read; `end` tells what is left in front.
     let mut end = span.len();

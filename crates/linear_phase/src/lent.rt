@@ -1,42 +1,19 @@
 // Samples through a filter inside its limits, whose taps and delay are lent: the roads that they take, by how many they are.
-ghost use Rattle.std.specs.Prelude.{◌≡◌, ◌≤◌, cond, length, take, unwrap_or, option_copied, IfOk};
+ghost use Rattle.std.specs.Prelude.{◌≡◌, length, take, unwrap_or, option_copied};
 ghost use Rattle.theory.specs.Sections.{state, outs};
-ghost use Rattle.refusal.specs.Outcome.{number_in};
-ghost use Rattle.refusal.specs.Rows as R;
+ghost use Rattle.linear_phase.specs.Handed as H;
 ghost use Rattle.linear_phase.specs.LinearPhase.{reach};
 ghost use Rattle.linear_phase.specs.LinearPhaseFir as P;
 
 use crate::brief::{filter_brief, is_brief};
 use crate::filter::{NARROW, WIDE, filter, filter_few, filter_short, is_short};
-use crate::kinds::{Folded, Kind};
+use crate::kinds::{Folded, Half};
 use crate::lanes::LANES;
 use crate::limits::{LINEAR_PHASE_DELAYS, MOST_LINEAR_PHASE_TAPS};
 use crate::one::filter_one;
 use crate::straight::{filter_straight, is_straight};
-use refusal::Refusal;
-use refusal::rows::outside;
-
-// How many taps one half has, inside the limits, and the filter's kind.
-#[derive(Clone, Copy)]
-pub(crate) struct Half {
-    pub m: usize,
-    pub kind: Kind,
-    ghost inside: { (1 ≤ m) × (m ≤ 23) },
-}
 
 impl Half {
-    // What a state's own numbers give. Refusal 15.
-    #[inline(always)]
-    pub(crate) fn of(m: usize, kind: Kind) -> Result<Half, Refusal>
-        ensures number { number_in result ≡ cond (R.outside m 1 23) 15 0 }
-        ensures half { IfOk result (λ h. (h.m ≡ m) × (h.kind ≡ kind)) }
-    {
-        if outside(m, 1, MOST_LINEAR_PHASE_TAPS) {
-            return Err(Refusal::State);
-        }
-        Ok(Half { m, kind })
-    }
-
     // The filter of the taps that lie in front of those lent.
     #[inline(always)]
     fn folded<'a>(self, taps: &'a [f32; MOST_LINEAR_PHASE_TAPS]) -> Folded<'a>
@@ -53,10 +30,10 @@ impl Half {
         delay: &mut [f32; LINEAR_PHASE_DELAYS],
         x: f32,
     ) -> f32
-        ensures delay { let before = P.phase_of self.m self.kind.odd self.kind.antisymmetric taps.now delay.old in
-            let after = P.phase_of self.m self.kind.odd self.kind.antisymmetric taps.now delay.new in
+        ensures delay { let before = H.lent_state self taps.now delay.old in
+            let after = H.lent_state self taps.now delay.new in
             after ≡ P.phase_next before x }
-        ensures value { let before = P.phase_of self.m self.kind.odd self.kind.antisymmetric taps.now delay.old in
+        ensures value { let before = H.lent_state self taps.now delay.old in
             result ≡ P.phase_out before x }
     {
         let fir = self.folded(taps);
@@ -70,10 +47,10 @@ impl Half {
         delay: &mut [f32; LINEAR_PHASE_DELAYS],
         span: &mut [f32],
     )
-        ensures delay { let before = P.phase_of self.m self.kind.odd self.kind.antisymmetric taps.now delay.old in
-            let after = P.phase_of self.m self.kind.odd self.kind.antisymmetric taps.now delay.new in
+        ensures delay { let before = H.lent_state self taps.now delay.old in
+            let after = H.lent_state self taps.now delay.new in
             after ≡ state P.phase_fir before span.old }
-        ensures span { let before = P.phase_of self.m self.kind.odd self.kind.antisymmetric taps.now delay.old in
+        ensures span { let before = H.lent_state self taps.now delay.old in
             span.new ≡ outs P.phase_fir before span.old }
     {
         if span.len() == 1 {
@@ -83,7 +60,8 @@ impl Half {
         self.along(taps, delay, None, span);
     }
 
-    // The samples of src, likewise, an output of each in the span: one or two in the lent delay, and a few through a short one in registers.
+    // The samples of src, likewise, an output of each in the span: one in the lent delay; along the samples, where they fill a short delay; a few through a short
+    // one in registers; two in the lent delay; others along a tape. Each road is the fastest of its blocks (docs/SPEED.md).
     pub(crate) fn block(
         self,
         taps: &[f32; MOST_LINEAR_PHASE_TAPS],
@@ -92,10 +70,10 @@ impl Half {
         span: &mut [f32],
     )
         requires { length span.old ≡ length src.now }
-        ensures delay { let before = P.phase_of self.m self.kind.odd self.kind.antisymmetric taps.now delay.old in
-            let after = P.phase_of self.m self.kind.odd self.kind.antisymmetric taps.now delay.new in
+        ensures delay { let before = H.lent_state self taps.now delay.old in
+            let after = H.lent_state self taps.now delay.new in
             after ≡ state P.phase_fir before src.now }
-        ensures span { let before = P.phase_of self.m self.kind.odd self.kind.antisymmetric taps.now delay.old in
+        ensures span { let before = H.lent_state self taps.now delay.old in
             span.new ≡ outs P.phase_fir before src.now }
     {
         if src.len() == 1 {
@@ -129,10 +107,10 @@ impl Half {
         span: &mut [f32],
     )
         requires { length (unwrap_or (option_copied src) span.old) ≡ length span.old }
-        ensures delay { let before = P.phase_of self.m self.kind.odd self.kind.antisymmetric taps.now delay.old in
-            let after = P.phase_of self.m self.kind.odd self.kind.antisymmetric taps.now delay.new in
+        ensures delay { let before = H.lent_state self taps.now delay.old in
+            let after = H.lent_state self taps.now delay.new in
             after ≡ state P.phase_fir before (unwrap_or (option_copied src.entry) span.old) }
-        ensures span { let before = P.phase_of self.m self.kind.odd self.kind.antisymmetric taps.now delay.old in
+        ensures span { let before = H.lent_state self taps.now delay.old in
             span.new ≡ outs P.phase_fir before (unwrap_or (option_copied src.entry) span.old) }
     {
         let fir = self.folded(taps);

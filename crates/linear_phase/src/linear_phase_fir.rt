@@ -4,13 +4,13 @@ ghost use Rattle.refusal.specs.Outcome.{told, told_on, told_opened, told_reset, 
 ghost use Rattle.float.specs.F32.{zero32};
 ghost use Rattle.linear_phase.specs.LinearPhaseFir as P;
 
-use crate::kinds::Kind;
-use crate::lent::Half;
+use crate::kinds::{Half, Kind};
 use crate::limits::{LINEAR_PHASE_DELAYS, MOST_LINEAR_PHASE_TAPS};
 use q15::padding::padded;
 use refusal::Refusal;
 use refusal::rows::outside;
 
+// A number beside an array, and two booleans: so C holds them, in fixed memory.
 #[derive(Drop)]
 pub struct LinearPhaseFir {
     // The taps of one half.

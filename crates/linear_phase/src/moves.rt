@@ -3,11 +3,6 @@ ghost use Rattle.std.specs.Prelude.{◌≡◌, ◌++◌, ◌+◌, ◌-◌, ◌�
 
 use crate::lanes::{LANES, put_all, put_group};
 
-// The smaller groups.
-pub(crate) const FOUR: usize = 4;
-
-pub(crate) const EIGHT: usize = 8;
-
 // The first of a line.
 pub(crate) fn taken<const N: usize>(line: &[f32]) -> [f32; N]
     requires { N ≤ length line.now }
@@ -55,18 +50,12 @@ pub(crate) fn copy_few(span: &mut [f32], src: &[f32])
     requires { (length src.now ≡ length span.old) × (length span.old ≤ 16) }
     ensures { span.new ≡ src.now }
 {
-    let n = span.len();
-    if EIGHT <= n {
-        return copy_ends::<EIGHT>(span, src);
-    }
-    if FOUR <= n {
-        return copy_ends::<FOUR>(span, src);
-    }
-    if 2 <= n {
-        return copy_ends::<2>(span, src);
-    }
-    if 1 <= n {
-        copy_ends::<1>(span, src);
+    match span.len() {
+        0 => {}
+        1 => copy_ends::<1>(span, src),
+        2..=3 => copy_ends::<2>(span, src),
+        4..=7 => copy_ends::<4>(span, src),
+        _ => copy_ends::<8>(span, src),
     }
 }
 
@@ -114,18 +103,12 @@ fn move_rest(rest: &mut [f32], n: usize)
     requires { (n ≤ length rest.old) × (length rest.old < n + 16) }
     ensures { rest.new ≡ drop n rest.old ++ drop (length rest.old - n) rest.old }
 {
-    let kept = rest.len() - n;
-    if EIGHT <= kept {
-        return move_ends::<EIGHT>(rest, n);
-    }
-    if FOUR <= kept {
-        return move_ends::<FOUR>(rest, n);
-    }
-    if 2 <= kept {
-        return move_ends::<2>(rest, n);
-    }
-    if 1 <= kept {
-        move_ends::<1>(rest, n);
+    match rest.len() - n {
+        0 => {}
+        1 => move_ends::<1>(rest, n),
+        2..=3 => move_ends::<2>(rest, n),
+        4..=7 => move_ends::<4>(rest, n),
+        _ => move_ends::<8>(rest, n),
     }
 }
 

@@ -1,6 +1,7 @@
 // One sample through a delay of the last samples, the oldest first.
 ghost use Rattle.std.specs.Prelude.{◌≡◌, [], ◌∷◌, ◌++◌, ◌≤◌, length};
 ghost use Rattle.half_band.specs.Windows.{slid};
+ghost use Rattle.linear_phase.specs.Handed as H;
 ghost use Rattle.linear_phase.specs.Windows as W;
 
 use crate::kinds::{Folded, pair};
@@ -38,7 +39,7 @@ fn sum_with(delay: &[f32], fir: Folded<'_>, x: f32) -> f32
 #[inline(always)]
 pub(crate) fn value_with(delay: &[f32], fir: Folded<'_>, x: f32) -> f32
     requires { length delay.now ≡ fir.long }
-    ensures { result ≡ W.window_value fir.entry.kind.odd fir.entry.kind.antisymmetric fir.entry.taps.now (delay.now ++ (x ∷ [])) }
+    ensures { result ≡ H.value_of fir.entry (delay.now ++ (x ∷ [])) }
 {
     let acc = sum_with(delay, fir, x);
     if fir.kind.has_centre() {
@@ -63,7 +64,7 @@ fn move_in(delay: &mut [f32], x: f32)
 pub(crate) fn filter_one(delay: &mut [f32], fir: Folded<'_>, x: f32) -> f32
     requires { length delay.old ≡ fir.long }
     ensures delay { delay.new ≡ slid delay.old (x ∷ []) }
-    ensures value { result ≡ W.window_value fir.entry.kind.odd fir.entry.kind.antisymmetric fir.entry.taps.now (delay.old ++ (x ∷ [])) }
+    ensures value { result ≡ H.value_of fir.entry (delay.old ++ (x ∷ [])) }
 {
     let y = value_with(delay, fir, x);
     move_in(delay, x);

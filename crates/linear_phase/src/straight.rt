@@ -2,13 +2,13 @@
 // compiler knows the window, and makes several at once.
 ghost use Rattle.std.specs.Prelude.{◌≡◌, true, ◌++◌, ◌+◌, ◌≤◌, length, take, drop};
 ghost use Rattle.theory.specs.Sections.{state, outs};
+ghost use Rattle.linear_phase.specs.Handed as H;
 ghost use Rattle.linear_phase.specs.LinearPhase as P;
 ghost use Rattle.linear_phase.specs.Windows as W;
 
 use crate::few::{group_of, singles};
-use crate::kinds::{Folded, Kind};
-use crate::lanes::{LANES, group_at, put_group};
-use crate::lent::Half;
+use crate::kinds::{Folded, Half, Kind};
+use crate::lanes::{LANES, group_at, put_all};
 use crate::limits::{LINEAR_PHASE_DELAYS, MOST_LINEAR_PHASE_TAPS};
 use crate::moves::{copy_taken, taken};
 
@@ -19,7 +19,7 @@ const TAPE: usize = 20;
 pub(crate) fn is_straight(m: usize, long: usize, n: usize) -> bool
     ensures { result ≡ true → (2 ≤ m) × (m ≤ 5) × (long ≤ n) }
 {
-    2 <= m && m <= 5 && long <= n
+    (2..=5).contains(&m) && long <= n
 }
 
 // Outputs at the windows from the front of the samples on: whole groups from the end on, and one by one what is left in front. So no load stands a little behind a store that
@@ -27,14 +27,14 @@ pub(crate) fn is_straight(m: usize, long: usize, n: usize) -> bool
 #[inline(always)]
 fn groups_back(src: &[f32], fir: Folded<'_>, span: &mut [f32])
     requires { fir.long + length span.old ≤ length src.now }
-    ensures { span.new ≡ W.window_values fir.entry.kind.odd fir.entry.kind.antisymmetric fir.entry.taps.now fir.entry.long src.now (length span.old) }
+    ensures { span.new ≡ H.values_of fir.entry src.now (length span.old) }
 {
-    // By hand: it goes by groups from the end on, and `end` tells what is left in front.
+    // By hand: it goes by groups from the end on, and `end` tells what is left in front. Not `outputs_back`, which looks for each group whether its windows are on a tape.
     let mut end = span.len();
     while LANES <= end {
         let at = end - LANES;
         let y = group_at(src, at, fir);
-        put_group(&mut span[at..end], &y);
+        put_all(&mut span[at..end], y);
         end = at;
     }
     singles(src, fir, &mut span[..end]);
@@ -49,9 +49,8 @@ fn straight<const M: usize, const LONG: usize, const ODD: bool, const MINUS: boo
 )
     requires known { (M ≡ length taps.now) × (LONG ≡ P.reach ODD (length taps.now)) × (1 ≤ M) × (M ≤ 5) × (LONG ≤ 10) }
     requires lent { (length span.old ≡ length src.now) × (LONG ≤ length src.now) }
-    ensures delay { let next = state (W.linear_phase ODD MINUS taps.now) (take (P.reach ODD (length taps.now)) delay.old) src.now in
-        delay.new ≡ next ++ drop (P.reach ODD (length taps.now)) delay.old }
-    ensures span { span.new ≡ outs (W.linear_phase ODD MINUS taps.now) (take (P.reach ODD (length taps.now)) delay.old) src.now }
+    ensures delay { delay.new ≡ H.left_of (W.linear_phase ODD MINUS taps.now) (P.reach ODD (length taps.now)) delay.old src.now }
+    ensures span { span.new ≡ H.made_of (W.linear_phase ODD MINUS taps.now) (P.reach ODD (length taps.now)) delay.old src.now }
 {
     let own = taken::<M>(taps);
     let kind = Kind {
@@ -68,7 +67,7 @@ fn straight<const M: usize, const LONG: usize, const ODD: bool, const MINUS: boo
     group_of::<LONG>(&tape, fir, &mut span[..LONG]);
 }
 
-// A copy for each length, and for each kind. Lent a half, as `filter_brief`.
+// A copy for each length, and for each kind; a delay's length is named beside M, since a const argument is never computed. Lent a half, as `filter_brief`.
 #[tactic(auto, unfolding(crate::specs::LinearPhase::reach))]
 #[inline(never)]
 pub(crate) fn filter_straight(
@@ -79,10 +78,9 @@ pub(crate) fn filter_straight(
     span: &mut [f32],
 )
     requires few_taps { (2 ≤ half.m) × (half.m ≤ 5) }
-    requires lent { (length span.old ≡ length src.now) × (P.reach half.kind.odd half.m ≤ length src.now) }
-    ensures delay { let next = state (W.linear_phase half.kind.odd half.kind.antisymmetric (take half.m taps.now)) (take (P.reach half.kind.odd half.m) delay.old) src.now in
-        delay.new ≡ next ++ drop (P.reach half.kind.odd half.m) delay.old }
-    ensures span { span.new ≡ outs (W.linear_phase half.kind.odd half.kind.antisymmetric (take half.m taps.now)) (take (P.reach half.kind.odd half.m) delay.old) src.now }
+    requires lent { (length span.old ≡ length src.now) × (H.half_long half ≤ length src.now) }
+    ensures delay { delay.new ≡ H.left_of (H.half_by half taps.now) (H.half_long half) delay.old src.now }
+    ensures span { span.new ≡ H.made_of (H.half_by half taps.now) (H.half_long half) delay.old src.now }
 {
     let taps = &taps[..half.m];
     match (half.kind.odd, half.kind.antisymmetric, half.m) {

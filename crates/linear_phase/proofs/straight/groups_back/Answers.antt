@@ -8,7 +8,7 @@ loop-end-preserved c =
     let a = c.args in
     let l = c.loop-end in
     group_along a.fir.kind.odd a.fir.kind.antisymmetric a.fir.taps.now a.fir.long a.src.now a.span.now l.span l.end l.invariant (omega (arith, c.loop-end-test.true)) _ _
-    c.group_at-y.ensures c.put_group.ensures
+    c.group_at-y.ensures c.put_all.ensures
 
 pub returns : goal.returns
 returns c =

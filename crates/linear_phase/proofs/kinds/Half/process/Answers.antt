@@ -1,6 +1,6 @@
 -- `process` meets its contract: what lies behind the taps and the delay is not looked at, and stays.
 use Rattle.linear_phase.proofs.Filters.{next_is, out_is}
-use Rattle.linear_phase.proofs.lent.Half.process.Goals as goal
+use Rattle.linear_phase.proofs.kinds.Half.process.Goals as goal
 
 pub returns : goal.returns
 returns c =

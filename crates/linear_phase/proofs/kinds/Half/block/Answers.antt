@@ -2,7 +2,7 @@
 use Rattle.std.proofs.Common.{refl, ap, ◌∙◌}
 use Rattle.linear_phase.specs.LinearPhaseFir.{phase_of}
 use Rattle.linear_phase.proofs.Filters.{state_is, outs_are, one_state, one_out, two_states, two_outs}
-use Rattle.linear_phase.proofs.lent.Half.block.Goals as goal
+use Rattle.linear_phase.proofs.kinds.Half.block.Goals as goal
 
 pub returns-then-src-eq1 : goal.returns-then-src-eq1
 returns-then-src-eq1 c =

@@ -3,7 +3,7 @@ use Rattle.std.proofs.Common.{option_copied, refl, ap, ◌∙◌}
 use Rattle.std.specs.Prelude.{unwrap_or}
 use Rattle.linear_phase.specs.LinearPhaseFir.{phase_of}
 use Rattle.linear_phase.proofs.Filters.{state_is, outs_are}
-use Rattle.linear_phase.proofs.lent.Half.along.Goals as goal
+use Rattle.linear_phase.proofs.kinds.Half.along.Goals as goal
 
 pub returns-then-short : goal.returns-then-short
 returns-then-short c =

@@ -2,7 +2,7 @@
 use Rattle.std.proofs.Common.{ℕ, length, ap, ap₂, ◌∙◌, arith, length-take-le}
 use Rattle.linear_phase.specs.LinearPhase.{reach}
 use Rattle.linear_phase.specs.declared.kinds.Kind.{Kind}
-use Rattle.linear_phase.proofs.lent.Half.folded.Goals as goal
+use Rattle.linear_phase.proofs.kinds.Half.folded.Goals as goal
 
 pub returns : goal.returns
 returns c =

@@ -1,7 +1,7 @@
 -- `inplace` meets its contract: one sample is the list of it, and more go along a tape.
 use Rattle.linear_phase.specs.LinearPhaseFir.{phase_of}
 use Rattle.linear_phase.proofs.Filters.{one_state, one_out}
-use Rattle.linear_phase.proofs.lent.Half.inplace.Goals as goal
+use Rattle.linear_phase.proofs.kinds.Half.inplace.Goals as goal
 
 pub returns-then-span-eq1 : goal.returns-then-span-eq1
 returns-then-span-eq1 c =
