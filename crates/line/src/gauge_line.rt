@@ -120,8 +120,8 @@ impl Line {
         self.cuts = clock.cuts;
     }
 
-    // The numbers as an opening or a reset left them.
-    fn put_numbers(&mut self, n: LineNumbers)
+    // The numbers as an opening, a reset or the taking up of a parked line left them. A leaf: it looks at nothing, and refuses nothing.
+    pub fn put_numbers(&mut self, n: LineNumbers)
         ensures { let l = self.old in
             self.new ≡ line_together n l.cic.integrator_state l.cic.comb_state l.neighbours l.fir.taps l.fir.delay
             l.half_band.delays l.half_band.held l.half_band.counts l.resampler.delay l.resampler.prototype }
