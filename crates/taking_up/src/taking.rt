@@ -2,8 +2,7 @@
 ghost use Rattle.std.specs.Prelude.{◌≡◌, IfErr};
 ghost use Rattle.refusal.specs.Outcome.{told_opened, told_reset};
 ghost use Rattle.line.specs.Line as L;
-ghost use Rattle.line.specs.Lent.{with_clock};
-ghost use Rattle.line.specs.Placed.{SamePlaces, line_on, line_together};
+ghost use Rattle.line.specs.Placed.{SamePlaces, line_on};
 ghost use Rattle.sheet.specs.Sheet as S;
 ghost use Rattle.taking_up.specs.AsParked.{AsParked};
 ghost use Rattle.taking_up.specs.TakenBack.{TakenBack};
@@ -18,7 +17,7 @@ use crate::entries::Entries;
 use crate::parked::Parked;
 use crate::reading::{in_limits, settings_from};
 use crate::stated::Stated;
-use line::{Clock, Line, LineNumbers, Places, zeros};
+use line::{Line, LineNumbers, Places, zeros};
 use refusal::Refusal;
 use sheet::TapSheet;
 
@@ -88,36 +87,6 @@ pub fn take_up_lent(bytes: &[u8], n: &mut LineNumbers, lent: &mut Places<'_>) ->
     }
 }
 
-// The clock of a line as it was read. This and the next as line's `put_clock` and `put_numbers`, which are of that crate alone.
-fn put_clock(line: &mut Line, clock: Clock)
-    ensures { line.new ≡ with_clock clock line.old }
-{
-    line.cic.sample_counter = clock.sample_counter;
-    line.fir.wait = clock.wait;
-    line.resampler.mu = clock.mu;
-    line.cuts = clock.cuts;
-}
-
-// The numbers of a line as they were read.
-fn put_numbers(line: &mut Line, n: LineNumbers)
-    ensures { let l = line.old in
-        line.new ≡ line_together n l.cic.integrator_state l.cic.comb_state l.neighbours l.fir.taps l.fir.delay
-        l.half_band.delays l.half_band.held l.half_band.counts l.resampler.delay l.resampler.prototype }
-{
-    let s = n.settings;
-    line.thinning = s.thinning;
-    line.cic.stages = s.stages;
-    line.cic.r = s.r;
-    line.fir.tap_count = n.tap_count;
-    line.fir.factor = s.factor;
-    line.half_band.depth = s.depth;
-    line.resampler.phases = s.phases;
-    line.resampler.taps = s.taps;
-    line.resampler.straight = s.straight;
-    line.resampler.step = s.step;
-    put_clock(line, n.clock);
-}
-
 // The line of a parked sheet. Refusals 16, 17, 21, then 15. The clause `back`: of what parking left in front of a span, after any feeds and parkings, the line never
 // parked, and of any line's sheet one that goes on as it. The clause `parked`: what is taken up parks to the entries that it was taken from. The clause `earlier`: what an older
 // panel takes up is taken up, as the same line.
@@ -143,6 +112,6 @@ pub fn take_up(bytes: &[u8]) -> Result<Line, Refusal>
         prototype: &mut line.resampler.prototype,
     };
     take_up_lent(bytes, &mut n, &mut lent)?;
-    put_numbers(&mut line, n);
+    line.put_numbers(n);
     Ok(line)
 }
