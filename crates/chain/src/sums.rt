@@ -23,7 +23,8 @@ use nonrecursive::thinning::thin_block_at;
 use q15::cut_q15;
 use refusal::Moved;
 
-// The sums, scaled and cut, in front of a span. Answers how many were cut.
+// The sums, scaled and cut, in front of a span. Answers how many were cut. A loop of its own beside q15's `fill_cut`: by 01 a public function there asks for nothing, and
+// that one asks that its closure may be called.
 fn cut_sums(bits: u32, sums: &[i32], dst: &mut [i16]) -> u32
     requires { (length sums.now ≤ length dst.old) × (length sums.now ≤ most_sums) }
     ensures span { dst.new ≡ map (cut w16) (map (λ y. floor_div y (2 ^ bits)) sums.now) ++ drop (length sums.now) dst.old }

@@ -1,13 +1,13 @@
 -- What the contracts of the opening, `process_block` and `push` claim follows from the equations they state: an opened state is valid and its runs are
 -- the whole list's, and a feed of the machine keeps validity and conserves its run.
-use Rattle.std.proofs.Common.{◌≡◌, ℕ, ◌-◌, ◌*◌, ◌<◌, ◌≤◌, Bool, true, false, cond, ap, eqb, ltb, List, [], length, take, drop, sym, refl, ◌∙◌, subst, true≢false, arith, ltb-false, ltb-true, eq-eqb, eqb-true}
+use Rattle.std.proofs.Common.{◌≡◌, ℕ, ◌-◌, ◌*◌, ◌<◌, ◌≤◌, Bool, true, false, cond, ap, eqb, ltb, List, [], length, take, drop, sym, refl, ◌∙◌, subst, arith, ltb-false, ltb-true, eq-eqb, eqb-true}
 use mathlib.Core.Path.{subst⁻¹}
 use lib.Seq.{take-append_seam, drop-nil}
 use lib.Ieee.{Float, binary32, sub, lt}
 use Rattle.theory.specs.Feeds.{Fed, feed}
 use Rattle.theory.specs.Runs.{Runs}
 use Rattle.theory.proofs.FeedRules.{Between, Ended, between_start, after_output, ended_full, ended_dry, feed_keeps, feed_short, feed_conserves}
-use Rattle.refusal.specs.Outcome.{Outcome, Opened, none_moved}
+use Rattle.refusal.specs.Outcome.{Outcome, Opened}
 use Rattle.refusal.specs.declared.Moved.{Moved}
 use Rattle.float.specs.F32.{one32, above_zero}
 use Rattle.float.specs.PolyphaseOutput.{output}
@@ -113,11 +113,7 @@ pub opening_answer :
     {straight : Bool} {P T : ℕ} {h : List Float} {step : Float} {r : Opened PolyphaseResampF32} → r ≡ opening straight P T h step → (r ≡ opening straight P T h step) × Opens straight P T h step r
 opening_answer {straight} {P} {T} {h} {step} {r} e = (e, opens straight P T h step r e)
 
--- both clauses of a reset's contract, of a state that is refused and of one that is not
-pub reset_refused : (s : PolyphaseResampF32) → valid s ≡ false → (record { number = 15; state = s } ≡ reset s) × Resets s (record { number = 15; state = s })
-unfolding reset Resets
-reset_refused s v = (rw v, λ t. absurd (true≢false (sym t ∙ v)))
-
+-- both clauses of a reset's contract, of a state that is not refused
 pub reset_fresh :
     (s : PolyphaseResampF32) (r : Opened PolyphaseResampF32) → valid s ≡ true → length (own_taps s) ≡ s.phases * s.taps
     → r ≡ record { number = 0; state = fresh s.straight s.phases s.taps (own_taps s) s.step } → (r ≡ reset s) × Resets s r
@@ -199,13 +195,9 @@ block_kept s xs before after r er ea =
       drained = λ v. rw (er, v) (feed_short resampler s xs (length before));
     }
 
--- the answer and the span of a block, refused or run
+-- the answer and the span of a block
 abbrev pub BlockMade : PolyphaseResampF32 → List Float → List Float → List Float → Outcome Counts PolyphaseResampF32 → Type 0
 BlockMade s xs before after r = (r ≡ block_outcome s xs before) × (after ≡ block_span s xs before)
-
-pub block_refused : (s : PolyphaseResampF32) (xs before : List Float) → valid s ≡ false → BlockMade s xs before before (record { number = 15; value = none_moved; state = s })
-unfolding block_outcome block_span
-block_refused s xs before v = (rw v, rw v)
 
 pub block_ran :
     (q : Setting) (mu₀ : Float) (d₀ h xs before : List Float) (r : Moved) (mu : Float) (d after : List Float) → valid (state_of q mu₀ d₀ h) ≡ true
@@ -229,10 +221,6 @@ push_kept s x before after r er ea =
 -- the answer and the span of a push
 abbrev pub PushMade : PolyphaseResampF32 → Float → List Float → List Float → Outcome ℕ PolyphaseResampF32 → Type 0
 PushMade s x before after r = (r ≡ push_outcome s x before) × (after ≡ push_span s x before)
-
-pub push_refused : (s : PolyphaseResampF32) (x : Float) (before : List Float) → valid s ≡ false → PushMade s x before before (record { number = 15; value = 0; state = s })
-unfolding push_outcome push_span
-push_refused s x before v = (rw v, rw v)
 
 pub push_ran :
     (q : Setting) (mu₀ : Float) (d₀ h : List Float) (x : Float) (before : List Float) (r : Moved) (mu : Float) (d₁ d after : List Float)

@@ -105,6 +105,7 @@ impl Setting {
     }
 
     // The fresh opening with the setting and the prototype that the state has. Refused by 15: the state stays.
+    #[tactic(auto, unfolding(crate::specs::PolyphaseResamp::valid, crate::specs::PolyphaseResamp::reset, crate::specs::PolyphaseWhole::Resets))]
     pub fn reset(
         self,
         mu: &mut f32,
@@ -114,9 +115,7 @@ impl Setting {
         ensures answer { told_reset result (R.state_of self mu.new delay.new cells.new) ≡ R.reset (R.state_of self mu.old delay.old cells.old) }
         ensures whole { W.Resets (R.state_of self mu.old delay.old cells.old) (told_reset result (R.state_of self mu.new delay.new cells.new)) }
     {
-        if !self.is_valid(*mu) {
-            return Err(Refusal::State);
-        }
+        self.state_answer(*mu)?;
         self.begin(mu, delay, cells);
         Ok(())
     }

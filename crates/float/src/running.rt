@@ -71,6 +71,7 @@ impl Reading<'_> {
 
 impl Setting {
     // A block from mu on. Refused by 15.
+    #[tactic(auto, unfolding(crate::specs::PolyphaseResamp::valid, crate::specs::PolyphaseResamp::block_outcome, crate::specs::PolyphaseResamp::block_span))]
     pub fn block(
         self,
         mu: &mut f32,
@@ -82,13 +83,12 @@ impl Setting {
         ensures answer { told_on none_moved result (R.state_of self mu.new delay.new prototype.now) ≡ R.block_outcome (R.state_of self mu.old delay.old prototype.now) src.now dst.old }
         ensures span { dst.new ≡ R.block_span (R.state_of self mu.old delay.old prototype.now) src.now dst.old }
     {
-        if !self.is_valid(*mu) {
-            return Err(Refusal::State);
-        }
+        self.state_answer(*mu)?;
         Ok(Reading::of(prototype, self).run(mu, delay, src, dst))
     }
 
     // A pushed sample. Refused by 15.
+    #[tactic(auto, unfolding(crate::specs::PolyphaseResamp::valid, crate::specs::PolyphaseResamp::push_outcome, crate::specs::PolyphaseResamp::push_span))]
     pub fn push(
         self,
         mu: &mut f32,
@@ -100,9 +100,7 @@ impl Setting {
         ensures answer { told_on 0 result (R.state_of self mu.new delay.new prototype.now) ≡ R.push_outcome (R.state_of self mu.old delay.old prototype.now) x out.old }
         ensures span { out.new ≡ R.push_span (R.state_of self mu.old delay.old prototype.now) x out.old }
     {
-        if !self.is_valid(*mu) {
-            return Err(Refusal::State);
-        }
+        self.state_answer(*mu)?;
         shift_in(delay, self.taps, x);
         let due = self.write_due(prototype, delay, *mu - 1.0, out, 0);
         *mu = due.mu;

@@ -1,7 +1,10 @@
 // 01, section 5: what an opening of the polyphase resampler sets, inside which limits, and where mu may lie.
-ghost use Rattle.std.specs.Prelude.{◌≡◌};
+ghost use Rattle.std.specs.Prelude.{◌≡◌, true, cond, IfOk};
+ghost use Rattle.refusal.specs.Outcome.{number_in};
 ghost use Rattle.float.specs.F32.{above_zero};
 ghost use Rattle.float.specs.PolyphaseResamp as R;
+
+use refusal::Refusal;
 
 pub const LEAST_PHASES: usize = 2;
 
@@ -69,6 +72,18 @@ impl Setting {
     {
         in_limits(self.phases, self.taps)
             && (above_zero(self.step) && mu_from(LOWEST_MU, self.step, mu))
+    }
+
+    // Row 15 of a state at this mu.
+    #[inline(always)]
+    pub(crate) fn state_answer(self, mu: f32) -> Result<(), Refusal>
+        ensures number { number_in result ≡ cond (R.valid_at self.phases self.taps self.step mu) 0 15 }
+        ensures valid { IfOk result (λ _. R.valid_at self.phases self.taps self.step mu ≡ true) }
+    {
+        if !self.is_valid(mu) {
+            return Err(Refusal::State);
+        }
+        Ok(())
     }
 
     // Whether a feed at this mu is not refused by 15: P = 0 means off.

@@ -9,9 +9,9 @@ ghost use Rattle.half_band.specs.Windows.{pairs, decimator, spliced};
 ghost use Rattle.half_band.specs.HbfStream.{stream, stream_of};
 ghost use Rattle.half_band.specs.HbfDecCascade.{cascade_of, told_cascade, dec_cascade_fresh, dec_cascade_opening, dec_cascade_reset, block_by, span_by, MeetsBy};
 
-use crate::half_band::{TAPE, Taps, decimate_in_place};
-use crate::hbf_taps::{Db98, Db140, StageTable};
-use crate::limits::{DEC_CASCADE_DELAYS, DEC_DELAYS, MOST_DEPTH, rate_change, state_answer};
+use crate::half_band::{TAPE, decimate_in_place};
+use crate::hbf_taps::{Db98, Db140, StageTable, stage_at};
+use crate::limits::{DEC_CASCADE_DELAYS, MOST_DEPTH, rate_change, state_answer};
 use refusal::Refusal;
 use refusal::rows::{outside, samples_refused};
 use std::marker::PhantomData;
@@ -28,7 +28,7 @@ pub type HbfDecCascade = DecCascade<Db140>;
 
 pub type HbfDecCascade98 = DecCascade<Db98>;
 
-// The pairs of the lead and the span go through stage k, and their outputs stand in front of the span. That k is below 5 stands in four contracts of one stage: a type
+// The pairs of the lead and the span go through stage k, and their outputs stand in front of the span. That k is below 5 stands in five contracts of one stage: a type
 // for it would be made at each turn of the loops that call them.
 pub(crate) fn decimate_stage<T: StageTable>(
     k: usize,
@@ -43,10 +43,8 @@ pub(crate) fn decimate_stage<T: StageTable>(
         (delays.new ≡ spliced (96 * k) (4 * length taps) (state (decimator taps) window (pairs led)) delays.old)
         × (span.new ≡ outs (decimator taps) window (pairs led) ++ drop (length led / 2) span.old) }
 {
-    let taps = Taps { all: T::stage(k) };
-    let from = DEC_DELAYS * k;
-    let past = from + 4 * taps.all.len();
-    decimate_in_place(&mut delays[from..past], taps, lead, span)
+    let (taps, window) = stage_at::<T>(k, 4);
+    decimate_in_place(&mut delays[window], taps, lead, span)
 }
 
 // The frames of src, at most a tape long, go through the stages on a tape, and an output of each fills dst. Nothing is held before them, so there is no lead.

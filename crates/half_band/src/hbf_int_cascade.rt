@@ -8,9 +8,9 @@ ghost use Rattle.half_band.specs.HbfTaps.{stage_taps, interpolation};
 ghost use Rattle.half_band.specs.Windows.{interpolator, spliced};
 ghost use Rattle.half_band.specs.HbfIntCascade.{int_cascade_of, int_stage, upsampled, int_cascade_fresh, int_cascade_opening, int_cascade_reset, int_cascade_block, int_cascade_span, IntCascadeMeets};
 
-use crate::half_band::{Taps, expand};
-use crate::hbf_taps::{Interpolation, StageTable};
-use crate::limits::{INT_CASCADE_DELAYS, INT_DELAYS, MOST_DEPTH, rate_change, state_answer};
+use crate::half_band::expand;
+use crate::hbf_taps::{Interpolation, StageTable, stage_at};
+use crate::limits::{INT_CASCADE_DELAYS, MOST_DEPTH, rate_change, state_answer};
 use refusal::Refusal;
 use refusal::rows::{outside, samples_refused};
 
@@ -29,10 +29,8 @@ fn expand_stage<T: StageTable>(k: usize, delays: &mut [f32; INT_CASCADE_DELAYS],
         let taken = drop (length span.old / 2) span.old in
         (delays.new ≡ spliced (48 * k) (2 * length taps) (state (interpolator taps) window taken) delays.old) × (span.new ≡ flat (outs (interpolator taps) window taken)) }
 {
-    let taps = Taps { all: T::stage(k) };
-    let from = INT_DELAYS * k;
-    let past = from + 2 * taps.all.len();
-    expand(&mut delays[from..past], taps, span)
+    let (taps, window) = stage_at::<T>(k, 2);
+    expand(&mut delays[window], taps, span)
 }
 
 // The samples go through the first `depth` stages, and their outputs fill the span.

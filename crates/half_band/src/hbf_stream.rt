@@ -5,9 +5,9 @@ ghost use Rattle.half_band.specs.HbfTaps.{stage_taps};
 ghost use Rattle.half_band.specs.Windows.{slid, dec_value, spliced};
 ghost use Rattle.half_band.specs.HbfStream.{stream_of, stream_fresh, hbf_stream, stream_opening, stream_reset, stream_step, stream_refused, stream_refused_in_line, StreamMeets};
 
-use crate::half_band::{Taps, take_pair};
-use crate::hbf_taps::{Db140, StageTable};
-use crate::limits::{DEC_CASCADE_DELAYS, DEC_DELAYS, MOST_DEPTH};
+use crate::half_band::take_pair;
+use crate::hbf_taps::{Db140, StageTable, stage_at};
+use crate::limits::{DEC_CASCADE_DELAYS, MOST_DEPTH};
 use refusal::Refusal;
 use refusal::rows::outside;
 
@@ -21,7 +21,7 @@ pub struct HbfStream {
     pub counts: [usize; MOST_DEPTH],
 }
 
-// A pair into stage k. The stages of an interpolating cascade have their windows at other places, and another step.
+// A pair into stage k.
 fn stage_pair<T: StageTable>(
     k: usize,
     delays: &mut [f32; DEC_CASCADE_DELAYS],
@@ -33,10 +33,8 @@ fn stage_pair<T: StageTable>(
         let window = slid (take (4 * length taps) (drop (96 * k) delays.old)) (a ∷ b ∷ []) in
         (delays.new ≡ spliced (96 * k) (4 * length taps) window delays.old) × (result ≡ dec_value taps window) }
 {
-    let taps = Taps { all: T::stage(k) };
-    let from = DEC_DELAYS * k;
-    let past = from + 4 * taps.all.len();
-    take_pair(&mut delays[from..past], taps, a, b)
+    let (taps, window) = stage_at::<T>(k, 4);
+    take_pair(&mut delays[window], taps, a, b)
 }
 
 // A sample into the first `depth` stages, or all five: held at a stage, or made into an output by all. A leaf for the line, which has looked at the numbers and

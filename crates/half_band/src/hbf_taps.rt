@@ -1,9 +1,11 @@
 // The 140 dB half-band taps of the Rust, one table: 23 taps from 0 on, 10 from 23, 5 from 33, 4 from 38 and 3 from 42.
-ghost use Rattle.std.specs.Prelude.{◌≡◌, ◌<◌, ℕ};
+ghost use Rattle.std.specs.Prelude.{◌≡◌, ◌+◌, ◌*◌, ◌<◌, ◌≤◌, ℕ, length};
 ghost use Rattle.half_band.specs.HbfTaps.{Table, FiveStages, hbf_taps, stage_taps, decimation, decimation_five, interpolation, interpolation_five};
 ghost use Rattle.half_band.specs.HbfTaps98.{hbf_taps98, decimation98, decimation98_five};
 
-use crate::limits::MOST_DEPTH;
+use crate::half_band::Taps;
+use crate::limits::{MOST_DEPTH, MOST_HALF_BAND_TAPS};
+use std::ops::Range;
 
 pub const HBF_TAPS: [f32; 45] = [
     7.60375795e-07,
@@ -95,6 +97,18 @@ pub trait StageTable {
         ensures { result.now ≡ stage_taps table k };
 
     ghost five: { FiveStages (stage_taps table) };
+}
+
+// The taps of stage k, and where its window lies among a cascade's delays: each tap has so many places there, 4 in a decimating cascade and 2 in an interpolating one.
+#[inline(always)]
+pub(crate) fn stage_at<T: StageTable>(k: usize, places: usize) -> (Taps<'static>, Range<usize>)
+    requires { (k < 5) × (places ≤ 4) }
+    ensures { let taps = stage_taps T.table k in
+        (result.0.all.now ≡ taps) × ((result.1.start ≡ 24 * places * k) × (result.1.end ≡ 24 * places * k + places * length taps)) }
+{
+    let taps = Taps { all: T::stage(k) };
+    let from = (MOST_HALF_BAND_TAPS + 1) * places * k;
+    (taps, from..from + places * taps.all.len())
 }
 
 // A decimation with the 140 dB taps, from the highest rate on: M = 3, 4, 5, 10, 23.

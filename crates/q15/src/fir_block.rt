@@ -105,7 +105,8 @@ fn after_last(
     settings.factor - (tape.len() - end)
 }
 
-// A block by its tape.
+// A block by its tape. Delay, taps, settings and wait go one by one: behind a field of a lent struct a proof does not know an array's length, and C and chain's
+// `Arrays` lend them so.
 fn by_tape(
     delay: &mut [i16; MOST_TAPS],
     taps: &[i16; MOST_TAPS],
@@ -135,7 +136,7 @@ fn by_tape(
     FirBlock { written, cuts }
 }
 
-// A block sample by sample, for every state.
+// A block sample by sample, for every state. Delay, taps, settings and wait go one by one here too: behind a lent struct's field a proof knows no array's length.
 fn one_by_one(
     delay: &mut [i16; MOST_TAPS],
     taps: &[i16; MOST_TAPS],
