@@ -106,7 +106,8 @@ pub fn reset_lent(
 ) -> Result<(), Refusal>
     ensures answer { told_reset result (stream_of depth delays.new held.new counts.new) ≡ stream_reset (stream_of depth delays.old held.old counts.old) }
 {
-    if hbf_stream_refused(depth, counts) {
+    let refused = hbf_stream_refused(depth, counts);
+    if refused {
         return Err(Refusal::State);
     }
     delays.fill(0.0);

@@ -137,6 +137,7 @@ fn whole_sums_of_one(
     }
 }
 
+// The same of any stages: each arm makes their number a constant, for which the compiler unrolls the body.
 fn whole_sums(
     settings: Settings,
     integrators: &mut [i32; MOST_STAGES],

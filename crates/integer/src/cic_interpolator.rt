@@ -165,6 +165,7 @@ fn raise_one(
     }
 }
 
+// The same of any stages: each arm makes their number a constant, for which the compiler unrolls the body.
 fn raise(
     settings: Settings,
     combs: &mut [i32; MOST_STAGES],

@@ -60,7 +60,7 @@ pub(crate) fn few_outputs(tape: &[f32], fir: Folded<'_>, span: &mut [f32])
     }
 }
 
-// About a group, and some more: what is more does not wait for the sums of a group.
+// About a group, and some more: what is more does not wait for the sums of a group. An arm for each number, as above, since a const argument is a constant.
 pub(crate) fn more_outputs(tape: &[f32], fir: Folded<'_>, span: &mut [f32])
     requires { (fir.long + length span.old ≤ length tape.now) × (length span.old ≤ 28) }
     ensures { span.new ≡ H.values_of fir.entry tape.now (length span.old) }

@@ -95,6 +95,7 @@ impl Int {
     }
 }
 
+// As `Dec`, over another type of the library.
 impl State for Int {
     fn from_words(words: &mut Words<'_>) -> Int {
         let Parts { m, coeffs, delay } = Parts::from_words(words);

@@ -12,7 +12,7 @@ pub returns : goal.returns
 returns c =
     let a = c.args in
     let s = stream_of a.depth a.delays.now a.held.now a.counts.now in
-    let fine = sym c.hbf_stream_refused.ensures ∙ c.if-hbf_stream_refused.false in
+    let fine = sym c.hbf_stream_refused-refused.ensures ∙ c.if-refused.false in
     let f = refused_says s.depth s.counts fine in
     let delays = c.fill.ensures.after (λ y e. e) ∙ ap (λ (n : ℕ). replicate n zero32) c.told-delays in
     let held = c.fill-2.ensures.after (λ y e. e) ∙ ap (λ (n : ℕ). replicate n zero32) c.told-held in
