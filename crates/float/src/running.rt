@@ -49,7 +49,6 @@ impl Reading<'_> {
         let mut at = *mu;
         let mut taken = 0usize;
         let mut written = 0usize;
-        // No range: mu says when an output is due and when a sample is taken.
         while written < dst.len() {
             if at < 1.0 {
                 let due = self.write_due(&tape[newest..], at, dst, written);

@@ -44,7 +44,6 @@ pub(crate) fn feed_batches(
     let setting = f.settings.resampler();
     let mut taken: usize = 0;
     let mut written: usize = 0;
-    // No range: each turn takes as many samples as a batch has, and ends where too few are left.
     while worth_a_batch(f.settings, samples.len() - taken) {
         let due = setting.write_due(lent.prototype, lent.delay, clock.mu, out, written);
         clock.mu = due.mu;
