@@ -93,9 +93,13 @@ fn a_signal_leaves_nothing_behind() {
     scratch.write("levels.txt", "old\n");
     let names = scratch.names();
     for signal in ["INT", "TERM", "HUP", "ABRT", "KILL"] {
-        let mut tool = scratch
-            .command()
+        let gauge = scratch.command();
+        // Where the tests run behind a shell that ignores INT, the tool would ignore it too.
+        let mut tool = Command::new("env")
+            .arg("--default-signal")
+            .arg(gauge.get_program())
             .args(["run", "--settings", "line.settings", "--out", "levels.txt"])
+            .current_dir(gauge.get_current_dir().unwrap())
             .stdin(Stdio::piped())
             .stderr(Stdio::null())
             .spawn()
