@@ -53,7 +53,7 @@ bench-peers: ## 15 s | like work in liquid-dsp, libsamplerate, soxr and speexdsp
 bench-flat: ## 30 s | what a sample costs in streams of 10^3 to 10^9
 	@bench/run.sh --flat
 
-targets: ## 30 s | the proved module on other machines, its outputs compared with those on x86-64; MACHINES="wasm32" names some
+targets: ## 30 s | the proved module on other machines, its outputs compared with those on x86-64, and a Cortex-M4F beside plain C; MACHINES="wasm32" names some
 	@targets/run.sh $(MACHINES)
 
 firmware: ## 3 s | the archive for Cortex-M4F, with a table of its code and stack, in target/firmware
