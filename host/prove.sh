@@ -11,7 +11,8 @@ log=$target/staticlib.log
 like=$(mktemp -d)
 trap 'rm -rf "$like"' EXIT
 
-# The kit's toolchain once more, with a clang that keeps the module it is handed: so the archive is made as ever, and of this module.
+# The kit's toolchain once more, with a clang that keeps the module it is handed, so that the archive is made of this module; and that lets no branch cross a border of 32 bytes, nor end at one:
+# Intel's processors from Skylake to Cascade Lake are slow at those, so that the same code at another address took up to 40 % longer. What the code does stays.
 like_toolchain() {
     local one
     mkdir "$like/bin"
@@ -26,7 +27,7 @@ like_toolchain() {
 for word; do
     case \$word in *.bc) cp "\$word" "$to/module.bc" ;; esac
 done
-exec "$kit/toolchain/bin/clang" "\$@"
+exec "$kit/toolchain/bin/clang" -mbranches-within-32B-boundaries "\$@"
 END
     chmod +x "$like/bin/clang"
 }
