@@ -13,6 +13,9 @@ use crate::limits::{LINEAR_PHASE_DELAYS, MOST_LINEAR_PHASE_TAPS};
 use crate::one::filter_one;
 use crate::straight::{filter_straight, is_straight};
 
+// The most taps of a filter that has roads of its own.
+const FEW_TAPS: usize = 5;
+
 impl Half {
     // The filter of the taps that lie in front of those lent.
     #[inline(always)]
@@ -80,12 +83,14 @@ impl Half {
             span[0] = self.process(taps, delay, src[0]);
             return;
         }
-        let long = self.kind.reach(self.m);
-        if is_straight(self.m, long, src.len()) {
-            return filter_straight(self, taps, delay, src, span);
-        }
-        if is_brief(self.m, src.len()) {
-            return filter_brief(self, taps, delay, src, span);
+        if self.m <= FEW_TAPS {
+            let long = self.kind.reach(self.m);
+            if is_straight(self.m, long, src.len()) {
+                return filter_straight(self, taps, delay, src, span);
+            }
+            if is_brief(self.m, src.len()) {
+                return filter_brief(self, taps, delay, src, span);
+            }
         }
         if src.len() == 2 {
             let y = self.process(taps, delay, src[0]);

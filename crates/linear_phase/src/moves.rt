@@ -44,18 +44,24 @@ fn copy_ends<const N: usize>(span: &mut [f32], src: &[f32])
     put_both(span, &y, &z);
 }
 
-// At most sixteen samples into a span of as many places.
+// At most sixteen samples into a span of as many places. By `if`s, the largest first: of a `match` the compiler compares the smallest first, which costs a block of four a tenth.
 #[inline(always)]
 pub(crate) fn copy_few(span: &mut [f32], src: &[f32])
     requires { (length src.now ≡ length span.old) × (length span.old ≤ 16) }
     ensures { span.new ≡ src.now }
 {
-    match span.len() {
-        0 => {}
-        1 => copy_ends::<1>(span, src),
-        2..=3 => copy_ends::<2>(span, src),
-        4..=7 => copy_ends::<4>(span, src),
-        _ => copy_ends::<8>(span, src),
+    let n = span.len();
+    if 8 <= n {
+        return copy_ends::<8>(span, src);
+    }
+    if 4 <= n {
+        return copy_ends::<4>(span, src);
+    }
+    if 2 <= n {
+        return copy_ends::<2>(span, src);
+    }
+    if n == 1 {
+        copy_ends::<1>(span, src);
     }
 }
 
@@ -103,12 +109,18 @@ fn move_rest(rest: &mut [f32], n: usize)
     requires { (n ≤ length rest.old) × (length rest.old < n + 16) }
     ensures { rest.new ≡ drop n rest.old ++ drop (length rest.old - n) rest.old }
 {
-    match rest.len() - n {
-        0 => {}
-        1 => move_ends::<1>(rest, n),
-        2..=3 => move_ends::<2>(rest, n),
-        4..=7 => move_ends::<4>(rest, n),
-        _ => move_ends::<8>(rest, n),
+    let kept = rest.len() - n;
+    if 8 <= kept {
+        return move_ends::<8>(rest, n);
+    }
+    if 4 <= kept {
+        return move_ends::<4>(rest, n);
+    }
+    if 2 <= kept {
+        return move_ends::<2>(rest, n);
+    }
+    if kept == 1 {
+        move_ends::<1>(rest, n);
     }
 }
 

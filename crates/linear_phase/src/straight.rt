@@ -64,7 +64,7 @@ fn straight<const M: usize, const LONG: usize, const ODD: bool, const MINUS: boo
     let newest = src.len() - LONG;
     copy_taken::<LONG>(&mut delay[..LONG], &src[newest..]);
     groups_back(src, fir, &mut span[LONG..]);
-    group_of::<LONG>(&tape, fir, &mut span[..LONG]);
+    group_of::<LONG, LONG>(&tape, fir, &mut span[..LONG]);
 }
 
 // A copy for each length, and for each kind; a delay's length is named beside M, since a const argument is never computed. Lent a half, as `filter_brief`.
