@@ -10,14 +10,17 @@ use crate::kinds::{Folded, Half, Kind};
 use crate::limits::{LINEAR_PHASE_DELAYS, MOST_LINEAR_PHASE_TAPS};
 use crate::one::value_with;
 
-// The longest delay of four taps.
-const SHORT_DELAY: usize = 8;
+// The longest delay of five taps.
+const SHORT_DELAY: usize = 10;
 
-// Whether there are at most three taps, or four and no more samples than that.
+// Whether there are at most three taps, or five and at most four samples. More taps are told by one comparison.
 pub(crate) fn is_brief(m: usize, n: usize) -> bool
-    ensures { result ≡ true → m ≤ 4 }
+    ensures { result ≡ true → m ≤ 5 }
 {
-    m <= 3 || m == 4 && n <= 4
+    if 5 < m {
+        return false;
+    }
+    m <= 3 || n <= 4
 }
 
 // The delay moves down by one place, and x stands at its end. It goes from the end on: the other way would be a copy in memory to the compiler. By the number: with
@@ -57,7 +60,7 @@ fn held<const M: usize, const ODD: bool, const MINUS: bool>(
     src: &[f32],
     span: &mut [f32],
 )
-    requires { (M ≡ length taps.now) × (1 ≤ M) × (M ≤ 4) × (length span.old ≡ length src.now) }
+    requires { (M ≡ length taps.now) × (1 ≤ M) × (M ≤ 5) × (length span.old ≡ length src.now) }
     ensures delay { delay.new ≡ H.left_of (W.linear_phase ODD MINUS taps.now) (P.reach ODD (length taps.now)) delay.old src.now }
     ensures span { span.new ≡ H.made_of (W.linear_phase ODD MINUS taps.now) (P.reach ODD (length taps.now)) delay.old src.now }
 {
@@ -73,6 +76,21 @@ fn held<const M: usize, const ODD: bool, const MINUS: bool>(
     delay[..long].copy_from_slice(&window[..long]);
 }
 
+// Of five taps. A call of its own: what its window takes of the registers would be saved at every call of the others.
+#[inline(never)]
+fn held_five<const ODD: bool, const MINUS: bool>(
+    taps: &[f32],
+    delay: &mut [f32; LINEAR_PHASE_DELAYS],
+    src: &[f32],
+    span: &mut [f32],
+)
+    requires { (length taps.now ≡ 5) × (length span.old ≡ length src.now) }
+    ensures delay { delay.new ≡ H.left_of (W.linear_phase ODD MINUS taps.now) (P.reach ODD (length taps.now)) delay.old src.now }
+    ensures span { span.new ≡ H.made_of (W.linear_phase ODD MINUS taps.now) (P.reach ODD (length taps.now)) delay.old src.now }
+{
+    held::<5, ODD, MINUS>(taps, delay, src, span);
+}
+
 // A copy for each number of taps.
 fn filter_kind<const ODD: bool, const MINUS: bool>(
     taps: &[f32],
@@ -80,7 +98,7 @@ fn filter_kind<const ODD: bool, const MINUS: bool>(
     src: &[f32],
     span: &mut [f32],
 )
-    requires { (1 ≤ length taps.now) × (length taps.now ≤ 4) × (length span.old ≡ length src.now) }
+    requires { (1 ≤ length taps.now) × (length taps.now ≤ 5) × (length span.old ≡ length src.now) }
     ensures delay { delay.new ≡ H.left_of (W.linear_phase ODD MINUS taps.now) (P.reach ODD (length taps.now)) delay.old src.now }
     ensures span { span.new ≡ H.made_of (W.linear_phase ODD MINUS taps.now) (P.reach ODD (length taps.now)) delay.old src.now }
 {
@@ -88,7 +106,8 @@ fn filter_kind<const ODD: bool, const MINUS: bool>(
         1 => held::<1, ODD, MINUS>(taps, delay, src, span),
         2 => held::<2, ODD, MINUS>(taps, delay, src, span),
         3 => held::<3, ODD, MINUS>(taps, delay, src, span),
-        _ => held::<4, ODD, MINUS>(taps, delay, src, span),
+        4 => held::<4, ODD, MINUS>(taps, delay, src, span),
+        _ => held_five::<ODD, MINUS>(taps, delay, src, span),
     }
 }
 
@@ -101,7 +120,7 @@ pub(crate) fn filter_brief(
     src: &[f32],
     span: &mut [f32],
 )
-    requires { (half.m ≤ 4) × (length span.old ≡ length src.now) }
+    requires { (half.m ≤ 5) × (length span.old ≡ length src.now) }
     ensures delay { delay.new ≡ H.left_of (H.half_by half taps.now) (H.half_long half) delay.old src.now }
     ensures span { span.new ≡ H.made_of (H.half_by half taps.now) (H.half_long half) delay.old src.now }
 {
