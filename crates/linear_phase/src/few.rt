@@ -1,4 +1,4 @@
-// Outputs of a few samples in a row, at windows on a tape: one or two alone, more by a group of exactly as many, of which the compiler knows the size.
+// Outputs of a few samples in a row, at windows on a tape: by a group of exactly as many, of which the compiler knows the size, or one by one.
 ghost use Rattle.std.specs.Prelude.{◌≡◌, ◌+◌, ◌≤◌, ◌<◌, length, take};
 ghost use Rattle.linear_phase.specs.Handed as H;
 
@@ -47,7 +47,9 @@ pub(crate) fn few_outputs(tape: &[f32], fir: Folded<'_>, span: &mut [f32])
     ensures { span.new ≡ H.values_of fir.entry tape.now (length span.old) }
 {
     match span.len() {
-        0..=2 => singles(tape, fir, span),
+        0 => {}
+        1 => group_of::<1, 1>(tape, fir, span),
+        2 => group_of::<2, 2>(tape, fir, span),
         3 => group_of::<3, 4>(tape, fir, span),
         4 => group_of::<4, 4>(tape, fir, span),
         5 => group_of::<5, 5>(tape, fir, span),
