@@ -51,7 +51,8 @@ pub fn hbf_stream_at(
 {
     let mut v = x;
     // By the number: the count, the held sample, the window and the taps of a stage go by it.
-    for k in 0..depth.min(MOST_DEPTH) {
+    for i in 0..depth.min(MOST_DEPTH) as u32 {
+        let k = i as usize;
         if counts[k] == 0 {
             held[k] = v;
             counts[k] = 1;
