@@ -39,6 +39,7 @@ fn stage_pair<T: StageTable>(
 
 // A sample into the first `depth` stages, or all five: held at a stage, or made into an output by all. A leaf for the line, which has looked at the numbers and
 // lends the arrays, so that nothing is copied: it refuses nothing.
+#[inline(always)]
 pub fn hbf_stream_at(
     depth: usize,
     delays: &mut [f32; DEC_CASCADE_DELAYS],
