@@ -1,6 +1,6 @@
 -- Rust's `as usize` of an f32: from 1 to below 2^24 the 24 leading digits of the value, counted in the smallest f32, are its pattern's, and cut by the
 -- exponent they are the whole part; below 1 and of a NaN that is 0, and from 2^64 on the largest number.
-use Rattle.std.proofs.Common.{◌≡◌, ℕ, ◌+◌, ◌-◌, ◌*◌, ◌/◌, ◌%◌, ◌^◌, ◌<◌, ◌≤◌, min, true, false, not, T, eqb, ℤ, pos, sym, refl, ap, ◌∙◌, subst, true≢false, le_trans, lt_of_lt_of_le, lt_irrefl, mul-le-mul_right, mul_assoc, mul_comm, div-lt_iff_lt-mul, mul-lt-mul_of_pos_right, mul-pos, lt_of_not-le, le-div_iff_mul-le, zero-add, arith, lt→ltb, nltb→le, pow_pos, pow_mono, pow-add, shr-shr, eqb-true}
+use Rattle.std.proofs.Common.{◌≡◌, ℕ, ◌+◌, ◌-◌, ◌*◌, ◌/◌, ◌%◌, ◌^◌, ◌<◌, ◌≤◌, min, true, false, not, T, eqb, ℤ, pos, sym, refl, ap, ◌∙◌, subst, true≢false, le_trans, lt_of_lt_of_le, lt_irrefl, mul-le-mul_right, mul_assoc, mul_comm, div-lt_iff_lt-mul, mul-lt-mul_of_pos_right, mul-pos, lt_of_not-le, le-div_iff_mul-le, zero-add, arith, lt→ltb, nltb→le, pow_pos, pow_mono, pow-add, shr-shr, eqb-true, lit≤}
 use native.Mathlib.Nat.{mul-div-mul_right, div-div-eq-div-mul, div-eq_of_lt}
 use mathlib.Core.Bool.{false≢true}
 use lib.Ieee.{Float, nan, inf, fin, binary32, up, down, size, lt, eq, le, is_nan, to_bits, to_unsigned}
@@ -153,4 +153,16 @@ held_at_most (fin true m e) h k = absurd (over_negative 24 m e h)
 held_at_most (fin false m e) h k =
     let c : 18446744073709551616 * down e ≤ m * up e = let n = nltb→le (m * up e * 1) (18446744073709551616 * down e) (is_not _ k) in omega arith in
     let q : 18446744073709551616 ≤ m * up e / down e = (le-div_iff_mul-le (down_pos e)).1 c in
+    omega arith
+
+-- and from 2^24 on the whole part is no less
+pub reaches : (x : Float) → le all_whole x ≡ true → 16777216 ≤ to_unsigned 64 x
+unfolding le lt eq to_unsigned
+reaches nan h = absurd (false≢true h)
+reaches (inf true) h = absurd (false≢true h)
+reaches (inf false) h = lit≤ tt
+reaches (fin true m e) h = absurd (over_negative 24 m e h)
+reaches (fin false m e) h =
+    let c : 16777216 * down e ≤ m * up e = let k = le→cross all_whole (fin false m e) tt tt (is _ h) in omega arith in
+    let q : 16777216 ≤ m * up e / down e = (le-div_iff_mul-le (down_pos e)).1 c in
     omega arith

@@ -19,7 +19,7 @@ pub(crate) struct Reading<'a> {
 }
 
 // The first places: P in wrapped phase; one more in straight phase, at q = P.
-fn first_places(straight: bool, phases: usize) -> usize
+fn first_places(straight: bool, phases: u32) -> u32
     requires { phases ≤ R.most_phases }
     ensures { result ≡ (if straight then phases + 1 else phases) }
 {
@@ -28,7 +28,7 @@ fn first_places(straight: bool, phases: usize) -> usize
 
 // The first place at q. Its whole part is at most P, so that no division is needed to reduce it, and in straight phase it stays. How many there are is worked
 // out once for many outputs.
-fn first_place(straight: bool, q: f32, phases: usize) -> usize
+fn first_place(straight: bool, q: f32, phases: u32) -> u32
     requires { (1 ≤ phases) × (phases ≤ R.most_phases) × (le (from_bits binary32 0x4b80_0000) q ≡ false) × (to_unsigned 64 q ≤ phases) }
     ensures { result ≡ first_place straight phases q }
 {
@@ -78,11 +78,12 @@ impl<'a> Reading<'a> {
 
 impl Reading<'_> {
     // The sums over the delay's places, a tap for each, of the cells from p0 and from p1 on, P apart. By number: in straight phase a place may lie past its row of P
-    // cells, so that a zip with such rows would not do.
+    // cells, so that a zip with such rows would not do. The number has 32 bits and each sum a part that begins at its first cell: so a machine of 32 bits steps along
+    // both by their addresses.
     #[tactic(auto, unfolding(crate::specs::PolyphaseOutput::phase_sum, crate::specs::PolyphaseOutput::tap, crate::specs::PolyphaseResamp::Inside))]
     fn summed(self, delay: &[f32], p0: usize, p1: usize) -> (f32, f32)
         requires { let n = length delay.now in
-            (n ≤ R.most_taps) × R.Inside self.setting.phases n p0 × R.Inside self.setting.phases n p1 }
+            (n ≤ R.most_taps) × R.Inside self.setting.phases n p0 × R.Inside self.setting.phases n p1 × (p0 ≤ R.most_cells) × (p1 ≤ R.most_cells) }
         ensures { let r = self.entry in
             let h = r.prototype.now in
             let d = delay.now in
@@ -90,12 +91,16 @@ impl Reading<'_> {
             (result.0 ≡ phase_sum (tap h P p0) d (length d)) × (result.1 ≡ phase_sum (tap h P p1) d (length d)) }
     {
         let prototype = self.prototype;
+        let first = &prototype[p0..];
+        let second = &prototype[p1..];
         let phases = self.setting.phases;
         let mut y0 = 0.0f32;
         let mut y1 = 0.0f32;
-        for (t, &x) in delay.iter().enumerate() {
-            y0 += prototype[t * phases + p0] * x;
-            y1 += prototype[t * phases + p1] * x;
+        for i in 0..delay.len() as u32 {
+            let t = i as usize;
+            let x = delay[t];
+            y0 += first[t * phases] * x;
+            y1 += second[t * phases] * x;
         }
         (y0, y1)
     }
@@ -128,13 +133,14 @@ impl Reading<'_> {
         ensures { let r = self.entry in
             result ≡ output r.setting.straight r.setting.phases r.setting.taps mu delay.now r.prototype.now }
     {
-        let phases = self.setting.phases;
+        let phases = self.setting.phases as u32;
         let straight = self.setting.straight;
         let window = &delay[..self.setting.taps];
         let q = (1.0 - mu) * (phases as f32);
-        let p = first_place(straight, q, phases);
-        let f = q - (p as f32);
-        if p + 1 < phases {
+        let place = first_place(straight, q, phases);
+        let f = q - (place as f32);
+        let p = place as usize;
+        if place + 1 < phases {
             return blend_of(self.summed(window, p, p + 1), f);
         }
         if straight {

@@ -4,23 +4,23 @@ ghost use Rattle.refusal.specs.Outcome.{count_answer};
 ghost use Rattle.refusal.specs.Rows.{most_block};
 ghost use Rattle.float.specs.ResampleLinear as L;
 
-use crate::cast::f32_to_usize_saturating;
+use crate::cast::{f32_of, whole_up_to};
 use crate::settings::above_zero;
 use refusal::Refusal;
 use refusal::rows::samples_refused;
 
 // Output i.
-fn linear_at(src: &[f32], i: usize, ratio: f32) -> f32
+fn linear_at(src: &[f32], i: u32, ratio: f32) -> f32
     requires { (i ≤ most_block) × (1 ≤ length src.now) × (length src.now ≤ most_block) }
     ensures { result ≡ L.linear_at src.now ratio i }
 {
-    let position = (i as f32) * ratio;
-    let index = f32_to_usize_saturating(position);
+    let position = f32_of(i) * ratio;
     let last = src.len() - 1;
-    if last < index {
+    let Some(whole) = whole_up_to(last as u32, position) else {
         return src[last];
-    }
-    let fraction = position - (index as f32);
+    };
+    let index = whole as usize;
+    let fraction = position - f32_of(whole);
     let next = (index + 1).min(last);
     src[index] * (1.0 - fraction) + src[next] * fraction
 }
@@ -37,8 +37,9 @@ pub fn resample_linear_f32(src: &[f32], dst: &mut [f32], ratio: f32) -> Result<u
     if !above_zero(ratio) {
         return Err(Refusal::Ratio);
     }
-    for (i, place) in dst.iter_mut().enumerate() {
-        *place = linear_at(src, i, ratio);
+    // By a number of 32 bits, of which a machine with as many makes an f32 in one step.
+    for i in 0..dst.len() as u32 {
+        dst[i as usize] = linear_at(src, i, ratio);
     }
     Ok(dst.len())
 }

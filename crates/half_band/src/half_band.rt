@@ -6,7 +6,7 @@ ghost use Rattle.theory.specs.Sections.{onto, state, outs};
 ghost use Rattle.half_band.specs.HalfBand.{flat};
 ghost use Rattle.half_band.specs.Windows.{slid, folded, dec_value, int_value, pairs, decimator, interpolator};
 
-use crate::limits::DEC_DELAYS;
+use crate::limits::{DEC_DELAYS, INT_DELAYS};
 
 // Places for the longest window and for many samples more, or for six frames of the deepest cascade. That a span is no longer stands in the contracts of what goes along
 // it: a struct for the span would be what `Taps` speaks of.
@@ -29,16 +29,18 @@ pub(crate) struct Taps<'a> {
 }
 
 // From start, tap × (sum of two places as far from the window's two ends), tap 0 first. By number, as the definition goes: without it three iterators would be zipped, of
-// the taps and of the window in steps from either end.
+// the taps and of the window in steps from either end. It has 32 bits, so that a machine of 32 bits steps along the taps and the left half by their addresses.
 #[tactic(auto, unfolding(crate::specs::Windows::folded))]
 fn folded_sum(window: &[f32], taps: Taps, step: usize, start: f32) -> f32
     requires { (1 ≤ step) × (length window.now ≡ 2 * step * length taps.all.now) }
     ensures { result ≡ folded step taps.entry.all.now window.now start (length taps.entry.all.now) }
 {
+    let all = taps.all;
     let n = window.len();
     let mut acc = start;
-    for (t, tap) in taps.all.iter().enumerate() {
-        acc += gain(*tap, window[step * t], window[n - step - step * t]);
+    for i in 0..all.len() as u32 {
+        let t = i as usize;
+        acc += gain(all[t], window[step * t], window[n - step - step * t]);
     }
     acc
 }
@@ -53,14 +55,18 @@ fn dec_at(window: &[f32], taps: Taps) -> f32
     0.5 * folded_sum(window, taps, 2, centre)
 }
 
-// The decimator takes a pair in, and gives its output.
-#[tactic(auto, using(crate::proofs::Moving::pair_put))]
+// The decimator takes a pair in, and gives its output. The window moves by two places a turn: of a loop by one the compiler makes a call of the C library's `memmove`, which
+// newlib does by bytes, 16 instructions a place on a Cortex-M4F for some 2.
 pub(crate) fn take_pair(window: &mut [f32], taps: Taps, a: f32, b: f32) -> f32
     requires { length window.old ≡ 4 * length taps.all.now }
     ensures { (window.new ≡ slid window.old (a ∷ b ∷ [])) × (result ≡ dec_value taps.entry.all.now (slid window.old (a ∷ b ∷ []))) }
 {
     let n = window.len();
-    window.copy_within(2.., 0);
+    for i in 0..2 * taps.all.len() as u32 - 1 {
+        let at = 2 * i as usize;
+        window[at] = window[at + 2];
+        window[at + 1] = window[at + 3];
+    }
     window[n - 2] = a;
     window[n - 1] = b;
     dec_at(window, taps)
@@ -185,26 +191,34 @@ fn both_at(window: &[f32], taps: Taps) -> (f32, f32)
     (even, odd)
 }
 
-// The interpolator takes a sample in, and gives its outputs.
-#[tactic(auto, using(crate::proofs::Moving::sample_put))]
+// The interpolator takes a sample in, and gives its outputs. The window moves by two places a turn as above, and the last of an odd number behind the loop.
 pub(crate) fn take_sample(window: &mut [f32], taps: Taps, x: f32) -> (f32, f32)
     requires { length window.old ≡ 2 * length taps.all.now }
     ensures { (window.new ≡ slid window.old (x ∷ [])) × (result ≡ int_value taps.entry.all.now (slid window.old (x ∷ []))) }
 {
     let n = window.len();
-    window.copy_within(1.., 0);
+    for i in 0..taps.all.len() as u32 - 1 {
+        let at = 2 * i as usize;
+        window[at] = window[at + 1];
+        window[at + 1] = window[at + 2];
+    }
+    window[n - 2] = window[n - 1];
     window[n - 1] = x;
     both_at(window, taps)
 }
 
+// Places for an interpolator's longest window and for many samples more; all are set to zero in each call, so twice as many cost short blocks more than a window that
+// moves to the front half as often saves long ones.
+const SLIDE: usize = 2 * INT_DELAYS;
+
 // The window from `at` on takes a sample in; what it returns is where the window is now.
 #[tactic(auto, using(crate::proofs::Sliding::slid_on, crate::proofs::Sliding::slid_round))]
-fn put_on(tape: &mut [f32; TAPE], at: usize, long: usize, x: f32) -> usize
-    requires { (1 ≤ long) × (long ≤ 46) × (at + long ≤ 192) }
-    ensures { (result + long ≤ 192) × (take long (drop result tape.new) ≡ slid (take long (drop at tape.old)) (x ∷ [])) }
+fn put_on(tape: &mut [f32; SLIDE], at: usize, long: usize, x: f32) -> usize
+    requires { (1 ≤ long) × (long ≤ 46) × (at + long ≤ 96) }
+    ensures { (result + long ≤ 96) × (take long (drop result tape.new) ≡ slid (take long (drop at tape.old)) (x ∷ [])) }
 {
     let end = at + long;
-    if end < TAPE {
+    if end < SLIDE {
         tape[end] = x;
         return at + 1;
     }
@@ -222,7 +236,7 @@ pub(crate) fn expand(window: &mut [f32], taps: Taps, span: &mut [f32])
 {
     let n = span.len() / 2;
     let long = window.len();
-    let mut tape = [0.0; TAPE];
+    let mut tape = [0.0; SLIDE];
     tape[..long].copy_from_slice(window);
     let mut at = 0;
     // By the number: sample and outputs are places of the same span.

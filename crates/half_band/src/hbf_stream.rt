@@ -39,6 +39,7 @@ fn stage_pair<T: StageTable>(
 
 // A sample into the first `depth` stages, or all five: held at a stage, or made into an output by all. A leaf for the line, which has looked at the numbers and
 // lends the arrays, so that nothing is copied: it refuses nothing.
+#[inline(always)]
 pub fn hbf_stream_at(
     depth: usize,
     delays: &mut [f32; DEC_CASCADE_DELAYS],
@@ -51,7 +52,8 @@ pub fn hbf_stream_at(
 {
     let mut v = x;
     // By the number: the count, the held sample, the window and the taps of a stage go by it.
-    for k in 0..depth.min(MOST_DEPTH) {
+    for i in 0..depth.min(MOST_DEPTH) as u32 {
+        let k = i as usize;
         if counts[k] == 0 {
             held[k] = v;
             counts[k] = 1;

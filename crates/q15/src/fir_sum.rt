@@ -20,17 +20,17 @@ pub(crate) fn fir_sum(s: &[i16], c: &[i16]) -> i64
     -i64::from(negated)
 }
 
-// The sum over t of floor(s[t] × c[t × l + p] / 32768), for the samples s: the taps of phase p of l. Their index starts at the phase and grows
+// The sum over t of floor(s[t] × c[t × l + p] / 32768), for the samples s: the taps of phase p of l. Negated as above. Their index starts at the phase and grows
 // by the factor, as 02 asks (request 3), so that no product by the factor is in the loop.
 pub(crate) fn phase_sum(s: &[i16], c: &[i16], p: usize, l: usize) -> i64
     requires { (p < l) × (length s.now * l ≤ length c.now) × (length s.now ≤ most_block) }
     ensures { (result ≡ fir_sum (λ t. t * l + p) c.now (length s.now) s.now 0) × (up result ≤ 2 ^ 31 + dn result) × (dn result ≤ 2 ^ 31 + up result) }
 {
-    let mut sum: i64 = 0;
+    let mut negated: i32 = 0;
     let mut k = p;
-    for x in s {
-        sum += i64::from(floored_product(*x, c[k]));
+    for i in 0..s.len() as u32 {
+        negated -= floored_product(s[i as usize], c[k]);
         k += l;
     }
-    sum
+    -i64::from(negated)
 }

@@ -1,13 +1,9 @@
 -- `linear_at` meets its contract: past the end the last sample, else the two samples and their fraction (`beyond`, `inside`).
-use Rattle.std.proofs.Common.{arith}
-use Rattle.float.specs.ResampleLinear.{position, index_of}
 use Rattle.float.proofs.ResampleLinear.{beyond, inside}
 use Rattle.float.proofs.resample_linear.linear_at.Goals as goal
 
-pub returns-then-last-index : goal.returns-then-last-index
-unfolding position index_of
-returns-then-last-index c = beyond _ _ _ _ c.f32_to_usize_saturating-index.ensures (omega (arith, c.if-last-index.true))
+pub returns-in_default : goal.returns-in_default
+returns-in_default c = let a = c.args in beyond a.src.now a.ratio a.i _ c.f32_of.ensures c.in_default.ensures
 
 pub returns : goal.returns
-unfolding position index_of
-returns c = inside _ _ _ _ _ c.f32_to_usize_saturating-index.ensures (omega (arith, c.if-last-index.false, c.requires.1)) c.min-next.ensures
+returns c = let a = c.args in inside a.src.now a.ratio a.i _ _ _ _ c.requires.1 c.f32_of.ensures c.in-Some.ensures c.f32_of-2.ensures c.min-next.ensures

@@ -7,6 +7,6 @@ use Rattle.half_band.proofs.half_band.expand.Given as goal
 abbrev pub invariant-loop-i : goal.invariant-loop-i
 invariant-loop-i l =
     record {
-      on_tape : l.at + l.long ≤ 192;
+      on_tape : l.at + l.long ≤ 96;
       so_far : Expanded (interpolator l.taps.all.now) l.window l.initial.span l.n (take l.long (drop l.at l.tape)) l.span l.i;
     }

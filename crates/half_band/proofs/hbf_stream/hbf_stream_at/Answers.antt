@@ -8,32 +8,32 @@ use Rattle.half_band.proofs.hbf_stream.hbf_stream_at.Goals as goal
 pub returns-then-counts-k-eq0-clause-out : goal.returns-then-counts-k-eq0-clause-out
 unfolding hbf_stream stream
 returns-then-counts-k-eq0-clause-out c =
-    let l = c.loop-k in
+    let l = c.loop-i in
     ap (λ (p : Passed). p.out)
-    (sym (kept (stage_taps decimation) c.min-k-end.result l.k l.v (stream_of c.args.depth l.delays l.held l.counts) c.loop-k-test.true c.if-counts-k-eq0.true) ∙ l.invariant)
+    (sym (kept (stage_taps decimation) c.min-i-end.result l.i l.v (stream_of c.args.depth l.delays l.held l.counts) c.loop-i-test.true c.if-counts-k-eq0.true) ∙ l.invariant)
 
 pub returns-then-counts-k-eq0-clause-next : goal.returns-then-counts-k-eq0-clause-next
 unfolding hbf_stream stream
 returns-then-counts-k-eq0-clause-next c =
-    let l = c.loop-k in
+    let l = c.loop-i in
     ap (λ (p : Passed). p.state)
-    (sym (kept (stage_taps decimation) c.min-k-end.result l.k l.v (stream_of c.args.depth l.delays l.held l.counts) c.loop-k-test.true c.if-counts-k-eq0.true) ∙ l.invariant)
+    (sym (kept (stage_taps decimation) c.min-i-end.result l.i l.v (stream_of c.args.depth l.delays l.held l.counts) c.loop-i-test.true c.if-counts-k-eq0.true) ∙ l.invariant)
 
-pub loop-k-preserved : goal.loop-k-preserved
-loop-k-preserved c =
-    let l = c.loop-k in
+pub loop-i-preserved : goal.loop-i-preserved
+loop-i-preserved c =
+    let l = c.loop-i in
     let o = c.stage_pair-v in
-    sym (paired (stage_taps decimation) c.min-k-end.result l.k l.v (stream_of c.args.depth l.delays l.held l.counts) c.loop-k-test.true c.if-counts-k-eq0.false o.result o.new.delays o.ensures.1 o.ensures.0)
+    sym (paired (stage_taps decimation) c.min-i-end.result l.i l.v (stream_of c.args.depth l.delays l.held l.counts) c.loop-i-test.true c.if-counts-k-eq0.false o.result o.new.delays o.ensures.1 o.ensures.0)
     ∙ l.invariant
 
 pub returns-clause-out : goal.returns-clause-out
 unfolding hbf_stream stream
 returns-clause-out c =
-    let l = c.loop-k in
-    ap (λ (p : Passed). p.out) (sym (ended (stage_taps decimation) c.min-k-end.result l.k l.v (stream_of c.args.depth l.delays l.held l.counts) c.loop-k-test.false) ∙ l.invariant)
+    let l = c.loop-i in
+    ap (λ (p : Passed). p.out) (sym (ended (stage_taps decimation) c.min-i-end.result l.i l.v (stream_of c.args.depth l.delays l.held l.counts) c.loop-i-test.false) ∙ l.invariant)
 
 pub returns-clause-next : goal.returns-clause-next
 unfolding hbf_stream stream
 returns-clause-next c =
-    let l = c.loop-k in
-    ap (λ (p : Passed). p.state) (sym (ended (stage_taps decimation) c.min-k-end.result l.k l.v (stream_of c.args.depth l.delays l.held l.counts) c.loop-k-test.false) ∙ l.invariant)
+    let l = c.loop-i in
+    ap (λ (p : Passed). p.state) (sym (ended (stage_taps decimation) c.min-i-end.result l.i l.v (stream_of c.args.depth l.delays l.held l.counts) c.loop-i-test.false) ∙ l.invariant)

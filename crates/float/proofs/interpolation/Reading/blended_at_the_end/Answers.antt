@@ -10,7 +10,8 @@ summed-y0-requires c =
     let few = r.taps_inside in
     let front : length (take (r.setting.taps - 1) c.args.delay.now) ≡ r.setting.taps - 1 = length-take-le _ _ (omega (arith, c.requires.0)) in
     let all : length (take (r.setting.taps - 1) c.args.delay.now) + 1 ≤ r.setting.taps = omega (arith, few, front) in
-    (omega (arith, few, front), near_inside _ _ _ _ l all (omega (arith, c.requires.1)), near_inside _ _ _ _ l all (omega (arith, c.requires.1)))
+    let most = r.phases_inside.1 in
+    (omega (arith, few, front), near_inside _ _ _ _ l all (omega (arith, c.requires.1)), near_inside _ _ _ _ l all (omega (arith, c.requires.1)), omega (arith, c.requires.1, most), omega (arith, c.requires.1, most))
 
 pub returns : goal.returns
 returns c =
