@@ -139,7 +139,49 @@ fn integrate_all(
     *sample_counter += samples.len();
 }
 
-// Steps until stopped: by batches as long as one is worth it, and the rest sample by sample. A short feed that only integrates stands apart: it costs little else.
+// Steps until stopped: by batches as long as one is worth it, and the rest sample by sample. The clock and the references are put into places of their own: so a
+// feed that only integrates, beside which this one is inlined, keeps its clock in registers and puts no array's reference into memory.
+fn feed_through(
+    own: Checked,
+    clock: &mut Clock,
+    lent: &mut Arrays<'_>,
+    samples: &[i32],
+    out: &mut [f32],
+) -> Moved
+    requires { L.valid (T.line_held own.fixed clock.old lent.old) ≡ true }
+    ensures same { Same lent.old lent.new }
+    ensures ran { let before = T.line_held own.fixed clock.old lent.old in
+        T.RanTo before samples.now out.old out.new result.taken result.written (T.line_held own.fixed clock.new lent.new) }
+{
+    let mut time = *clock;
+    let mut arrays = Arrays {
+        integrators: &mut *lent.integrators,
+        combs: &mut *lent.combs,
+        neighbours: &mut *lent.neighbours,
+        taps: lent.taps,
+        fir_delay: &mut *lent.fir_delay,
+        delays: &mut *lent.delays,
+        held: &mut *lent.held,
+        counts: &mut *lent.counts,
+        delay: &mut *lent.delay,
+        prototype: lent.prototype,
+    };
+    let begun = feed_batches(own, &mut time, &mut arrays, samples, out);
+    let rest = feed_singly(
+        own,
+        &mut time,
+        &mut arrays,
+        &samples[begun.taken..],
+        &mut out[begun.written..],
+    );
+    *clock = time;
+    Moved {
+        taken: begun.taken + rest.taken,
+        written: begun.written + rest.written,
+    }
+}
+
+// Steps until stopped. A short feed that only integrates stands apart: it costs little else.
 pub(crate) fn feed_by(
     own: Checked,
     clock: &mut Clock,
@@ -160,16 +202,5 @@ pub(crate) fn feed_by(
             written: 0,
         };
     }
-    let begun = feed_batches(own, clock, lent, samples, out);
-    let rest = feed_singly(
-        own,
-        clock,
-        lent,
-        &samples[begun.taken..],
-        &mut out[begun.written..],
-    );
-    Moved {
-        taken: begun.taken + rest.taken,
-        written: begun.written + rest.written,
-    }
+    feed_through(own, clock, lent, samples, out)
 }
