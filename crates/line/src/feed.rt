@@ -16,7 +16,7 @@ use chain::arrays::Arrays;
 use chain::clock::Clock;
 use chain::fixed::Fixed;
 use integer::limits::MOST_STAGES;
-use integer::stages::run;
+use integer::stages::{integrate, run};
 use nonrecursive::Thinning;
 use refusal::Moved;
 
@@ -124,7 +124,7 @@ fn only_integrates(f: Fixed, clock: Clock, count: usize, places: usize) -> bool
         && count < f.settings.r - clock.sample_counter
 }
 
-// All samples go through the integrators, and complete no sum.
+// All samples go through the integrators, and complete no sum. One by itself, since `run` makes a road for many ready.
 fn integrate_all(
     f: Fixed,
     sample_counter: &mut usize,
@@ -135,6 +135,11 @@ fn integrate_all(
     ensures counter { sample_counter.new ≡ sample_counter.old + length samples.now }
     ensures made { integrators.new ≡ (ran f.settings.stages integrators.old (pos 0) samples.now).state }
 {
+    if samples.len() == 1 {
+        integrate(f.settings.stages, integrators, samples[0]);
+        *sample_counter += 1;
+        return;
+    }
     run(f.settings.stages, integrators, samples);
     *sample_counter += samples.len();
 }
