@@ -64,6 +64,22 @@ rested f c lent xs out counter sums good only moved made =
     let here : ltb 0 (length out) ≡ true = lt-ltb 0 (length out) only.1 in
     rw (zero-add (length xs)) at (stops sped _ (step_ended line (with_sums l sums counter) (ltb 0 (length out)) xs (0 + length xs) here still (omega arith)) refl)
 
+-- a feed takes its one sample where a place is left and nothing is due
+module _ (f : Fixed) (c : Clock) (lent : Arrays) (xs : List ℤ) (out : List Float) (good : valid (line_held f c lent) ≡ true)
+    (one : (length xs ≡ 1) × (0 < length out) × (due_at f c.mu ≡ false)) {o : Option Float} {k : Line} (takes : Takes line (line_held f c lent) (get_or xs 0 (pos 0)) o k) where
+  abbrev whole : Line
+  whole = line_held f c lent
+
+  alone : record { event = taking o; line = k } ≡ step line (ltb 0 (length out)) whole (head_of (drop 0 xs))
+  unfolding in_line is_on due_at
+  alone = step_took line whole (ltb 0 (length out)) xs 0 (lt-ltb 0 (length out) one.1) (pos 0) o k one.2 (omega arith) takes.0 takes.1
+
+  pub alone_took : o ≡ None → Midway line 64 Good line_lawful whole xs out out k 1 0
+  alone_took v = (after_took line 64 Good line_lawful whole xs out out whole 0 0 (start line 64 Good line_lawful whole xs out good) _ alone (ap taking v)).1
+
+  pub alone_both : {y : Float} → o ≡ Some y → Midway line 64 Good line_lawful whole xs out (set out 0 y) k 1 1
+  alone_both {y} v = (after_both line 64 Good line_lawful whole xs out out whole 0 0 (start line 64 Good line_lawful whole xs out good) _ alone y (ap taking v)).2
+
 module _ {l₀ : Line} {xs : List ℤ} {out₀ out : List Float} {l : Line} {t w : ℕ} (mid : Midway line 64 Good line_lawful l₀ xs out₀ out l t w)
     {q : Setting} (setting : q ≡ setting_of l.resampler) {e : Emitted} (due : e ≡ emitted_from q.straight q.phases q.taps q.step l.resampler.delay l.resampler.prototype l.resampler.mu w out) where
   abbrev quiet : Drained l₀ xs out₀ l t e
@@ -75,6 +91,14 @@ module _ {l₀ : Line} {xs : List ℤ} {out₀ out : List Float} {l : Line} {t w
   -- a full span
   pub full : length e.span ≤ e.written → RanTo l₀ xs out₀ e.span t e.written (with_mu l e.mu)
   full h = stops quiet.mid _ (step_full line (with_mu l e.mu) place xs t (le-ltb e.written (length e.span) h)) refl
+
+  -- no sample is left
+  pub drained : length xs ≤ t → RanTo l₀ xs out₀ e.span t e.written (with_mu l e.mu)
+  drained h = go place refl
+    where
+      go : (b : Bool) → place ≡ b → RanTo l₀ xs out₀ e.span t e.written (with_mu l e.mu)
+      go false p = stops quiet.mid _ (step_full line (with_mu l e.mu) place xs t p) refl
+      go true p = stops quiet.mid _ (step_ended line (with_mu l e.mu) place xs t p (quiet.quiet p) h) refl
 
   -- a place is left
   module _ (room : e.written < length e.span) {b : Bool} (kind : kind_of b ≡ l.thinning) {m counter : ℕ} {sums : List ℤ} (only : 0 < m → b ≡ false)

@@ -8,6 +8,7 @@ ghost use Rattle.chain.specs.Lending.{Same};
 ghost use Rattle.line.specs.Line as L;
 ghost use Rattle.line.specs.Together as T;
 
+use crate::alone::{feed_one, takes_one};
 use crate::batches::feed_batches;
 use crate::sample::sample_in;
 use crate::step::due;
@@ -144,9 +145,39 @@ fn integrate_all(
     *sample_counter += samples.len();
 }
 
-// Steps until stopped: by batches as long as one is worth it, and the rest sample by sample. The clock and the references are put into places of their own: so a
-// feed that only integrates, beside which this one is inlined, keeps its clock in registers and puts no array's reference into memory.
+// Steps until stopped: one sample alone, or by batches as long as one is worth it, and the rest sample by sample.
 fn feed_through(
+    own: Checked,
+    clock: &mut Clock,
+    lent: &mut Arrays<'_>,
+    samples: &[i32],
+    out: &mut [f32],
+) -> Moved
+    requires { L.valid (T.line_held own.fixed clock.old lent.old) ≡ true }
+    ensures same { Same lent.old lent.new }
+    ensures ran { let before = T.line_held own.fixed clock.old lent.old in
+        T.RanTo before samples.now out.old out.new result.taken result.written (T.line_held own.fixed clock.new lent.new) }
+{
+    if takes_one(own.fixed, clock.mu, samples.len(), out.len()) {
+        return feed_one(own, clock, lent, samples, out);
+    }
+    let begun = feed_batches(own, clock, lent, samples, out);
+    let rest = feed_singly(
+        own,
+        clock,
+        lent,
+        &samples[begun.taken..],
+        &mut out[begun.written..],
+    );
+    Moved {
+        taken: begun.taken + rest.taken,
+        written: begun.written + rest.written,
+    }
+}
+
+// The same, the clock and the references put into places of their own: so a feed that only integrates, beside which this one is inlined, keeps its clock in registers
+// and puts no array's reference into memory.
+fn feed_apart(
     own: Checked,
     clock: &mut Clock,
     lent: &mut Arrays<'_>,
@@ -171,19 +202,9 @@ fn feed_through(
         delay: &mut *lent.delay,
         prototype: lent.prototype,
     };
-    let begun = feed_batches(own, &mut time, &mut arrays, samples, out);
-    let rest = feed_singly(
-        own,
-        &mut time,
-        &mut arrays,
-        &samples[begun.taken..],
-        &mut out[begun.written..],
-    );
+    let moved = feed_through(own, &mut time, &mut arrays, samples, out);
     *clock = time;
-    Moved {
-        taken: begun.taken + rest.taken,
-        written: begun.written + rest.written,
-    }
+    moved
 }
 
 // Steps until stopped. A short feed that only integrates stands apart: it costs little else.
@@ -207,5 +228,5 @@ pub(crate) fn feed_by(
             written: 0,
         };
     }
-    feed_through(own, clock, lent, samples, out)
+    feed_apart(own, clock, lent, samples, out)
 }

@@ -1,0 +1,81 @@
+// 01, section 6: "A feed steps until stopped", of one sample alone where no output is due: it is taken, and the outputs that are due then are written. Apart from the
+// loops of other feeds, which make ready for many turns what a turn wants.
+ghost use Rattle.std.specs.Prelude.{◌≡◌, true, false, [], ◌<◌, length};
+ghost use Rattle.chain.specs.Lending.{Same};
+ghost use Rattle.line.specs.Line as L;
+ghost use Rattle.line.specs.Together as T;
+
+use crate::sample::sample_in;
+use crate::step::{due, sums_neighbours};
+use crate::validity::Checked;
+use chain::arrays::Arrays;
+use chain::clock::Clock;
+use chain::fixed::Fixed;
+use refusal::Moved;
+
+// Whether a feed takes one sample and no output is due before: a place is left.
+pub(crate) fn takes_one(f: Fixed, mu: f32, count: usize, places: usize) -> bool
+    ensures { result ≡ true → (count ≡ 1) × (0 < places) × (T.due_at f mu ≡ false) }
+{
+    count == 1 && 0 < places && !due(f, mu)
+}
+
+// The sample is taken, and what it makes stands in front of the span: the answer is how many places that are.
+fn take_one(
+    own: Checked,
+    clock: &mut Clock,
+    lent: &mut Arrays<'_>,
+    samples: &[i32],
+    out: &mut [f32],
+) -> usize
+    requires fine { L.valid (T.line_held own.fixed clock.old lent.old) ≡ true }
+    requires one { (length samples.now ≡ 1) × (0 < length out.old) × (T.due_at own.fixed clock.old.mu ≡ false) }
+    ensures same { Same lent.old lent.new }
+    ensures begun { let before = T.line_held own.fixed clock.old lent.old in
+        T.Begun before samples.now out.old out.new 1 result (T.line_held own.fixed clock.new lent.new) }
+{
+    let by_neighbours = sums_neighbours(own.fixed.settings.thinning);
+    let made = sample_in(by_neighbours, own, clock, lent, samples[0]);
+    match made {
+        None => 0,
+        Some(y) => {
+            out[0] = y;
+            1
+        }
+    }
+}
+
+// The outputs that are due where no sample is left: the answer is how many places they take.
+fn write_rest(own: Checked, clock: &mut Clock, lent: &mut Arrays<'_>, out: &mut [f32]) -> usize
+    requires { L.valid (T.line_held own.fixed clock.old lent.old) ≡ true }
+    ensures same { Same lent.old lent.new }
+    ensures ran { let before = T.line_held own.fixed clock.old lent.old in
+        T.RanTo before [] out.old out.new 0 result (T.line_held own.fixed clock.new lent.new) }
+{
+    let setting = own.fixed.settings.resampler();
+    let due = setting.write_due(lent.prototype, lent.delay, clock.mu, out, 0);
+    clock.mu = due.mu;
+    due.written
+}
+
+// Takes the sample, and steps until stopped.
+pub(crate) fn feed_one(
+    own: Checked,
+    clock: &mut Clock,
+    lent: &mut Arrays<'_>,
+    samples: &[i32],
+    out: &mut [f32],
+) -> Moved
+    requires fine { L.valid (T.line_held own.fixed clock.old lent.old) ≡ true }
+    requires one { (length samples.now ≡ 1) × (0 < length out.old) × (T.due_at own.fixed clock.old.mu ≡ false) }
+    ensures same { Same lent.old lent.new }
+    ensures ran { let before = T.line_held own.fixed clock.old lent.old in
+        T.RanTo before samples.now out.old out.new result.taken result.written (T.line_held own.fixed clock.new lent.new) }
+{
+    let begun = take_one(own, clock, lent, samples, out);
+    let rest = write_rest(own, clock, lent, &mut out[begun..]);
+    Moved {
+        taken: 1,
+        written: begun + rest,
+    }
+}
