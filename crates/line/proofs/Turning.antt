@@ -17,7 +17,13 @@ use Rattle.theory.specs.Feeds as F
 use Rattle.theory.proofs.FeedLoop.{Midway, start, after_took, after_both, after_stopped}
 use Rattle.theory.proofs.Steps.{step_full, step_ended, step_took}
 use Rattle.integer.specs.Stages.{ran}
-use Rattle.nonrecursive.specs.EitherKind.{kind_of}
+use Rattle.nonrecursive.specs.EitherKind.{kind_of, next_by, out_by}
+use Rattle.nonrecursive.proofs.EitherKind.{either_answers}
+use Rattle.chain.specs.Chain.{from2}
+use Rattle.line.specs.Line.{thinner_of, parts_of}
+use Rattle.line.proofs.Lawful.{to_parts}
+use Rattle.line.proofs.Taking.{line_waits}
+use Rattle.std.specs.Prelude.{cond}
 use Rattle.float.specs.PolyphaseResamp.{Emitted, emitted_from, setting_of, in_line, is_on}
 use Rattle.float.specs.declared.settings.Setting.{Setting}
 use Rattle.chain.specs.declared.arrays.Arrays.{Arrays}
@@ -79,6 +85,22 @@ module _ (f : Fixed) (c : Clock) (lent : Arrays) (xs : List ℤ) (out : List Flo
 
   pub alone_both : {y : Float} → o ≡ Some y → Midway line 64 Good line_lawful whole xs out (set out 0 y) k 1 1
   alone_both {y} v = (after_both line 64 Good line_lawful whole xs out out whole 0 0 (start line 64 Good line_lawful whole xs out good) _ alone y (ap taking v)).2
+
+-- a feed's one sample completes no sum: nothing else moves
+pub waited :
+    (f : Fixed) (c : Clock) (lent : Arrays) (xs : List ℤ) (out : List Float) → valid (line_held f c lent) ≡ true
+    → (length xs ≡ 1) × (0 < length out) × (due_at f c.mu ≡ false) → c.sample_counter + 1 < f.settings.r → {k : Line}
+    → thinner_of k ≡ next_by f.settings.thinning (thinner_of (line_held f c lent)) (get_or xs 0 (pos 0)) → (parts_of k).1 ≡ (parts_of (line_held f c lent)).1 → k.cuts ≡ c.cuts
+    → RanTo (line_held f c lent) xs out out 1 0 k
+unfolding in_line is_on due_at
+waited f c lent xs out good one few {k} moved rest cuts =
+    let l = line_held f c lent in
+    let x = get_or xs 0 (pos 0) in
+    let y = either_answers (thinner_of l) x (to_parts l good).0 in
+    let none : None ≡ out_by f.settings.thinning (thinner_of l) x = sym (y.1 ∙ ap (λ (b : Bool). cond b None (Some y.0)) (lt-ltb (c.sample_counter + 1) f.settings.r few)) in
+    let still : line.due k ≡ false = ap from2.due rest ∙ one.2 in
+    stops (alone_took f c lent xs out good one (line_waits l k x moved none rest cuts) refl) _
+    (step_ended line k (ltb 0 (length out)) xs 1 (lt-ltb 0 (length out) one.1) still (omega arith)) refl
 
 module _ {l₀ : Line} {xs : List ℤ} {out₀ out : List Float} {l : Line} {t w : ℕ} (mid : Midway line 64 Good line_lawful l₀ xs out₀ out l t w)
     {q : Setting} (setting : q ≡ setting_of l.resampler) {e : Emitted} (due : e ≡ emitted_from q.straight q.phases q.taps q.step l.resampler.delay l.resampler.prototype l.resampler.mu w out) where

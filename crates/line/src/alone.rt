@@ -1,6 +1,7 @@
 // 01, section 6: "A feed steps until stopped", of one sample alone where no output is due: it is taken, and the outputs that are due then are written. Apart from the
 // loops of other feeds, which make ready for many turns what a turn wants.
-ghost use Rattle.std.specs.Prelude.{◌≡◌, true, false, [], ◌<◌, length};
+ghost use Rattle.std.specs.Prelude.{◌≡◌, true, false, [], ◌+◌, ◌<◌, length};
+ghost use Rattle.nonrecursive.specs.declared.thinning.Thinning.TheVariants as thinning;
 ghost use Rattle.chain.specs.Lending.{Same};
 ghost use Rattle.line.specs.Line as L;
 ghost use Rattle.line.specs.Together as T;
@@ -11,6 +12,7 @@ use crate::validity::Checked;
 use chain::arrays::Arrays;
 use chain::clock::Clock;
 use chain::fixed::Fixed;
+use nonrecursive::Thinning;
 use refusal::Moved;
 
 // Whether a feed takes one sample and no output is due before: a place is left.
@@ -18,6 +20,16 @@ pub(crate) fn takes_one(f: Fixed, mu: f32, count: usize, places: usize) -> bool
     ensures { result ≡ true → (count ≡ 1) × (0 < places) × (T.due_at f mu ≡ false) }
 {
     count == 1 && 0 < places && !due(f, mu)
+}
+
+// Whether it is of neighbours, and the sample completes no sum.
+pub(crate) fn waits_one(f: Fixed, clock: Clock, count: usize, places: usize) -> bool
+    ensures { result ≡ true → (f.settings.thinning ≡ thinning.Neighbours) × ((count ≡ 1) × (0 < places) × (T.due_at f clock.mu ≡ false)) × (clock.sample_counter + 1 < f.settings.r) }
+{
+    f.settings.thinning == Thinning::Neighbours
+        && takes_one(f, clock.mu, count, places)
+        && clock.sample_counter < f.settings.r
+        && 1 < f.settings.r - clock.sample_counter
 }
 
 // The sample is taken, and what it makes stands in front of the span: the answer is how many places that are.

@@ -8,10 +8,10 @@ ghost use Rattle.chain.specs.Lending.{Same};
 ghost use Rattle.line.specs.Line as L;
 ghost use Rattle.line.specs.Together as T;
 
-use crate::alone::{feed_one, takes_one};
+use crate::alone::{feed_one, takes_one, waits_one};
 use crate::batches::feed_batches;
 use crate::sample::sample_in;
-use crate::step::due;
+use crate::step::{due, sums_neighbours};
 use crate::validity::Checked;
 use chain::arrays::Arrays;
 use chain::clock::Clock;
@@ -19,6 +19,7 @@ use chain::fixed::Fixed;
 use integer::limits::MOST_STAGES;
 use integer::stages::{integrate, run};
 use nonrecursive::Thinning;
+use nonrecursive::thinning::thin_at;
 use refusal::Moved;
 
 // The samples that complete no sum go through the integrators. Every sample changes neighbours, so of a line that sums these none are taken at once.
@@ -207,7 +208,7 @@ fn feed_apart(
     moved
 }
 
-// Steps until stopped. A short feed that only integrates stands apart: it costs little else.
+// Steps until stopped. A feed that only integrates, and one of a sample that neighbours only keep, stand apart: they cost little else.
 pub(crate) fn feed_by(
     own: Checked,
     clock: &mut Clock,
@@ -225,6 +226,22 @@ pub(crate) fn feed_by(
         integrate_all(f, &mut clock.sample_counter, lent.integrators, samples);
         return Moved {
             taken: samples.len(),
+            written: 0,
+        };
+    }
+    if waits_one(f, *clock, samples.len(), out.len()) {
+        thin_at(
+            sums_neighbours(f.settings.thinning),
+            f.settings.stages,
+            f.settings.r,
+            &mut clock.sample_counter,
+            lent.integrators,
+            lent.combs,
+            lent.neighbours,
+            samples[0],
+        );
+        return Moved {
+            taken: 1,
             written: 0,
         };
     }
