@@ -1,6 +1,7 @@
 // 01, section 6: "A feed steps until stopped", of one sample alone where no output is due: it is taken, and the outputs that are due then are written. Apart from the
 // loops of other feeds, which make ready for many turns what a turn wants.
 ghost use Rattle.std.specs.Prelude.{◌≡◌, true, false, [], ◌+◌, ◌<◌, length};
+ghost use Rattle.nonrecursive.specs.EitherKind as E;
 ghost use Rattle.nonrecursive.specs.declared.thinning.Thinning.TheVariants as thinning;
 ghost use Rattle.chain.specs.Lending.{Same};
 ghost use Rattle.line.specs.Line as L;
@@ -12,7 +13,10 @@ use crate::validity::Checked;
 use chain::arrays::Arrays;
 use chain::clock::Clock;
 use chain::fixed::Fixed;
+use integer::limits::MOST_STAGES;
 use nonrecursive::Thinning;
+use nonrecursive::nonrecursive_decimator::MOST_NEIGHBOURS;
+use nonrecursive::thinning::thin_at;
 use refusal::Moved;
 
 // Whether a feed takes one sample and no output is due before: a place is left.
@@ -30,6 +34,36 @@ pub(crate) fn waits_one(f: Fixed, clock: Clock, count: usize, places: usize) -> 
         && takes_one(f, clock.mu, count, places)
         && clock.sample_counter < f.settings.r
         && 1 < f.settings.r - clock.sample_counter
+}
+
+// A sample into section 1, whose counter comes back. A call of its own and no counter lent: so the roads beside it hold what they want in registers.
+#[inline(never)]
+pub(crate) fn thin_apart(
+    by_neighbours: bool,
+    stages: usize,
+    r: usize,
+    sample_counter: usize,
+    integrators: &mut [i32; MOST_STAGES],
+    combs: &mut [i32; MOST_STAGES],
+    neighbours: &mut [i32; MOST_NEIGHBOURS],
+    input: i32,
+) -> usize
+    ensures { let kind = E.kind_of by_neighbours in
+        let before = E.thinner_of kind stages r integrators.old combs.old neighbours.old sample_counter in
+        E.thinner_of kind stages r integrators.new combs.new neighbours.new result ≡ E.next_by kind before input }
+{
+    let mut counter = sample_counter;
+    thin_at(
+        by_neighbours,
+        stages,
+        r,
+        &mut counter,
+        integrators,
+        combs,
+        neighbours,
+        input,
+    );
+    counter
 }
 
 // The sample is taken, and what it makes stands in front of the span: the answer is how many places that are.

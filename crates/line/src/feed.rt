@@ -8,7 +8,7 @@ ghost use Rattle.chain.specs.Lending.{Same};
 ghost use Rattle.line.specs.Line as L;
 ghost use Rattle.line.specs.Together as T;
 
-use crate::alone::{feed_one, takes_one, waits_one};
+use crate::alone::{feed_one, takes_one, thin_apart, waits_one};
 use crate::batches::feed_batches;
 use crate::sample::sample_in;
 use crate::step::{due, sums_neighbours};
@@ -19,7 +19,6 @@ use chain::fixed::Fixed;
 use integer::limits::MOST_STAGES;
 use integer::stages::{integrate, run};
 use nonrecursive::Thinning;
-use nonrecursive::thinning::thin_at;
 use refusal::Moved;
 
 // The samples that complete no sum go through the integrators. Every sample changes neighbours, so of a line that sums these none are taken at once.
@@ -230,11 +229,11 @@ pub(crate) fn feed_by(
         };
     }
     if waits_one(f, *clock, samples.len(), out.len()) {
-        thin_at(
+        clock.sample_counter = thin_apart(
             sums_neighbours(f.settings.thinning),
             f.settings.stages,
             f.settings.r,
-            &mut clock.sample_counter,
+            clock.sample_counter,
             lent.integrators,
             lent.combs,
             lent.neighbours,

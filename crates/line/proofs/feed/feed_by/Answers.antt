@@ -12,5 +12,5 @@ returns-then-waits_one-clause-ran c =
     let w = c.waits_one.ensures c.if-waits_one.true in
     let x = get_or c.args.samples.now 0 (pos 0) in
     let read : to_z w32 (of_z w32 x) ≡ x = search rules in
-    let made = rw (read, c.sums_neighbours.ensures) at c.thin_at.ensures in
-    waited c.args.own.fixed c.args.clock.now c.args.lent.now _ _ c.requires w.1 w.2 made.1 refl refl
+    let made = rw (read, c.sums_neighbours.ensures) at c.thin_apart-clock.ensures in
+    waited c.args.own.fixed c.args.clock.now c.args.lent.now _ _ c.requires w.1 w.2 made refl refl
