@@ -17,7 +17,13 @@ use Rattle.theory.specs.Feeds as F
 use Rattle.theory.proofs.FeedLoop.{Midway, start, after_took, after_both, after_stopped}
 use Rattle.theory.proofs.Steps.{step_full, step_ended, step_took}
 use Rattle.integer.specs.Stages.{ran}
-use Rattle.nonrecursive.specs.EitherKind.{kind_of}
+use Rattle.nonrecursive.specs.EitherKind.{kind_of, next_by, out_by}
+use Rattle.nonrecursive.proofs.EitherKind.{either_answers}
+use Rattle.chain.specs.Chain.{from2}
+use Rattle.line.specs.Line.{thinner_of, parts_of}
+use Rattle.line.proofs.Lawful.{to_parts}
+use Rattle.line.proofs.Taking.{line_waits}
+use Rattle.std.specs.Prelude.{cond}
 use Rattle.float.specs.PolyphaseResamp.{Emitted, emitted_from, setting_of, in_line, is_on}
 use Rattle.float.specs.declared.settings.Setting.{Setting}
 use Rattle.chain.specs.declared.arrays.Arrays.{Arrays}
@@ -64,6 +70,38 @@ rested f c lent xs out counter sums good only moved made =
     let here : ltb 0 (length out) ≡ true = lt-ltb 0 (length out) only.1 in
     rw (zero-add (length xs)) at (stops sped _ (step_ended line (with_sums l sums counter) (ltb 0 (length out)) xs (0 + length xs) here still (omega arith)) refl)
 
+-- a feed takes its one sample where a place is left and nothing is due
+module _ (f : Fixed) (c : Clock) (lent : Arrays) (xs : List ℤ) (out : List Float) (good : valid (line_held f c lent) ≡ true)
+    (one : (length xs ≡ 1) × (0 < length out) × (due_at f c.mu ≡ false)) {o : Option Float} {k : Line} (takes : Takes line (line_held f c lent) (get_or xs 0 (pos 0)) o k) where
+  abbrev whole : Line
+  whole = line_held f c lent
+
+  alone : record { event = taking o; line = k } ≡ step line (ltb 0 (length out)) whole (head_of (drop 0 xs))
+  unfolding in_line is_on due_at
+  alone = step_took line whole (ltb 0 (length out)) xs 0 (lt-ltb 0 (length out) one.1) (pos 0) o k one.2 (omega arith) takes.0 takes.1
+
+  pub alone_took : o ≡ None → Midway line 64 Good line_lawful whole xs out out k 1 0
+  alone_took v = (after_took line 64 Good line_lawful whole xs out out whole 0 0 (start line 64 Good line_lawful whole xs out good) _ alone (ap taking v)).1
+
+  pub alone_both : {y : Float} → o ≡ Some y → Midway line 64 Good line_lawful whole xs out (set out 0 y) k 1 1
+  alone_both {y} v = (after_both line 64 Good line_lawful whole xs out out whole 0 0 (start line 64 Good line_lawful whole xs out good) _ alone y (ap taking v)).2
+
+-- a feed's one sample completes no sum: nothing else moves
+pub waited :
+    (f : Fixed) (c : Clock) (lent : Arrays) (xs : List ℤ) (out : List Float) → valid (line_held f c lent) ≡ true
+    → (length xs ≡ 1) × (0 < length out) × (due_at f c.mu ≡ false) → c.sample_counter + 1 < f.settings.r → {k : Line}
+    → thinner_of k ≡ next_by f.settings.thinning (thinner_of (line_held f c lent)) (get_or xs 0 (pos 0)) → (parts_of k).1 ≡ (parts_of (line_held f c lent)).1 → k.cuts ≡ c.cuts
+    → RanTo (line_held f c lent) xs out out 1 0 k
+unfolding in_line is_on due_at
+waited f c lent xs out good one few {k} moved rest cuts =
+    let l = line_held f c lent in
+    let x = get_or xs 0 (pos 0) in
+    let y = either_answers (thinner_of l) x (to_parts l good).0 in
+    let none : None ≡ out_by f.settings.thinning (thinner_of l) x = sym (y.1 ∙ ap (λ (b : Bool). cond b None (Some y.0)) (lt-ltb (c.sample_counter + 1) f.settings.r few)) in
+    let still : line.due k ≡ false = ap from2.due rest ∙ one.2 in
+    stops (alone_took f c lent xs out good one (line_waits l k x moved none rest cuts) refl) _
+    (step_ended line k (ltb 0 (length out)) xs 1 (lt-ltb 0 (length out) one.1) still (omega arith)) refl
+
 module _ {l₀ : Line} {xs : List ℤ} {out₀ out : List Float} {l : Line} {t w : ℕ} (mid : Midway line 64 Good line_lawful l₀ xs out₀ out l t w)
     {q : Setting} (setting : q ≡ setting_of l.resampler) {e : Emitted} (due : e ≡ emitted_from q.straight q.phases q.taps q.step l.resampler.delay l.resampler.prototype l.resampler.mu w out) where
   abbrev quiet : Drained l₀ xs out₀ l t e
@@ -75,6 +113,14 @@ module _ {l₀ : Line} {xs : List ℤ} {out₀ out : List Float} {l : Line} {t w
   -- a full span
   pub full : length e.span ≤ e.written → RanTo l₀ xs out₀ e.span t e.written (with_mu l e.mu)
   full h = stops quiet.mid _ (step_full line (with_mu l e.mu) place xs t (le-ltb e.written (length e.span) h)) refl
+
+  -- no sample is left
+  pub drained : length xs ≤ t → RanTo l₀ xs out₀ e.span t e.written (with_mu l e.mu)
+  drained h = go place refl
+    where
+      go : (b : Bool) → place ≡ b → RanTo l₀ xs out₀ e.span t e.written (with_mu l e.mu)
+      go false p = stops quiet.mid _ (step_full line (with_mu l e.mu) place xs t p) refl
+      go true p = stops quiet.mid _ (step_ended line (with_mu l e.mu) place xs t p (quiet.quiet p) h) refl
 
   -- a place is left
   module _ (room : e.written < length e.span) {b : Bool} (kind : kind_of b ≡ l.thinning) {m counter : ℕ} {sums : List ℤ} (only : 0 < m → b ≡ false)

@@ -8,15 +8,16 @@ ghost use Rattle.chain.specs.Lending.{Same};
 ghost use Rattle.line.specs.Line as L;
 ghost use Rattle.line.specs.Together as T;
 
+use crate::alone::{feed_one, takes_one, thin_apart, waits_one};
 use crate::batches::feed_batches;
 use crate::sample::sample_in;
-use crate::step::due;
+use crate::step::{due, sums_neighbours};
 use crate::validity::Checked;
 use chain::arrays::Arrays;
 use chain::clock::Clock;
 use chain::fixed::Fixed;
 use integer::limits::MOST_STAGES;
-use integer::stages::run;
+use integer::stages::{integrate, run};
 use nonrecursive::Thinning;
 use refusal::Moved;
 
@@ -124,7 +125,7 @@ fn only_integrates(f: Fixed, clock: Clock, count: usize, places: usize) -> bool
         && count < f.settings.r - clock.sample_counter
 }
 
-// All samples go through the integrators, and complete no sum.
+// All samples go through the integrators, and complete no sum. One by itself, since `run` makes a road for many ready.
 fn integrate_all(
     f: Fixed,
     sample_counter: &mut usize,
@@ -135,11 +136,78 @@ fn integrate_all(
     ensures counter { sample_counter.new ≡ sample_counter.old + length samples.now }
     ensures made { integrators.new ≡ (ran f.settings.stages integrators.old (pos 0) samples.now).state }
 {
+    if samples.len() == 1 {
+        integrate(f.settings.stages, integrators, samples[0]);
+        *sample_counter += 1;
+        return;
+    }
     run(f.settings.stages, integrators, samples);
     *sample_counter += samples.len();
 }
 
-// Steps until stopped: by batches as long as one is worth it, and the rest sample by sample. A short feed that only integrates stands apart: it costs little else.
+// Steps until stopped: one sample alone, or by batches as long as one is worth it, and the rest sample by sample.
+fn feed_through(
+    own: Checked,
+    clock: &mut Clock,
+    lent: &mut Arrays<'_>,
+    samples: &[i32],
+    out: &mut [f32],
+) -> Moved
+    requires { L.valid (T.line_held own.fixed clock.old lent.old) ≡ true }
+    ensures same { Same lent.old lent.new }
+    ensures ran { let before = T.line_held own.fixed clock.old lent.old in
+        T.RanTo before samples.now out.old out.new result.taken result.written (T.line_held own.fixed clock.new lent.new) }
+{
+    if takes_one(own.fixed, clock.mu, samples.len(), out.len()) {
+        return feed_one(own, clock, lent, samples, out);
+    }
+    let begun = feed_batches(own, clock, lent, samples, out);
+    let rest = feed_singly(
+        own,
+        clock,
+        lent,
+        &samples[begun.taken..],
+        &mut out[begun.written..],
+    );
+    Moved {
+        taken: begun.taken + rest.taken,
+        written: begun.written + rest.written,
+    }
+}
+
+// The same, the clock and the references put into places of their own: so a feed that only integrates, beside which this one is inlined, keeps its clock in registers
+// and puts no array's reference into memory.
+fn feed_apart(
+    own: Checked,
+    clock: &mut Clock,
+    lent: &mut Arrays<'_>,
+    samples: &[i32],
+    out: &mut [f32],
+) -> Moved
+    requires { L.valid (T.line_held own.fixed clock.old lent.old) ≡ true }
+    ensures same { Same lent.old lent.new }
+    ensures ran { let before = T.line_held own.fixed clock.old lent.old in
+        T.RanTo before samples.now out.old out.new result.taken result.written (T.line_held own.fixed clock.new lent.new) }
+{
+    let mut time = *clock;
+    let mut arrays = Arrays {
+        integrators: &mut *lent.integrators,
+        combs: &mut *lent.combs,
+        neighbours: &mut *lent.neighbours,
+        taps: lent.taps,
+        fir_delay: &mut *lent.fir_delay,
+        delays: &mut *lent.delays,
+        held: &mut *lent.held,
+        counts: &mut *lent.counts,
+        delay: &mut *lent.delay,
+        prototype: lent.prototype,
+    };
+    let moved = feed_through(own, &mut time, &mut arrays, samples, out);
+    *clock = time;
+    moved
+}
+
+// Steps until stopped. A feed that only integrates, and one of a sample that neighbours only keep, stand apart: they cost little else.
 pub(crate) fn feed_by(
     own: Checked,
     clock: &mut Clock,
@@ -160,16 +228,21 @@ pub(crate) fn feed_by(
             written: 0,
         };
     }
-    let begun = feed_batches(own, clock, lent, samples, out);
-    let rest = feed_singly(
-        own,
-        clock,
-        lent,
-        &samples[begun.taken..],
-        &mut out[begun.written..],
-    );
-    Moved {
-        taken: begun.taken + rest.taken,
-        written: begun.written + rest.written,
+    if waits_one(f, *clock, samples.len(), out.len()) {
+        clock.sample_counter = thin_apart(
+            sums_neighbours(f.settings.thinning),
+            f.settings.stages,
+            f.settings.r,
+            clock.sample_counter,
+            lent.integrators,
+            lent.combs,
+            lent.neighbours,
+            samples[0],
+        );
+        return Moved {
+            taken: 1,
+            written: 0,
+        };
     }
+    feed_apart(own, clock, lent, samples, out)
 }

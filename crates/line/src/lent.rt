@@ -62,8 +62,6 @@ pub fn feed_lent(
         Demand3 before samples.now out.old out.new (told_on none_moved result after) }
 {
     let own = n.checked(lent.counts)?;
-    let mut clock = n.clock;
-    let moved = feed_by(own, &mut clock, lent, samples, out);
-    n.clock = clock;
+    let moved = feed_by(own, &mut n.clock, lent, samples, out);
     Ok(moved)
 }

@@ -1,6 +1,7 @@
 // 01, section 6: the gauge line, which joins the converters of the layers below.
 #![tactic(auto)]
 
+mod alone;
 mod batches;
 pub mod beginning;
 mod feed;

@@ -32,7 +32,7 @@ pub(crate) fn due(f: Fixed, mu: f32) -> bool
 }
 
 // Whether a line of this kind sums neighbours.
-fn sums_neighbours(thinning: Thinning) -> bool
+pub(crate) fn sums_neighbours(thinning: Thinning) -> bool
     ensures { E.kind_of result ≡ thinning }
 {
     thinning == Thinning::Neighbours

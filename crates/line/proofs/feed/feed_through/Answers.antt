@@ -1,0 +1,9 @@
+-- `feed_through` meets its contract: the batches and the rest take no more samples than were lent.
+use Rattle.std.proofs.Common.{arith}
+use Rattle.line.proofs.Batching.{begun_ran_on, ran_within}
+use Rattle.line.proofs.feed.feed_through.Goals as goal
+
+pub overflow_add-result : goal.overflow_add-result
+overflow_add-result c =
+    let w = ran_within _ _ _ _ _ _ _ c.requires (begun_ran_on _ _ _ _ _ _ _ _ _ _ _ c.feed_batches-begun.ensures.begun c.feed_singly-rest.ensures.ran) in
+    omega (arith, w.0)
