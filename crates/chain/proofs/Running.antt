@@ -1,17 +1,18 @@
 -- What the functions of this crate leave is a batch of the machine from their section on: each section's block in its laws, one section before the other.
 use mathlib.Core.Path.{◌≡◌, refl, sym, ap, ap₂, ◌∙◌, subst, subst⁻¹}
 use mathlib.Core.Bool.{Bool, true, false, cond}
-use mathlib.Core.List.{List, [], ◌∷◌, ◌++◌, map, append_assoc}
+use mathlib.Core.List.{List, [], ◌∷◌, ◌++◌, map, append_assoc, append-nil}
 use Rattle.std.specs.Prelude.{Option, None, Some, Result, Ok, Err}
 use Rattle.std.specs.Result.{result_unwrap_or}
-use Prim.Native.Nat.{ℕ, zero, suc, ◌+◌, ◌^◌, ◌≤◌, ◌<◌, min, suc-le-suc}
+use Prim.Native.Nat.{ℕ, zero, suc, ◌+◌, ◌-◌, ◌^◌, ◌≤◌, ◌<◌, min, suc-le-suc}
 use native.Mathlib.Nat.{le_trans}
 use native.Mathlib.Omega.{arith}
 use borrow.Author.Tests.{le-leb}
+use borrow.Rule.Slice.PartMut.{put_mid}
 use lib.IntN.{ℤ, pos}
 use lib.Ieee.{Float}
-use lib.ListN.{length, take, drop, length-append, length-map}
-use lib.Seq.{length-take-le, take_at}
+use lib.ListN.{length, take, drop, length-append, length-drop, length-map, length-take, drop_of_length-le}
+use lib.Seq.{length-take-le, take_at, take_all}
 use mir.Syntax.{w16}
 use Rattle.refusal.specs.Outcome.{Outcome, told_on, value_in, none_moved}
 use Rattle.refusal.specs.declared.Refusal.{Refusal}
@@ -40,6 +41,7 @@ use Rattle.q15.proofs.FirBlocks.{block_fits_lem}
 use Rattle.half_band.specs.HbfStream.{hbf_stream}
 use Rattle.half_band.specs.HbfStreamBlock.{stream_block_fits, stream_block_state, stream_block_outs}
 use Rattle.half_band.specs.declared.hbf_stream.HbfStream.{HbfStream}
+use Rattle.half_band.proofs.InPlace.{end_put}
 use Rattle.float.specs.Level.{level}
 use Rattle.float.specs.PolyphaseResamp.{is_on, in_line, resampler, valid, valid_in_line, block, block_outcome, block_span}
 use Rattle.float.specs.declared.polyphase_resamp.PolyphaseResampF32.{PolyphaseResampF32}
@@ -125,27 +127,52 @@ module _ (s : PolyphaseResampF32) (xs o : List Float) where
         (o' : List Float) → o' ≡ block_span s xs o → (s.phases ≡ 0 → ⊥) → valid_in_line s ≡ true → Whole from5 s xs (length o) → Batched from5 s xs o o' t m.written
     moved_batched o' eo on v whole = batched_on t m.written o' (is_on_lem s on) v wrote (ap (λ (o : Outcome Moved PolyphaseResampF32). o.state) told) eo
 
--- ---- section 4
-module _ (h h' : HbfStream) (r r' : PolyphaseResampF32) (values : List ℤ) (tape tape₁ span : List Float) (m w : ℕ) (o o' : List Float) (few : length values ≤ 128)
-    (long : length tape ≡ 128) (laid : tape₁ ≡ map level values ++ drop (length values) tape) where
-  front : take (length values) tape₁ ≡ map level values
-  front = ap (take (length values)) laid ∙ take_at (map level values) (drop (length values) tape) (length values) (length-map values level)
+-- ---- section 4: the levels y are put at the end of a tape
+module _ (h h' : HbfStream) (r r' : PolyphaseResampF32) (values : List ℤ) (zeros y tape₂ : List Float) (m w : ℕ) (o o' : List Float) (few : length values ≤ 128)
+    (long : length zeros ≡ 224) (laid : y ≡ map level values ++ drop (length values) (take (224 - (224 - length values)) (drop (224 - length values) zeros))) where
+  abbrev n : ℕ
+  n = length values
 
-  fits : stream_block_fits (take (length values) tape₁) ≡ true
-  fits = ap stream_block_fits front ∙ le-leb (length (map level values)) 192 (let e = length-map values level in omega arith)
+  abbrev tape₁ : List Float
+  tape₁ = put_mid (224 - n) (224 - (224 - n)) zeros y
 
-  pub made_outs : take m span ≡ stream_block_outs h (take (length values) tape₁) → take m span ≡ outs hbf_stream h (map level values)
-  made_outs e = e ∙ ap (λ (b : Bool). cond b (outs hbf_stream h (take (length values) tape₁)) []) fits ∙ ap (outs hbf_stream h) front
+  y_is : y ≡ map level values
+  y_is =
+      laid
+      ∙ ap (λ (l : List Float). map level values ++ l) (drop_of_length-le (take (224 - (224 - n)) (drop (224 - n) zeros)) {i = n} (omega (arith, length-take (224 - (224 - n)) (drop (224 - n) zeros), few)))
+      ∙ append-nil (map level values)
+
+  put : (length tape₁ ≡ 224) × (drop (224 - n) tape₁ ≡ y)
+  put = end_put 224 (224 - n) zeros y long (omega arith) (ap length y_is ∙ length-map values level ∙ omega (arith, few))
+
+  last : drop (length tape₁ - n) tape₁ ≡ map level values
+  last = ap (λ (k : ℕ). drop (k - n) tape₁) put.0 ∙ put.1 ∙ y_is
+
+  windows_fit : n + 96 ≤ length tape₁
+  windows_fit = omega (arith, put.0, few)
+
+  fits : stream_block_fits (drop (length tape₁ - n) tape₁) ≡ true
+  fits = ap stream_block_fits last ∙ le-leb (length (map level values)) 192 (let e = length-map values level in omega arith)
+
+  abbrev slice : List Float
+  slice = take (224 - (224 - m)) (drop (224 - m) tape₂)
 
   pub levels_batched :
-      h' ≡ stream_block_state h (take (length values) tape₁) → take m span ≡ stream_block_outs h (take (length values) tape₁)
-      → (valid_in_line r ≡ true → Whole from5 r (take m span) (length o) → Batched from5 r (take m span) o o' r' w)
+      (n + 96 ≤ length tape₁ → h' ≡ stream_block_state h (drop (length tape₁ - n) tape₁)) → (n + 96 ≤ length tape₁ → drop (length tape₁ - m) tape₂ ≡ stream_block_outs h (drop (length tape₁ - n) tape₁))
+      → length tape₂ ≡ length tape₁ → (valid_in_line r ≡ true → Whole from5 r slice (length o) → Batched from5 r slice o o' r' w)
       → valid_in_line r ≡ true → Whole from_levels (levels_on h r) values (length o) → Batched from_levels (levels_on h r) values o o' (levels_on h' r') w
-  levels_batched eh em on v whole =
-      let made = made_outs em in
+  levels_batched eh em same on v whole =
+      let all : slice ≡ drop (224 - m) tape₂ = take_all (224 - (224 - m)) (drop (224 - m) tape₂) (omega (arith, length-drop (224 - m) tape₂, same, put.0)) in
+      let made : slice ≡ outs hbf_stream h (map level values) =
+      all
+      ∙ ap (λ (k : ℕ). drop (k - m) tape₂) (sym put.0)
+      ∙ em windows_fit
+      ∙ ap (λ (b : Bool). cond b (outs hbf_stream h (drop (length tape₁ - n) tape₁)) []) fits
+      ∙ ap (outs hbf_stream h) last
+      in
       let whole4 : Whole from4 (h, r) (map level values) (length o) = whole_each level from4 (h, r) values (length o) whole in
       let whole5 : Whole from5 r (outs hbf_stream h (map level values)) (length o) = whole_behind hbf_stream from5 h r (map level values) (length o) whole4 in
-      let next : h' ≡ state hbf_stream h (map level values) = eh ∙ ap (λ (b : Bool). cond b (state hbf_stream h (take (length values) tape₁)) h) fits ∙ ap (state hbf_stream h) front in
+      let next : h' ≡ state hbf_stream h (map level values) = eh windows_fit ∙ ap (λ (b : Bool). cond b (state hbf_stream h (drop (length tape₁ - n) tape₁)) h) fits ∙ ap (state hbf_stream h) last in
       let behind : Batched from5 r (outs hbf_stream h (map level values)) o o' r' w =
       subst (λ (l : List Float). Batched from5 r l o o' r' w) made (on v (subst⁻¹ (λ (l : List Float). Whole from5 r l (length o)) made whole5))
       in
