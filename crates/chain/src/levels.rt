@@ -29,8 +29,6 @@ fn put_levels(span: &mut [f32], values: &[i16])
 }
 
 // Values into the half-band stages, and what these make into the resampler. Answers how many places of the span are written.
-// The tape stands in a frame of its own, beside which there are no sums.
-#[inline(never)]
 pub(crate) fn levels_in(
     f: Fixed,
     mu: &mut f32,
