@@ -1,17 +1,18 @@
 -- What the functions of this crate leave is a batch of the machine from their section on: each section's block in its laws, one section before the other.
 use mathlib.Core.Path.{◌≡◌, refl, sym, ap, ap₂, ◌∙◌, subst, subst⁻¹}
 use mathlib.Core.Bool.{Bool, true, false, cond}
-use mathlib.Core.List.{List, [], ◌∷◌, ◌++◌, map, append_assoc}
+use mathlib.Core.List.{List, [], ◌∷◌, ◌++◌, map, append-nil}
 use Rattle.std.specs.Prelude.{Option, None, Some, Result, Ok, Err}
 use Rattle.std.specs.Result.{result_unwrap_or}
-use Prim.Native.Nat.{ℕ, zero, suc, ◌+◌, ◌^◌, ◌≤◌, ◌<◌, min, suc-le-suc}
+use Prim.Native.Nat.{ℕ, zero, suc, ◌+◌, ◌-◌, ◌^◌, ◌≤◌, ◌<◌, min, suc-le-suc}
 use native.Mathlib.Nat.{le_trans}
 use native.Mathlib.Omega.{arith}
 use borrow.Author.Tests.{le-leb}
+use borrow.Rule.Slice.PartMut.{put_mid}
 use lib.IntN.{ℤ, pos}
 use lib.Ieee.{Float}
-use lib.ListN.{length, take, drop, length-append, length-map}
-use lib.Seq.{length-take-le, take_at}
+use lib.ListN.{length, take, drop, length-drop, length-map, length-take, drop_of_length-le}
+use lib.Seq.{take_at, take_all}
 use mir.Syntax.{w16}
 use Rattle.refusal.specs.Outcome.{Outcome, told_on, value_in, none_moved}
 use Rattle.refusal.specs.declared.Refusal.{Refusal}
@@ -40,6 +41,7 @@ use Rattle.q15.proofs.FirBlocks.{block_fits_lem}
 use Rattle.half_band.specs.HbfStream.{hbf_stream}
 use Rattle.half_band.specs.HbfStreamBlock.{stream_block_fits, stream_block_state, stream_block_outs}
 use Rattle.half_band.specs.declared.hbf_stream.HbfStream.{HbfStream}
+use Rattle.half_band.proofs.InPlace.{end_put}
 use Rattle.float.specs.Level.{level}
 use Rattle.float.specs.PolyphaseResamp.{is_on, in_line, resampler, valid, valid_in_line, block, block_outcome, block_span}
 use Rattle.float.specs.declared.polyphase_resamp.PolyphaseResampF32.{PolyphaseResampF32}
@@ -125,27 +127,52 @@ module _ (s : PolyphaseResampF32) (xs o : List Float) where
         (o' : List Float) → o' ≡ block_span s xs o → (s.phases ≡ 0 → ⊥) → valid_in_line s ≡ true → Whole from5 s xs (length o) → Batched from5 s xs o o' t m.written
     moved_batched o' eo on v whole = batched_on t m.written o' (is_on_lem s on) v wrote (ap (λ (o : Outcome Moved PolyphaseResampF32). o.state) told) eo
 
--- ---- section 4
-module _ (h h' : HbfStream) (r r' : PolyphaseResampF32) (values : List ℤ) (tape tape₁ span : List Float) (m w : ℕ) (o o' : List Float) (few : length values ≤ 128)
-    (long : length tape ≡ 128) (laid : tape₁ ≡ map level values ++ drop (length values) tape) where
-  front : take (length values) tape₁ ≡ map level values
-  front = ap (take (length values)) laid ∙ take_at (map level values) (drop (length values) tape) (length values) (length-map values level)
+-- ---- section 4: the levels y are put at the end of a tape
+module _ (h h' : HbfStream) (r r' : PolyphaseResampF32) (values : List ℤ) (zeros y tape₂ : List Float) (m w : ℕ) (o o' : List Float) (few : length values ≤ 128)
+    (long : length zeros ≡ 224) (laid : y ≡ map level values ++ drop (length values) (take (224 - (224 - length values)) (drop (224 - length values) zeros))) where
+  abbrev n : ℕ
+  n = length values
 
-  fits : stream_block_fits (take (length values) tape₁) ≡ true
-  fits = ap stream_block_fits front ∙ le-leb (length (map level values)) 192 (let e = length-map values level in omega arith)
+  abbrev tape₁ : List Float
+  tape₁ = put_mid (224 - n) (224 - (224 - n)) zeros y
 
-  pub made_outs : take m span ≡ stream_block_outs h (take (length values) tape₁) → take m span ≡ outs hbf_stream h (map level values)
-  made_outs e = e ∙ ap (λ (b : Bool). cond b (outs hbf_stream h (take (length values) tape₁)) []) fits ∙ ap (outs hbf_stream h) front
+  y_is : y ≡ map level values
+  y_is =
+      laid
+      ∙ ap (λ (l : List Float). map level values ++ l) (drop_of_length-le (take (224 - (224 - n)) (drop (224 - n) zeros)) {i = n} (omega (arith, length-take (224 - (224 - n)) (drop (224 - n) zeros), few)))
+      ∙ append-nil (map level values)
+
+  put : (length tape₁ ≡ 224) × (drop (224 - n) tape₁ ≡ y)
+  put = end_put 224 (224 - n) zeros y long (omega arith) (ap length y_is ∙ length-map values level ∙ omega (arith, few))
+
+  last : drop (length tape₁ - n) tape₁ ≡ map level values
+  last = ap (λ (k : ℕ). drop (k - n) tape₁) put.0 ∙ put.1 ∙ y_is
+
+  windows_fit : n + 96 ≤ length tape₁
+  windows_fit = omega (arith, put.0, few)
+
+  fits : stream_block_fits (drop (length tape₁ - n) tape₁) ≡ true
+  fits = ap stream_block_fits last ∙ le-leb (length (map level values)) 192 (let e = length-map values level in omega arith)
+
+  abbrev slice : List Float
+  slice = take (224 - (224 - m)) (drop (224 - m) tape₂)
 
   pub levels_batched :
-      h' ≡ stream_block_state h (take (length values) tape₁) → take m span ≡ stream_block_outs h (take (length values) tape₁)
-      → (valid_in_line r ≡ true → Whole from5 r (take m span) (length o) → Batched from5 r (take m span) o o' r' w)
+      (n + 96 ≤ length tape₁ → h' ≡ stream_block_state h (drop (length tape₁ - n) tape₁)) → (n + 96 ≤ length tape₁ → drop (length tape₁ - m) tape₂ ≡ stream_block_outs h (drop (length tape₁ - n) tape₁))
+      → length tape₂ ≡ length tape₁ → (valid_in_line r ≡ true → Whole from5 r slice (length o) → Batched from5 r slice o o' r' w)
       → valid_in_line r ≡ true → Whole from_levels (levels_on h r) values (length o) → Batched from_levels (levels_on h r) values o o' (levels_on h' r') w
-  levels_batched eh em on v whole =
-      let made = made_outs em in
+  levels_batched eh em same on v whole =
+      let all : slice ≡ drop (224 - m) tape₂ = take_all (224 - (224 - m)) (drop (224 - m) tape₂) (omega (arith, length-drop (224 - m) tape₂, same, put.0)) in
+      let made : slice ≡ outs hbf_stream h (map level values) =
+      all
+      ∙ ap (λ (k : ℕ). drop (k - m) tape₂) (sym put.0)
+      ∙ em windows_fit
+      ∙ ap (λ (b : Bool). cond b (outs hbf_stream h (drop (length tape₁ - n) tape₁)) []) fits
+      ∙ ap (outs hbf_stream h) last
+      in
       let whole4 : Whole from4 (h, r) (map level values) (length o) = whole_each level from4 (h, r) values (length o) whole in
       let whole5 : Whole from5 r (outs hbf_stream h (map level values)) (length o) = whole_behind hbf_stream from5 h r (map level values) (length o) whole4 in
-      let next : h' ≡ state hbf_stream h (map level values) = eh ∙ ap (λ (b : Bool). cond b (state hbf_stream h (take (length values) tape₁)) h) fits ∙ ap (state hbf_stream h) front in
+      let next : h' ≡ state hbf_stream h (map level values) = eh windows_fit ∙ ap (λ (b : Bool). cond b (state hbf_stream h (drop (length tape₁ - n) tape₁)) h) fits ∙ ap (state hbf_stream h) last in
       let behind : Batched from5 r (outs hbf_stream h (map level values)) o o' r' w =
       subst (λ (l : List Float). Batched from5 r l o o' r' w) made (on v (subst⁻¹ (λ (l : List Float). Whole from5 r l (length o)) made whole5))
       in
@@ -156,25 +183,38 @@ module _ (s : FirDecimator) (values : List ℤ) (places : ℕ) (few : length val
   fir_fits : block_fits (length values) places ≡ true
   fir_fits = block_fits_lem (length values) places few (omega (arith, few, long))
 
+  pub filtered_state : fir_block_state s values places ≡ state fir s values
+  filtered_state = ap (λ (b : Bool). cond b (state fir s values) s) fir_fits
+
+  pub filtered_outs : fir_block_outs s values places ≡ outs fir s values
+  filtered_outs = ap (λ (b : Bool). cond b (outs fir s values) []) fir_fits
+
   pub filtered_cuts : (cuts : ℕ) → cuts ≡ fir_block_cuts s values places → cuts ≡ cut_count w16 (outs summing s values)
   filtered_cuts cuts e = e ∙ ap (λ (b : Bool). cond b (cut_count w16 (outs summing s values)) 0) fir_fits
 
-  -- no more than there are values
-  pub filtered_few : (cuts : ℕ) → cuts ≡ fir_block_cuts s values places → cuts ≤ 128
-  filtered_few cuts e = let k = le_trans (count_few (outs summing s values)) (outs_few summing s values) in omega (arith, filtered_cuts cuts e, k, few)
+  -- no more outputs than values
+  pub filtered_within : (made : ℕ) → made ≡ length (fir_block_outs s values places) → made ≤ length values
+  filtered_within made e = omega (arith, e, ap length filtered_outs, outs_few fir s values)
 
-  pub filter_batched :
-      (s' : FirDecimator) (h h' : HbfStream) (r r' : PolyphaseResampF32) (dst dst₁ : List ℤ) (made w : ℕ) (o o' : List Float)
-      → s' ≡ fir_block_state s values places → (made ≡ length (fir_block_outs s values places)) × (dst₁ ≡ fir_block_outs s values places ++ drop made dst)
-      → (valid_in_line r ≡ true → Whole from_levels (levels_on h r) (take made dst₁) (length o) → Batched from_levels (levels_on h r) (take made dst₁) o o' (levels_on h' r') w)
-      → valid_in_line r ≡ true → Whole from3 (fir_on s h r) values (length o) → Batched from3 (fir_on s h r) values o o' (fir_on s' h' r') w
-  filter_batched s' h h' r r' dst dst₁ made w o o' es (em, ed) on v whole =
-      let front : take made dst₁ ≡ outs fir s values =
-      ap (take made) ed ∙ take_at (fir_block_outs s values places) (drop made dst) made (sym em) ∙ ap (λ (b : Bool). cond b (outs fir s values) []) fir_fits
-      in
-      batched_before fir from_levels s (levels_on h r) values o o' s' (levels_on h' r') w whole (es ∙ ap (λ (b : Bool). cond b (state fir s values) s) fir_fits)
-      (subst (λ (l : List ℤ). Batched from_levels (levels_on h r) l o o' (levels_on h' r') w) front
-      (on v (subst⁻¹ (λ (l : List ℤ). Whole from_levels (levels_on h r) l (length o)) front (whole_behind fir from_levels s (levels_on h r) values (length o) whole))))
+-- and no more cuts
+pub few_cuts : (s : FirDecimator) (values : List ℤ) (cuts : ℕ) → length values ≤ 128 → cuts ≡ cut_count w16 (outs summing s values) → cuts ≤ 128
+few_cuts s values cuts few e = let k = le_trans (count_few (outs summing s values)) (outs_few summing s values) in omega (arith, e, k, few)
+
+-- the outputs put back in front of the values
+pub put_back :
+    (values zeros dst y ys : List ℤ) (made : ℕ) → (made ≡ length ys) × (dst ≡ ys ++ drop made zeros) → y ≡ take made dst → take made (y ++ drop made values) ≡ ys
+put_back values zeros dst y ys made (em, ed) ey =
+    let front : take made dst ≡ ys = ap (take made) ed ∙ take_at ys (drop made zeros) made (sym em) in
+    take_at y (drop made values) made (ap length (ey ∙ front) ∙ sym em) ∙ ey ∙ front
+
+pub filter_batched :
+    (s s' : FirDecimator) (h h' : HbfStream) (r r' : PolyphaseResampF32) (values front : List ℤ) (w : ℕ) (o o' : List Float) → s' ≡ state fir s values → front ≡ outs fir s values
+    → (valid_in_line r ≡ true → Whole from_levels (levels_on h r) front (length o) → Batched from_levels (levels_on h r) front o o' (levels_on h' r') w)
+    → valid_in_line r ≡ true → Whole from3 (fir_on s h r) values (length o) → Batched from3 (fir_on s h r) values o o' (fir_on s' h' r') w
+filter_batched s s' h h' r r' values front w o o' es ef on v whole =
+    batched_before fir from_levels s (levels_on h r) values o o' s' (levels_on h' r') w whole es
+    (subst (λ (l : List ℤ). Batched from_levels (levels_on h r) l o o' (levels_on h' r') w) ef
+    (on v (subst⁻¹ (λ (l : List ℤ). Whole from_levels (levels_on h r) l (length o)) ef (whole_behind fir from_levels s (levels_on h r) values (length o) whole))))
 
 -- ---- sections 1 and 2
 abbrev scaled_at : ℕ → ℤ → ℤ
@@ -238,28 +278,6 @@ taken_within t xs count taken made (e, f) = subst⁻¹ (λ (n : ℕ). n ≤ leng
     go true = (feed_right (alone (pos 0) thin) 0 (λ x. Unit {0}) (lawful_alone (pos 0) thin 0 (λ x. Unit {0}) (λ x a g. g)) t xs count tt).within
     go false = omega arith
 
--- the sums in front of an array of which a part was lent
-module _ (written lent got rest : List ℤ) (made : ℕ) (em : made ≡ length written) (es : got ≡ written ++ drop (length written) lent) where
-  sums_front : take made (got ++ rest) ≡ written
-  sums_front =
-      ap (λ (l : List ℤ). take made (l ++ rest)) es ∙ ap (take made) (append_assoc written (drop (length written) lent) rest) ∙ take_at written (drop (length written) lent ++ rest) made (sym em)
-
-  sums_within : made ≤ length (got ++ rest)
-  sums_within =
-      let l : length (got ++ rest) ≡ length written + length (drop (length written) lent) + length rest =
-      length-append got rest ∙ ap (λ (n : ℕ). n + length rest) (ap length es ∙ length-append written (drop (length written) lent))
-      in
-      omega (arith, l, em)
-
--- and what was made of them in front of another
-values_front :
-    (sums vals spare : List ℤ) (bits made : ℕ) → made ≤ length sums → vals ≡ map (cut w16) (map (scaled_at bits) (take made sums)) ++ drop (length (take made sums)) spare
-    → take made vals ≡ map (cut w16) (map (scaled_at bits) (take made sums))
-values_front sums vals spare bits made long ev =
-    ap (take made) ev
-    ∙ take_at (map (cut w16) (map (scaled_at bits) (take made sums))) (drop (length (take made sums)) spare) made
-    (length-map (map (scaled_at bits) (take made sums)) (cut w16) ∙ length-map (take made sums) (scaled_at bits) ∙ length-take-le made sums long)
-
 module _ (t t' : Thinner) (s s' : FirDecimator) (h h' : HbfStream) (r r' : PolyphaseResampF32) (xs sums vals : List ℤ) (taken made bits count w first before after : ℕ) (o o' : List Float) where
   abbrev zs : List ℤ
   zs = take taken xs
@@ -292,26 +310,25 @@ module _ (t t' : Thinner) (s s' : FirDecimator) (h h' : HbfStream) (r r' : Polyp
             ∙ ap₂ {C = ℕ} (λ (a b : ℕ). held_sum most_cuts before (a + b)) (ec ∙ ap (cut_count w16) scaled) (ap (λ (l : List ℤ). cut_count w16 (outs summing s l)) values),
       )
 
--- the same by what the calls of a batch ensure: of `zeros` the first `most` places were lent, and `got` stands in them
-module _ (t t' : Thinner) (s s' : FirDecimator) (h h' : HbfStream) (r r' : PolyphaseResampF32) (xs zeros got vals spare : List ℤ) (taken made bits count most w first before after : ℕ)
+-- the same by what the calls of a batch ensure, for `most` sums
+module _ (t t' : Thinner) (s s' : FirDecimator) (h h' : HbfStream) (r r' : PolyphaseResampF32) (xs vals : List ℤ) (taken made bits count most w first before after : ℕ)
     (o o' : List Float) where
   abbrev thinned : Fed Thinner ℤ
-  thinned = thin_fed t xs (length (take most zeros))
+  thinned = thin_fed t xs most
 
-  abbrev lent_sums : List ℤ
-  lent_sums = take made (got ++ drop most zeros)
+  abbrev scaled : List ℤ
+  scaled = map (scaled_at bits) thinned.written
 
   pub took_batch :
-      most ≡ min count 128 → length zeros ≡ 128 → (taken ≡ thinned.taken) × (made ≡ length thinned.written) → t' ≡ thinned.line
-      → got ≡ thinned.written ++ drop (length thinned.written) (take most zeros) → vals ≡ map (cut w16) (map (scaled_at bits) lent_sums) ++ drop (length lent_sums) spare
-      → first ≡ cut_count w16 (map (scaled_at bits) lent_sums) → after ≡ held_sum most_cuts (held_sum most_cuts before first) (cut_count w16 (outs summing s (take made vals)))
+      most ≡ min count 128 → (taken ≡ thinned.taken) × (made ≡ length thinned.written) → t' ≡ thinned.line
+      → (take made vals ≡ map (cut w16) scaled) × (first ≡ cut_count w16 scaled) → after ≡ held_sum most_cuts (held_sum most_cuts before first) (cut_count w16 (outs summing s (take made vals)))
       → (valid_in_line r ≡ true → Whole from3 (fir_on s h r) (take made vals) (length o) → Batched from3 (fir_on s h r) (take made vals) o o' (fir_on s' h' r') w)
       → bits ≡ gain_bits t.cic.stages t.cic.r → valid_at t.kind t.cic.stages t.cic.r t.cic.sample_counter ≡ true → valid_in_line r ≡ true → 1 ≤ count → count ≤ 128
       → 1 ≤ length xs → Leaves from2 (cut_on s h r) count (length o)
-      → Took t t' s s' h h' r r' xs (got ++ drop most zeros) vals taken made bits count w first before after o o'
-  took_batch em long (et, en) el es ev ec e2 on eb fine v c₁ c₂ some leaves =
-      let lent : length (take most zeros) ≡ count = length-take-le most zeros (omega (arith, em, long)) ∙ omega (arith, em, c₂) in
-      took t t' s s' h h' r r' xs (got ++ drop most zeros) vals taken made bits (length (take most zeros)) w first before after o o' eb fine et el
-      (sums_front thinned.written (take most zeros) got (drop most zeros) made en es)
-      (values_front (got ++ drop most zeros) vals spare bits made (sums_within thinned.written (take most zeros) got (drop most zeros) made en es) ev) ec e2 on v
-      (subst⁻¹ (λ (k : ℕ). 1 ≤ k) lent c₁) some (subst⁻¹ (λ (k : ℕ). Leaves from2 (cut_on s h r) k (length o)) lent leaves)
+      → Took t t' s s' h h' r r' xs thinned.written vals taken made bits most w first before after o o'
+  took_batch em (et, en) el (ev, ec) e2 on eb fine v c₁ c₂ some leaves =
+      let all : most ≡ count = omega (arith, em, c₂) in
+      let sums : take made thinned.written ≡ thinned.written = take_all made thinned.written (omega (arith, en)) in
+      let same : map (scaled_at bits) (take made thinned.written) ≡ scaled = ap (map (scaled_at bits)) sums in
+      took t t' s s' h h' r r' xs thinned.written vals taken made bits most w first before after o o' eb fine et el sums (ev ∙ sym (ap (map (cut w16)) same)) (ec ∙ sym (ap (cut_count w16) same)) e2 on v
+      (omega (arith, all, c₁)) some (subst⁻¹ (λ (k : ℕ). Leaves from2 (cut_on s h r) k (length o)) all leaves)

@@ -11,8 +11,11 @@ use crate::arrays::Arrays;
 use crate::fixed::{Fixed, MOST_SUMS};
 use crate::resample::resample;
 use float::q15_to_f32;
-use half_band::hbf_stream_block_at;
+use half_band::{DEC_DELAYS, hbf_stream_block_at};
 use q15::Q15;
+
+// The levels of a block at the end of a tape, and the places before them that the half-band stages want.
+const TAPE: usize = DEC_DELAYS + MOST_SUMS;
 
 // The values as levels, in front of a span.
 fn put_levels(span: &mut [f32], values: &[i16])
@@ -41,9 +44,16 @@ pub(crate) fn levels_in(
         valid_in_line (N.resampler_in f mu.old lent.old) ≡ true → Whole from_levels before values.now (length out.old)
         → Batched from_levels before values.now out.old out.new (N.levels_in f mu.new lent.new) result }
 {
-    let mut tape = [0.0f32; MOST_SUMS];
-    put_levels(&mut tape, values);
-    let front = &mut tape[..values.len()];
-    let made = hbf_stream_block_at(f.settings.depth, lent.delays, lent.held, lent.counts, front);
-    resample(f, mu, lent.delay, lent.prototype, &front[..made], out)
+    let n = values.len();
+    let mut tape = [0.0f32; TAPE];
+    put_levels(&mut tape[TAPE - n..], values);
+    let made = hbf_stream_block_at(
+        f.settings.depth,
+        lent.delays,
+        lent.held,
+        lent.counts,
+        &mut tape,
+        n,
+    );
+    resample(f, mu, lent.delay, lent.prototype, &tape[TAPE - made..], out)
 }

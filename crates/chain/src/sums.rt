@@ -5,7 +5,7 @@ ghost use Rattle.theory.specs.Floor.{floor_div};
 ghost use Rattle.theory.specs.Sections.{outs};
 ghost use Rattle.theory.specs.Tally.{held_sum};
 ghost use Rattle.integer.specs.Gain.{gain_bits};
-ghost use Rattle.nonrecursive.specs.EitherKind.{either, valid_at};
+ghost use Rattle.nonrecursive.specs.EitherKind.{either, thinner_of, thin_fed, valid_at};
 ghost use Rattle.q15.specs.Fixed.{cut, cut_count};
 ghost use Rattle.q15.specs.FirDecimator.{summing};
 ghost use Rattle.float.specs.PolyphaseResamp.{valid_in_line};
@@ -19,6 +19,8 @@ use crate::clock::{Clock, held_sum};
 use crate::filter::filter;
 use crate::fixed::{Fixed, MOST_SUMS};
 use integer::gain::scaled;
+use integer::limits::MOST_STAGES;
+use nonrecursive::nonrecursive_decimator::MOST_NEIGHBOURS;
 use nonrecursive::thinning::thin_block_at;
 use q15::cut_q15;
 use refusal::Moved;
@@ -38,6 +40,48 @@ fn cut_sums(bits: u32, sums: &[i32], dst: &mut [i16]) -> u32
         cuts += u32::from(made.cut);
     }
     cuts
+}
+
+// Samples up to `most` sums through section 1, and the sums, scaled and cut, in front of `values`. Answers how many were taken and made, and how many were cut. The
+// sums stand in a frame of their own, which the sections behind do not carry.
+#[inline(never)]
+fn values_in(
+    f: Fixed,
+    sample_counter: &mut usize,
+    integrators: &mut [i32; MOST_STAGES],
+    combs: &mut [i32; MOST_STAGES],
+    neighbours: &mut [i32; MOST_NEIGHBOURS],
+    samples: &[i32],
+    most: usize,
+    values: &mut [i16; MOST_SUMS],
+) -> (Moved, u32)
+    requires { most ≤ most_sums }
+    ensures counts { let s = f.settings in
+        let fed = thin_fed (thinner_of s.thinning s.stages s.r integrators.old combs.old neighbours.old sample_counter.old) samples.now most in
+        (result.0.taken ≡ fed.taken) × (result.0.written ≡ length fed.written) }
+    ensures state { let s = f.settings in
+        let fed = thin_fed (thinner_of s.thinning s.stages s.r integrators.old combs.old neighbours.old sample_counter.old) samples.now most in
+        thinner_of s.thinning s.stages s.r integrators.new combs.new neighbours.new sample_counter.new ≡ fed.line }
+    ensures cut { let s = f.settings in
+        let fed = thin_fed (thinner_of s.thinning s.stages s.r integrators.old combs.old neighbours.old sample_counter.old) samples.now most in
+        let scaled = map (λ y. floor_div y (2 ^ f.bits)) fed.written in
+        (take result.0.written values.new ≡ map (cut w16) scaled) × (result.1 ≡ cut_count w16 scaled) }
+{
+    let s = f.settings;
+    let mut sums = [0i32; MOST_SUMS];
+    let moved = thin_block_at(
+        s.thinning,
+        s.stages,
+        s.r,
+        sample_counter,
+        integrators,
+        combs,
+        neighbours,
+        samples,
+        &mut sums[..most],
+    );
+    let cuts = cut_sums(f.bits, &sums[..moved.written], values);
+    (moved, cuts)
 }
 
 // Samples up to `count` sums, or all of them, through sections 1 to 5. The caller has looked at the numbers, and where fewer sums than `count` leave a place of the
@@ -65,25 +109,20 @@ pub fn take_batch(
         × Batched chain before xs out.old out.new (parts_in f clock.new lent.new) result.written
         × (clock.new.cuts ≡ held_sum most_cuts clock.old.cuts cuts) }
 {
-    let s = f.settings;
     let most = count.min(MOST_SUMS);
-    let mut sums = [0i32; MOST_SUMS];
-    let moved = thin_block_at(
-        s.thinning,
-        s.stages,
-        s.r,
+    let mut values = [0i16; MOST_SUMS];
+    let (moved, cuts) = values_in(
+        f,
         &mut clock.sample_counter,
         lent.integrators,
         lent.combs,
         lent.neighbours,
         samples,
-        &mut sums[..most],
+        most,
+        &mut values,
     );
-    let made = moved.written;
-    let mut values = [0i16; MOST_SUMS];
-    let cuts = cut_sums(f.bits, &sums[..made], &mut values);
     clock.cuts = held_sum(clock.cuts, cuts);
-    let written = filter(f, clock, lent, &values[..made], out);
+    let written = filter(f, clock, lent, &mut values[..moved.written], out);
     Moved {
         taken: moved.taken,
         written,

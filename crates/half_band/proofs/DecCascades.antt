@@ -27,16 +27,16 @@ use Rattle.half_band.proofs.StageByStage.{window_of, Ready, Staged, staged, stag
 abbrev pub bare : ℕ → List Float → HbfStream
 bare depth delays = stream_of depth delays (replicate 5 zero32) (replicate 5 0)
 
--- ---- the loop over the frames: a turn takes as many as the tape has places for
+-- ---- the loop over the frames: a turn takes as many as a chunk has
 pub record Turn (factor frames done end : ℕ) : Type 0 where
   pub more : done < end
   pub most : end ≤ frames
   pub count : end * factor - done * factor ≡ (end - done) * factor
   pub before : done * factor ≤ end * factor
   pub behind : end * factor ≤ frames * factor
-  pub on_tape : end * factor - done * factor ≤ 192
+  pub in_chunk : end * factor - done * factor ≤ 96
 
-one_fits : (d : ℕ) → d ≤ 5 → 1 ≤ 192 / 2 ^ d
+one_fits : (d : ℕ) → d ≤ 5 → 1 ≤ 96 / 2 ^ d
 one_fits zero h = lit≤ tt
 one_fits (suc zero) h = lit≤ tt
 one_fits (suc (suc zero)) h = lit≤ tt
@@ -45,15 +45,15 @@ one_fits (suc (suc (suc (suc zero)))) h = lit≤ tt
 one_fits (suc (suc (suc (suc (suc zero))))) h = lit≤ tt
 one_fits (suc (suc (suc (suc (suc (suc d)))))) h = absurd (omega arith)
 
-pub turn : (factor depth frames done end : ℕ) → factor ≡ 2 ^ depth → depth ≤ 5 → done < frames → end ≡ min (done + 192 / factor) frames → Turn factor frames done end
+pub turn : (factor depth frames done end : ℕ) → factor ≡ 2 ^ depth → depth ≤ 5 → done < frames → end ≡ min (done + 96 / factor) frames → Turn factor frames done end
 turn factor depth frames done end ef deep h e =
-    let one : 1 ≤ 192 / factor = subst (λ (n : ℕ). 1 ≤ 192 / n) (sym ef) (one_fits depth deep) in
-    let few : end - done ≤ 192 / factor = omega arith in
+    let one : 1 ≤ 96 / factor = subst (λ (n : ℕ). 1 ≤ 96 / n) (sym ef) (one_fits depth deep) in
+    let few : end - done ≤ 96 / factor = omega arith in
     let sum : end ≡ done + (end - done) = omega arith in
     let times : end * factor ≡ done * factor + (end - done) * factor = ap (λ (n : ℕ). n * factor) sum ∙ add-mul done (end - done) factor in
-    let fit : (end - done) * factor ≤ 192 = le_trans (mul-le-mul_right factor few) (div-mul-le_self 192 factor) in
+    let fit : (end - done) * factor ≤ 96 = le_trans (mul-le-mul_right factor few) (div-mul-le_self 96 factor) in
     let most : end ≤ frames = omega arith in
-    record { more = omega arith; most = most; count = omega arith; before = omega arith; behind = mul-le-mul_right factor most; on_tape = omega arith }
+    record { more = omega arith; most = most; count = omega arith; before = omega arith; behind = mul-le-mul_right factor most; in_chunk = omega arith }
 
 -- so many frames lie in the samples
 pub frames_fit : (n m l d : ℕ) → n ≡ min m (l / 2 ^ d) → n * 2 ^ d ≤ l
@@ -67,18 +67,18 @@ module _ (taps : ℕ → List Float) (five : FiveStages taps) where
   abbrev left : ℕ → ℕ → Section HbfStream Float Float
   left depth k = stages_on taps five (depth - k) k
 
-  -- the values so far in front of the tape: n of them where k stages are done, and what the stages left make of them is what all make of the samples v
+  -- the values so far at the end of the tape: n of them where k stages are done, and what the stages left make of them is what all make of the samples v
   pub record Shrinking (depth frames : ℕ) (delays₀ v delays tape : List Float) (n k : ℕ) : Type 0 where
     pub stages : k ≤ depth
     pub count : n ≡ frames * 2 ^ (depth - k)
     pub long : length delays ≡ 480
     pub whole : length tape ≡ 192
-    pub room : n ≤ 192
-    pub state_is : state (left depth k) (bare depth delays) (take n tape) ≡ state (stream taps) (bare depth delays₀) v
-    pub outs_is : outs (left depth k) (bare depth delays) (take n tape) ≡ outs (stream taps) (bare depth delays₀) v
+    pub room : n ≤ 96
+    pub state_is : state (left depth k) (bare depth delays) (drop (length tape - n) tape) ≡ state (stream taps) (bare depth delays₀) v
+    pub outs_is : outs (left depth k) (bare depth delays) (drop (length tape - n) tape) ≡ outs (stream taps) (bare depth delays₀) v
 
   module _ (depth frames : ℕ) (delays₀ v : List Float) (deep : depth ≤ 5) where
-    pub shrink_start : length delays₀ ≡ 480 → length v ≡ frames * 2 ^ depth → length v ≤ 192 → (tape : List Float) → length tape ≡ 192 → take (length v) tape ≡ v
+    pub shrink_start : length delays₀ ≡ 480 → length v ≡ frames * 2 ^ depth → length v ≤ 96 → (tape : List Float) → length tape ≡ 192 → drop (length tape - length v) tape ≡ v
         → Shrinking depth frames delays₀ v delays₀ tape (length v) 0
     shrink_start long e few tape wide laid =
         record {
@@ -95,7 +95,7 @@ module _ (taps : ℕ → List Float) (five : FiveStages taps) where
         many = omega arith
 
         u : List Float
-        u = take (length v) tape
+        u = drop (length tape - length v) tape
 
         all : (state (left depth 0) (bare depth delays₀) u ≡ state (stream taps) (bare depth delays₀) u) × (outs (left depth 0) (bare depth delays₀) u ≡ outs (stream taps) (bare depth delays₀) u)
         all = stages_all taps five (depth - 0) (bare depth delays₀) u many
@@ -116,7 +116,7 @@ module _ (taps : ℕ → List Float) (five : FiveStages taps) where
         window = window_of taps five k (bare depth delays)
 
         abbrev front : List Float
-        front = take n tape
+        front = drop (length tape - n) tape
 
         abbrev stage : Section (List Float) (Float × Float) Float
         stage = decimator (taps k)
@@ -124,19 +124,19 @@ module _ (taps : ℕ → List Float) (five : FiveStages taps) where
         abbrev made : List Float
         made = outs stage window (pairs front)
 
-        -- r of them, put in front of those taken
+        -- they stand at the end of the tape
         pub shrink_next :
-            (d y : List Float) (r : ℕ) → r ≡ n / 2 → d ≡ spliced (96 * k) (4 * length (taps k)) (state stage window (pairs front)) delays → y ≡ made ++ drop r front
-            → Shrinking depth frames delays₀ v d (y ++ drop n tape) (n / 2) (k + 1)
-        shrink_next d y r er ed ey =
+            (d t : List Float) → length t ≡ length tape → d ≡ spliced (96 * k) (4 * length (taps k)) (state stage window (pairs front)) delays → drop (length tape - length made) t ≡ made
+            → Shrinking depth frames delays₀ v d t (n / 2) (k + 1)
+        shrink_next d t same ed et =
             record {
               stages = omega arith;
               count = halved.0;
               long = ap length ed ∙ staged_long taps five depth k more deep (bare depth delays) sized (pairs front);
-              whole = t_whole;
+              whole = same ∙ q.whole;
               room = omega (arith, q.room);
-              state_is = sym (done.0 ∙ ap (λ (u : List Float). state (left depth (k + 1)) (bare depth u) made) (sym ed) ∙ ap (state (left depth (k + 1)) (bare depth d)) (sym t_front)) ∙ q.state_is;
-              outs_is = sym (done.1 ∙ ap (λ (u : List Float). outs (left depth (k + 1)) (bare depth u) made) (sym ed) ∙ ap (outs (left depth (k + 1)) (bare depth d)) (sym t_front)) ∙ q.outs_is;
+              state_is = sym (done.0 ∙ ap (λ (u : List Float). state (left depth (k + 1)) (bare depth u) made) (sym ed) ∙ ap (state (left depth (k + 1)) (bare depth d)) (sym t_end)) ∙ q.state_is;
+              outs_is = sym (done.1 ∙ ap (λ (u : List Float). outs (left depth (k + 1)) (bare depth u) made) (sym ed) ∙ ap (outs (left depth (k + 1)) (bare depth d)) (sym t_end)) ∙ q.outs_is;
             }
           where
             sized : Sized (bare depth delays)
@@ -146,7 +146,7 @@ module _ (taps : ℕ → List Float) (five : FiveStages taps) where
             ready = record { sized = sized; held = get_or-replicate 5 k zero32 nan (omega arith); count = get_or-replicate {A = ℕ} 5 k 0 0 (omega arith) }
 
             front_long : length front ≡ n
-            front_long = length-take-le n tape (omega (arith, q.room, q.whole))
+            front_long = omega (arith, length-drop (length tape - n) tape, q.room, q.whole)
 
             done : Staged taps five depth k more deep (bare depth delays) front
             done = staged taps five depth k more deep front (n / 2) (front_long ∙ halved.1) (bare depth delays) ready
@@ -154,20 +154,12 @@ module _ (taps : ℕ → List Float) (five : FiveStages taps) where
             made_long : length made ≡ n / 2
             made_long = made_count (taps k) window (pairs front) ∙ length_pairs front ∙ ap (λ (m : ℕ). m / 2) front_long
 
-            t_is : y ++ drop n tape ≡ made ++ (drop r front ++ drop n tape)
-            t_is = ap (λ (l : List Float). l ++ drop n tape) ey ∙ append_assoc made (drop r front) (drop n tape)
+            t_end : drop (length t - n / 2) t ≡ made
+            t_end = ap (λ (j : ℕ). drop j t) (omega (arith, made_long, same)) ∙ et
 
-            t_front : take (n / 2) (y ++ drop n tape) ≡ made
-            t_front = ap (take (n / 2)) t_is ∙ take_at made (drop r front ++ drop n tape) (n / 2) made_long
-
-            t_whole : length (y ++ drop n tape) ≡ 192
-            t_whole =
-                ap length t_is
-                ∙ simp (length-append, length-drop) (omega (arith, made_long, front_long, er, q.room, q.whole))
-
-      pub shrink_end : depth ≤ k → (n ≡ frames) × ((bare depth delays ≡ state (stream taps) (bare depth delays₀) v) × (take n tape ≡ outs (stream taps) (bare depth delays₀) v))
+      pub shrink_end : depth ≤ k → (n ≡ frames) × ((bare depth delays ≡ state (stream taps) (bare depth delays₀) v) × (drop (length tape - n) tape ≡ outs (stream taps) (bare depth delays₀) v))
       shrink_end h =
-          let none = stages_none taps five depth k (bare depth delays) (take n tape) h in
+          let none = stages_none taps five depth k (bare depth delays) (drop (length tape - n) tape) h in
           let z : depth - k ≡ 0 = omega arith in (
             q.count ∙ ap (λ (m : ℕ). frames * 2 ^ m) z ∙ ap (λ (m : ℕ). frames * m) (pow-zero 2) ∙ mul-one frames,
             (sym none.0 ∙ q.state_is, sym none.1 ∙ q.outs_is),

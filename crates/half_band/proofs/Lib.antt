@@ -7,7 +7,6 @@ pub mod Moving
 pub mod Sliding
 pub mod Earlier
 pub mod WholeLists
-pub mod OnePair
 pub mod PairsAlong
 pub mod SamplesAlong
 pub mod OnLine
@@ -28,6 +27,7 @@ pub mod Reaching
 pub mod HeldOnes
 pub mod Frames
 pub mod StageRuns
+pub mod InPlace
 pub mod StageLists
 pub mod StageByStage
 pub mod DecCascades

@@ -1,4 +1,4 @@
--- A block through the cascade in place: what one stage does with the values in front of a span, and the loop over the stages, which keeps that the stages left
+-- A block through the cascade in place: what one stage does with the values at the end of a tape, and the loop over the stages, which keeps that the stages left
 -- make of the values there what all make of the block.
 use mathlib.Core.Path.{◌≡◌, refl, sym, ap, ◌∙◌, subst}
 use mathlib.Core.Bool.{cond}
@@ -40,7 +40,7 @@ module _ (k : ℕ) (delays held : List Float) (counts : List ℕ) where
   lent = stream_of 0 delays held counts
 
   -- no value
-  pub stage_none : (span : List Float) → length span ≡ 0 → (lent ≡ stage_after k lent span) × ((0 ≡ length (stage_outs k lent span)) × (span ≡ stage_outs k lent span ++ drop 0 span))
+  pub stage_none : (span : List Float) → length span ≡ 0 → (lent ≡ stage_after k lent span) × ((0 ≡ length (stage_outs k lent span)) × (span ≡ stage_outs k lent span))
   stage_none [] e = (sym (with_same T decimation_five k lent), (refl, refl))
   stage_none (x ∷ v) e = absurd (omega arith)
 
@@ -116,18 +116,13 @@ module _ (k : ℕ) (delays held : List Float) (counts : List ℕ) where
         ∙ ap (λ (g : Half). with_stage T k g lent) (sym run_is)
 
     pub stage_made :
-        (t : List Float) → t ≡ outs (decimator (T k)) window (pairs values) ++ drop (length values / 2) span
-        → ((before + n) / 2 ≡ length (stage_outs k lent span)) × (t ≡ stage_outs k lent span ++ drop ((before + n) / 2) span)
-    stage_made t et = (
-      sym (
-          ap length made_is
-          ∙ made_count (T k) window (pairs values)
-          ∙ length_pairs values
-          ∙ ap (λ (m : ℕ). m / 2) values_long
-          ),
-      et ∙ ap (λ (m : ℕ). outs (decimator (T k)) window (pairs values) ++ drop (m / 2) span) values_long
-          ∙ ap (λ (l : List Float). l ++ drop ((before + n) / 2) span) (sym made_is),
-    )
+        (long : ℕ) (t : List Float) → drop (long - length (outs (decimator (T k)) window (pairs values))) t ≡ outs (decimator (T k)) window (pairs values)
+        → ((before + n) / 2 ≡ length (stage_outs k lent span)) × (drop (long - (before + n) / 2) t ≡ stage_outs k lent span)
+    stage_made long t et =
+        let many : length (outs (decimator (T k)) window (pairs values)) ≡ (before + n) / 2 = made_count (T k) window (pairs values) ∙ length_pairs values ∙ ap (λ (m : ℕ). m / 2) values_long in (
+          sym (ap length made_is ∙ many),
+          ap (λ (m : ℕ). drop (long - m) t) (sym many) ∙ et ∙ sym made_is,
+        )
 
 -- ---- the depth is nothing to a stage
 module _ (depth k : ℕ) (delays held : List Float) (counts : List ℕ) (v : List Float) where
@@ -143,93 +138,78 @@ module _ (depth k : ℕ) (delays held : List Float) (counts : List ℕ) (v : Lis
 abbrev left : ℕ → ℕ → Section HbfStream Float Float
 left most k = stages_on T decimation_five (most - k) k
 
--- m values in front of the span where k stages are done: what the stages left make of them is what all make of the values v lent
-pub record Going (depth most : ℕ) (s₀ : HbfStream) (v delays held : List Float) (counts : List ℕ) (span : List Float) (m k : ℕ) : Type 0 where
+-- m values at the end of the tape, which began as tape₀, where k stages are done: what the stages left make of them is what all make of the values v lent
+pub record Going (depth most : ℕ) (s₀ : HbfStream) (v tape₀ delays held : List Float) (counts : List ℕ) (tape : List Float) (m k : ℕ) : Type 0 where
   pub stages : k ≤ most
   pub deep : most ≡ min depth 5
   pub sized : Sized (stream_of depth delays held counts)
-  pub room : m ≤ length span
-  pub same : length span ≡ length v
-  pub state_is : state (left most k) (stream_of depth delays held counts) (take m span) ≡ state hbf_stream s₀ v
-  pub outs_is : outs (left most k) (stream_of depth delays held counts) (take m span) ≡ outs hbf_stream s₀ v
+  pub room : m + 96 ≤ length tape
+  pub same : length tape ≡ length tape₀
+  pub state_is : state (left most k) (stream_of depth delays held counts) (drop (length tape - m) tape) ≡ state hbf_stream s₀ v
+  pub outs_is : outs (left most k) (stream_of depth delays held counts) (drop (length tape - m) tape) ≡ outs hbf_stream s₀ v
 
-module _ (depth most : ℕ) (delays₀ held₀ : List Float) (counts₀ : List ℕ) (v : List Float) where
+module _ (depth most : ℕ) (delays₀ held₀ : List Float) (counts₀ : List ℕ) (n : ℕ) (tape₀ : List Float) where
+  abbrev v : List Float
+  v = drop (length tape₀ - n) tape₀
+
   abbrev s₀ : HbfStream
   s₀ = stream_of depth delays₀ held₀ counts₀
 
-  pub going_start : most ≡ min depth 5 → Sized s₀ → Going depth most s₀ v delays₀ held₀ counts₀ v (length v) 0
+  pub going_start : most ≡ min depth 5 → Sized s₀ → n + 96 ≤ length tape₀ → Going depth most s₀ v tape₀ delays₀ held₀ counts₀ tape₀ n 0
   unfolding hbf_stream
-  going_start e z =
+  going_start e z fits =
       let many : min depth 5 ≡ most - 0 = omega arith in
-      let front = take_all (length v) v (omega arith) in
       let all = stages_all T decimation_five (most - 0) s₀ v many in
-      record {
-        stages = omega arith;
-        deep = e;
-        sized = z;
-        room = omega arith;
-        same = refl;
-        state_is = ap (state (left most 0) s₀) front ∙ all.0;
-        outs_is = ap (outs (left most 0) s₀) front ∙ all.1;
-      }
+      record { stages = omega arith; deep = e; sized = z; room = fits; same = refl; state_is = all.0; outs_is = all.1 }
 
-  module _ (delays held : List Float) (counts : List ℕ) (span : List Float) (m k : ℕ) (q : Going depth most s₀ v delays held counts span m k) where
+  module _ (delays held : List Float) (counts : List ℕ) (tape : List Float) (m k : ℕ) (q : Going depth most s₀ v tape₀ delays held counts tape m k) where
     abbrev s : HbfStream
     s = stream_of depth delays held counts
 
-    abbrev front : List Float
-    front = take m span
+    abbrev last : List Float
+    last = drop (length tape - m) tape
 
     abbrev made : List Float
-    made = stage_outs k s front
+    made = stage_outs k s last
+
+    last_long : length last ≡ m
+    last_long = omega (arith, length-drop (length tape - m) tape, q.room)
 
     pub going_next :
-        k < most → (d h : List Float) (c : List ℕ) (y : List Float) (r : ℕ) → stream_of 0 d h c ≡ stage_after k (stream_of 0 delays held counts) front
-        → r ≡ length (stage_outs k (stream_of 0 delays held counts) front) → y ≡ stage_outs k (stream_of 0 delays held counts) front ++ drop r front
-        → Going depth most s₀ v d h c (y ++ drop m span) r (k + 1)
-    going_next more d h c y r next count put =
+        k < most → (d h : List Float) (c : List ℕ) (t : List Float) (r : ℕ) → stream_of 0 d h c ≡ stage_after k (stream_of 0 delays held counts) last → length t ≡ length tape
+        → r ≡ length (stage_outs k (stream_of 0 delays held counts) last) → drop (length tape - r) t ≡ stage_outs k (stream_of 0 delays held counts) last
+        → Going depth most s₀ v tape₀ d h c t r (k + 1)
+    going_next more d h c t r next long count put =
         record {
           stages = omega arith;
           deep = q.deep;
-          sized = subst Sized (sym after) (sized_staged T decimation_five most k more under s front q.sized);
+          sized = subst Sized (sym after) (sized_staged T decimation_five most k more under s last q.sized);
           room = omega (arith, few, long, q.room);
           same = long ∙ q.same;
-          state_is = ap (state (left most (k + 1)) (stream_of depth d h c)) made_front ∙ ap (λ (u : HbfStream). state (left most (k + 1)) u made) after ∙ sym done.0 ∙ q.state_is;
-          outs_is = ap (outs (left most (k + 1)) (stream_of depth d h c)) made_front ∙ ap (λ (u : HbfStream). outs (left most (k + 1)) u made) after ∙ sym done.1 ∙ q.outs_is;
+          state_is = ap (state (left most (k + 1)) (stream_of depth d h c)) made_last ∙ ap (λ (u : HbfStream). state (left most (k + 1)) u made) after ∙ sym done.0 ∙ q.state_is;
+          outs_is = ap (outs (left most (k + 1)) (stream_of depth d h c)) made_last ∙ ap (λ (u : HbfStream). outs (left most (k + 1)) u made) after ∙ sym done.1 ∙ q.outs_is;
         }
       where
         under : most ≤ 5
         under = omega (arith, q.deep)
 
-        done : ByStage T decimation_five most k more under s front
-        done = by_stage T decimation_five most k more under front s q.sized
+        done : ByStage T decimation_five most k more under s last
+        done = by_stage T decimation_five most k more under last s q.sized
 
-        after : stream_of depth d h c ≡ stage_after k s front
-        after = next_at depth k delays held counts front d h c next
+        after : stream_of depth d h c ≡ stage_after k s last
+        after = next_at depth k delays held counts last d h c next
 
-        made_is : stage_outs k (stream_of 0 delays held counts) front ≡ made
-        made_is = outs_at depth k delays held counts front
-
-        counted : r ≡ length made
-        counted = count ∙ ap length made_is
-
-        put_made : y ++ drop m span ≡ made ++ (drop r front ++ drop m span)
-        put_made = ap (λ (l : List Float). l ++ drop m span) (put ∙ ap (λ (l : List Float). l ++ drop r front) made_is) ∙ append_assoc made (drop r front) (drop m span)
-
-        front_long : length front ≡ m
-        front_long = length-take-le m span q.room
+        made_is : stage_outs k (stream_of 0 delays held counts) last ≡ made
+        made_is = outs_at depth k delays held counts last
 
         few : r ≤ m
-        few = omega (arith, counted, front_long, outs_few (half (T k)) (stage_in T k s) front)
+        few = omega (arith, count, ap length made_is, last_long, outs_few (half (T k)) (stage_in T k s) last)
 
-        long : length (y ++ drop m span) ≡ length span
-        long = ap length put_made ∙ simp (length-append, length-drop) (omega (arith, counted, front_long, few, q.room))
+        made_last : drop (length t - r) t ≡ made
+        made_last = ap (λ (j : ℕ). drop (j - r) t) long ∙ put ∙ made_is
 
-        made_front : take r (y ++ drop m span) ≡ made
-        made_front = ap (take r) put_made ∙ take_at made (drop r front ++ drop m span) r (sym counted)
-
-    pub going_end : most ≤ k → (stream_of depth delays held counts ≡ state hbf_stream s₀ v) × ((m ≡ length (outs hbf_stream s₀ v)) × (take m span ≡ outs hbf_stream s₀ v))
+    pub going_end : most ≤ k → (stream_of depth delays held counts ≡ state hbf_stream s₀ v) × ((m ≡ length (outs hbf_stream s₀ v)) × (drop (length tape₀ - m) tape ≡ outs hbf_stream s₀ v))
     going_end h =
-        let e = stages_none T decimation_five most k s (take m span) h in
-        let f : take m span ≡ outs hbf_stream s₀ v = sym e.1 ∙ q.outs_is in
-        (sym e.0 ∙ q.state_is, (sym (length-take-le m span q.room) ∙ ap length f, f))
+        let e = stages_none T decimation_five most k s last h in
+        let f : last ≡ outs hbf_stream s₀ v = sym e.1 ∙ q.outs_is in
+        (sym e.0 ∙ q.state_is, (sym last_long ∙ ap length f, ap (λ (j : ℕ). drop (j - m) tape) (sym q.same) ∙ f))

@@ -1,16 +1,13 @@
 // What the half-band filters do to a window of the last samples, the newest at its end.
-ghost use Rattle.std.specs.Prelude.{◌≡◌, [], ◌∷◌, ◌++◌, ◌≤◌, ◌+◌, ◌-◌, ◌*◌, ◌/◌, ◌%◌, length, take, drop};
+ghost use Rattle.std.specs.Prelude.{◌≡◌, [], ◌∷◌, ◌≤◌, ◌+◌, ◌*◌, ◌/◌, ◌%◌, length, take, drop};
 ghost use Rattle.std.specs.Float.{binary32};
 ghost use Rattle.std.specs.Float.Ieee.{add, mul};
-ghost use Rattle.theory.specs.Sections.{onto, state, outs};
+ghost use Rattle.theory.specs.Sections.{state, outs};
 ghost use Rattle.half_band.specs.HalfBand.{flat};
 ghost use Rattle.half_band.specs.Windows.{slid, folded, dec_value, int_value, pairs, decimator, interpolator};
 
 use crate::limits::{DEC_DELAYS, INT_DELAYS};
-
-// Places for the longest window and for many samples more, or for six frames of the deepest cascade. That a span is no longer stands in the contracts of what goes along
-// it: a struct for the span would be what `Taps` speaks of.
-pub(crate) const TAPE: usize = 192;
+use float::span::lay;
 
 // c[t] × (left + right)
 fn gain(tap: f32, left: f32, right: f32) -> f32
@@ -47,7 +44,7 @@ fn folded_sum(window: &[f32], taps: Taps, step: usize, start: f32) -> f32
 
 // The decimator's output at a window.
 #[tactic(auto, unfolding(crate::specs::Windows::dec_value))]
-fn dec_at(window: &[f32], taps: Taps) -> f32
+pub(crate) fn dec_at(window: &[f32], taps: Taps) -> f32
     requires { length window.now ≡ 4 * length taps.all.now }
     ensures { result ≡ dec_value taps.entry.all.now window.now }
 {
@@ -87,33 +84,17 @@ fn decimate_along(line: &[f32], taps: Taps, span: &mut [f32])
     }
 }
 
-// Places for the longest window and for a tape behind it.
-const LINE: usize = DEC_DELAYS + TAPE;
-
-// Window, lead and values in a row in front of a line.
-fn lay_led(line: &mut [f32], window: &[f32], lead: Option<f32>, values: &[f32])
-    requires { length window.now + length (onto lead values.now) ≤ length line.old }
-    ensures { let led = onto lead values.now in
-        take (length window.now + length led) line.new ≡ window.now ++ led }
-{
-    let long = window.len();
-    let behind = long + usize::from(lead.is_some());
-    let past = behind + values.len();
-    line[..long].copy_from_slice(window);
-    if let Some(held) = lead {
-        line[long] = held;
-    }
-    line[behind..past].copy_from_slice(values);
-}
+// Places for the longest window and for as many samples as fill it.
+const LINE: usize = 2 * DEC_DELAYS;
 
 // The pairs of src are put behind the window on a line of their own, along which the window moves, and their outputs fill dst.
 fn decimate_first(window: &mut [f32], taps: Taps, src: &[f32], dst: &mut [f32])
-    requires { (length window.old ≡ 4 * length taps.all.now) × (length src.now ≡ 2 * length dst.old) × (length src.now ≤ 192) }
+    requires { (length window.old ≡ 4 * length taps.all.now) × (length src.now ≡ 2 * length dst.old) × (length src.now ≤ 96) }
     ensures { (window.new ≡ state (decimator taps.entry.all.now) window.old (pairs src.now)) × (dst.new ≡ outs (decimator taps.entry.all.now) window.old (pairs src.now)) }
 {
     let past = src.len() + window.len();
     let mut line = [0.0; LINE];
-    lay_led(&mut line, window, None, src);
+    lay(&mut line, window, src);
     window.copy_from_slice(&line[src.len()..past]);
     decimate_along(&line[..past], taps, dst);
 }
@@ -131,53 +112,6 @@ pub(crate) fn decimate(window: &mut [f32], taps: Taps, src: &[f32], dst: &mut [f
     }
     decimate_along(src, taps, &mut dst[first..]);
     window.copy_from_slice(&src[src.len() - long..]);
-}
-
-// The pairs of the lead and the span are put behind the window on a line of their own, so that nothing is moved for a pair; and a sample that was held before the
-// values needs no place in the span. An odd last value is left out.
-fn decimate_on_line(window: &mut [f32], taps: Taps, lead: Option<f32>, span: &mut [f32])
-    requires { (length window.old ≡ 4 * length taps.all.now) × (1 ≤ length span.old) × (length span.old ≤ 192) }
-    ensures { let stage = decimator taps.entry.all.now in
-        let led = onto lead span.old in
-        (window.new ≡ state stage window.old (pairs led)) × (span.new ≡ outs stage window.old (pairs led) ++ drop (length led / 2) span.old) }
-{
-    let before = usize::from(lead.is_some());
-    let n = (before + span.len()) / 2;
-    let values = 2 * n;
-    let past = values + window.len();
-    let behind = values - before;
-    let mut line = [0.0; LINE];
-    lay_led(&mut line, window, lead, &span[..behind]);
-    window.copy_from_slice(&line[values..past]);
-    decimate_along(&line[..past], taps, &mut span[..n]);
-}
-
-// The one pair of the lead and the span.
-fn decimate_one(window: &mut [f32], taps: Taps, lead: Option<f32>, span: &mut [f32])
-    requires { (length window.old ≡ 4 * length taps.all.now) × (length (onto lead span.old) / 2 ≡ 1) }
-    ensures { let stage = decimator taps.entry.all.now in
-        let led = onto lead span.old in
-        (window.new ≡ state stage window.old (pairs led)) × (span.new ≡ outs stage window.old (pairs led) ++ drop (length led / 2) span.old) }
-{
-    let (a, b) = match lead {
-        Some(held) => (held, span[0]),
-        None => (span[0], span[1]),
-    };
-    span[0] = take_pair(window, taps, a, b);
-}
-
-// The pairs of the lead and the span go through the decimator, and their outputs stand in front of the span. For none or one of them no line is laid.
-pub(crate) fn decimate_in_place(window: &mut [f32], taps: Taps, lead: Option<f32>, span: &mut [f32])
-    requires { (length window.old ≡ 4 * length taps.all.now) × (length span.old ≤ 192) }
-    ensures { let stage = decimator taps.entry.all.now in
-        let led = onto lead span.old in
-        (window.new ≡ state stage window.old (pairs led)) × (span.new ≡ outs stage window.old (pairs led) ++ drop (length led / 2) span.old) }
-{
-    match (usize::from(lead.is_some()) + span.len()) / 2 {
-        0 => {}
-        1 => decimate_one(window, taps, lead, span),
-        _ => decimate_on_line(window, taps, lead, span),
-    }
 }
 
 // The interpolator's even and odd output at a window.

@@ -1,6 +1,6 @@
-// 01, section 4, and 02, §11: blocks through a cascade of half-band decimators, one output of each 2^depth samples. The samples are put on a tape, as many whole
-// frames of 2^depth as it has places for, and each stage turns the list there into half as many values in place: nothing is held at the end of whole frames.
-ghost use Rattle.std.specs.Prelude.{◌≡◌, ◌++◌, ◌+◌, ◌*◌, ◌/◌, ◌^◌, ◌≤◌, ◌<◌, length, take, drop, replicate, IfOk};
+// 01, section 4, and 02, §11: blocks through a cascade of half-band decimators, one output of each 2^depth samples. The samples are put at the end of a tape, as many
+// whole frames of 2^depth as a chunk has, and each stage turns the list there into half as many values in place: nothing is held at the end of whole frames.
+ghost use Rattle.std.specs.Prelude.{◌≡◌, ◌+◌, ◌-◌, ◌*◌, ◌/◌, ◌^◌, ◌≤◌, ◌<◌, length, take, drop, replicate, IfOk};
 ghost use Rattle.theory.specs.Sections.{onto, state, outs};
 ghost use Rattle.refusal.specs.Outcome.{told_on, told_reset};
 ghost use Rattle.float.specs.F32.{zero32};
@@ -9,9 +9,9 @@ ghost use Rattle.half_band.specs.Windows.{pairs, decimator, spliced};
 ghost use Rattle.half_band.specs.HbfStream.{stream, stream_of};
 ghost use Rattle.half_band.specs.HbfDecCascade.{cascade_of, told_cascade, dec_cascade_fresh, dec_cascade_opening, dec_cascade_reset, block_by, span_by, MeetsBy};
 
-use crate::half_band::{TAPE, decimate_in_place};
 use crate::hbf_taps::{Db98, Db140, StageTable, stage_at};
-use crate::limits::{DEC_CASCADE_DELAYS, MOST_DEPTH, rate_change, state_answer};
+use crate::in_place::decimate_at_end;
+use crate::limits::{DEC_CASCADE_DELAYS, DEC_DELAYS, MOST_DEPTH, rate_change, state_answer};
 use refusal::Refusal;
 use refusal::rows::{outside, samples_refused};
 use std::marker::PhantomData;
@@ -28,33 +28,40 @@ pub type HbfDecCascade = DecCascade<Db140>;
 
 pub type HbfDecCascade98 = DecCascade<Db98>;
 
-// The pairs of the lead and the span go through stage k, and their outputs stand in front of the span. That k is below 5 stands in five contracts of one stage: a type
+// The most samples of a chunk, three frames of the deepest cascade, and places in front of them for the longest window.
+const CHUNK: usize = 96;
+
+const TAPE: usize = DEC_DELAYS + CHUNK;
+
+// The lead and the last n values of a tape go through stage k, and their outputs stand at its end. That k is below 5 stands in five contracts of one stage: a type
 // for it would be made at each turn of the loops that call them.
 pub(crate) fn decimate_stage<T: StageTable>(
     k: usize,
     delays: &mut [f32; DEC_CASCADE_DELAYS],
     lead: Option<f32>,
-    span: &mut [f32],
+    tape: &mut [f32],
+    n: usize,
 )
-    requires { (k < 5) × (length span.old ≤ 192) }
+    requires { (k < 5) × (n + 96 ≤ length tape.old) }
     ensures { let taps = stage_taps T.table k in
         let window = take (4 * length taps) (drop (96 * k) delays.old) in
-        let led = onto lead span.old in
+        let led = onto lead (drop (length tape.old - n) tape.old) in
+        let made = outs (decimator taps) window (pairs led) in
         (delays.new ≡ spliced (96 * k) (4 * length taps) (state (decimator taps) window (pairs led)) delays.old)
-        × (span.new ≡ outs (decimator taps) window (pairs led) ++ drop (length led / 2) span.old) }
+        × (drop (length tape.old - length made) tape.new ≡ made) }
 {
     let (taps, window) = stage_at::<T>(k, 4);
-    decimate_in_place(&mut delays[window], taps, lead, span)
+    decimate_at_end(&mut delays[window], taps, lead, tape, n)
 }
 
-// The frames of src, at most a tape long, go through the stages on a tape, and an output of each fills dst. Nothing is held before them, so there is no lead.
+// The frames of src, at most a chunk, go through the stages on a tape, and an output of each fills dst. Nothing is held before them, so there is no lead.
 fn decimate_on_tape<T: StageTable>(
     depth: usize,
     delays: &mut [f32; DEC_CASCADE_DELAYS],
     src: &[f32],
     dst: &mut [f32],
 )
-    requires { (depth ≤ 5) × (length src.now ≡ length dst.old * 2 ^ depth) × (length src.now ≤ 192) }
+    requires { (depth ≤ 5) × (length src.now ≡ length dst.old * 2 ^ depth) × (length src.now ≤ 96) }
     ensures { let cascade = stream (stage_taps T.table) in
         let before = stream_of depth delays.old (replicate 5 zero32) (replicate 5 0) in
         let after = stream_of depth delays.new (replicate 5 zero32) (replicate 5 0) in
@@ -62,12 +69,12 @@ fn decimate_on_tape<T: StageTable>(
 {
     let mut n = src.len();
     let mut tape = [0.0; TAPE];
-    tape[..n].copy_from_slice(src);
+    tape[TAPE - n..].copy_from_slice(src);
     for k in 0..depth {
-        decimate_stage::<T>(k, delays, None, &mut tape[..n]);
+        decimate_stage::<T>(k, delays, None, &mut tape, n);
         n /= 2;
     }
-    dst.copy_from_slice(&tape[..n]);
+    dst.copy_from_slice(&tape[TAPE - n..]);
 }
 
 // The frames of src go through the stages, and an output of each fills dst.
@@ -84,7 +91,7 @@ fn decimate_frames<T: StageTable>(
         (after ≡ state cascade before src.now) × (dst.new ≡ outs cascade before src.now) }
 {
     let factor = rate_change(depth);
-    let most = TAPE / factor;
+    let most = CHUNK / factor;
     let frames = dst.len();
     let mut done = 0;
     // By hand: of what stands behind an iterator of `chunks_mut` a proof knows the length alone.

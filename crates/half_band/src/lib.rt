@@ -9,6 +9,7 @@ pub mod hbf_int_cascade;
 pub mod hbf_stream;
 pub mod hbf_stream_block;
 pub mod hbf_taps;
+mod in_place;
 mod limits;
 pub mod reach;
 pub mod response_length;

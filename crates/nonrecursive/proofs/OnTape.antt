@@ -1,4 +1,4 @@
--- One turn of each loop over a tape: a sample more is laid, a pair more hands its value on.
+-- One turn of each loop of a chunk: a sample more is handed on, a pair more hands its value on, read where the samples stand or on the tape.
 use mathlib.Core.Path.{◌≡◌, refl, sym, ap, ap₂, ◌∙◌}
 use mathlib.Core.List.{List, [], ◌∷◌, ◌++◌, map, map-append, append_assoc, append-nil}
 use Prim.Native.Nat.{ℕ, suc, ◌+◌, ◌*◌, ◌≤◌, ◌<◌}
@@ -6,7 +6,7 @@ use native.Mathlib.Numerals.{add-one}
 use native.Mathlib.Omega.{arith}
 use lib.IntN.{ℤ, pos}
 use lib.ListN.{length, take, drop, get_or, set, length-set, drop_of_length-le}
-use lib.Seq.{take-suc, take-suc-set, drop-cons, drop-set-lt, drop-drop, get_or-drop, get_or-take, length-take-le}
+use lib.Seq.{take-suc, take-suc-set, take_all, drop-cons, drop-set-lt, drop-drop, get_or-drop, get_or-take, length-take-le}
 use mir.Syntax.{w32}
 use Rattle.theory.specs.Wrap.{wrap}
 use Rattle.nonrecursive.specs.NonrecursiveDecimator.{summed}
@@ -96,3 +96,47 @@ module _ (N count : ℕ) (s₀ tape₀ : List ℤ) (inside : count * 2 ≤ lengt
           sym (h.state_left ∙ ap (λ (k : List ℤ). (pairs N s k).state) none),
           sym (h.vals_left ∙ ap (λ (k : List ℤ). take i tape ++ (pairs N s k).vals) none ∙ append-nil (take i tape) ∙ ap (λ (k : ℕ). take k tape) i_is),
         )
+
+-- what holds after i pairs of the values w, which stand elsewhere: what they hand on stands in front of the places
+pub record Handing (N : ℕ) (s₀ w : List ℤ) (s dst : List ℤ) (at i : ℕ) : Type 0 where
+  pub read : at ≡ 2 * i
+  pub places : length w ≡ length dst * 2
+  pub state_left : (pairs N s₀ w).state ≡ (pairs N s (drop at w)).state
+  pub vals_left : (pairs N s₀ w).vals ≡ take i dst ++ (pairs N s (drop at w)).vals
+
+module _ (N : ℕ) (s₀ w s dst : List ℤ) (at i : ℕ) (h : Handing N s₀ w s dst at i) where
+  pub handing_more :
+      i < length dst → (a b y : ℤ) (s₂ : List ℤ) → get_or w at (pos 0) ≡ a → get_or w (at + 1) (pos 0) ≡ b → s₂ ≡ (summed N (summed N s a).state b).state
+      → y ≡ (summed N (summed N s a).state b).val → Handing N s₀ w s₂ (set dst i y) (at + 2) (i + 1)
+  unfolding pairs
+  handing_more l a b y s₂ ea eb es ey =
+      let r = h.read in
+      let p = h.places in
+      let n : suc (suc at) ≡ at + 2 = omega arith in
+      let o : suc at ≡ at + 1 = omega arith in
+      let two : drop at w ≡ a ∷ b ∷ drop (at + 2) w =
+      drop-cons w at (pos 0) (omega arith)
+      ∙ ap₂ (λ (u : ℤ) (k : List ℤ). u ∷ k) ea
+      (drop-cons w (suc at) (pos 0) (omega arith) ∙ ap₂ (λ (u : ℤ) (k : List ℤ). u ∷ k) (ap (λ (k : ℕ). get_or w k (pos 0)) o ∙ eb) (ap (λ (k : ℕ). drop k w) n))
+      in
+      record {
+        read = omega arith;
+        places = p ∙ sym (ap (λ (k : ℕ). k * 2) (length-set dst i y));
+        state_left = h.state_left ∙ ap (λ (k : List ℤ). (pairs N s k).state) two ∙ ap (λ (k : List ℤ). (pairs N k (drop (at + 2) w)).state) (sym es);
+        vals_left =
+            h.vals_left
+            ∙ ap (λ (k : List ℤ). take i dst ++ (pairs N s k).vals) two
+            ∙ ap₂ (λ (u : ℤ) (k : List ℤ). take i dst ++ (u ∷ (pairs N k (drop (at + 2) w)).vals)) (sym ey) (sym es)
+            ∙ sym (append_assoc (take i dst) (y ∷ []) (pairs N s₂ (drop (at + 2) w)).vals)
+            ∙ ap (λ (k : List ℤ). k ++ (pairs N s₂ (drop (at + 2) w)).vals) (sym (ap (λ (k : ℕ). take k (set dst i y)) (add-one i) ∙ take-suc-set dst i y l));
+      }
+
+  pub handing_done : length dst ≤ i → (s ≡ (pairs N s₀ w).state) × (dst ≡ (pairs N s₀ w).vals)
+  unfolding pairs
+  handing_done g =
+      let r = h.read in
+      let p = h.places in
+      let none : drop at w ≡ [] = drop_of_length-le w (let f : length w ≤ at = omega arith in f) in (
+        sym (h.state_left ∙ ap (λ (k : List ℤ). (pairs N s k).state) none),
+        sym (h.vals_left ∙ ap (λ (k : List ℤ). take i dst ++ (pairs N s k).vals) none ∙ append-nil (take i dst) ∙ take_all i dst g),
+      )

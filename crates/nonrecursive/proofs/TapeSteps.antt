@@ -29,10 +29,10 @@ module _ (r : ℕ) (power : power_of_two r ≡ true) (more : 2 ≤ r) (fits : r 
       go (yes h) = absurd (mathlib.Core.Bool.false≢true (power_odd r more fits (omega arith) ∙ power))
       go (no h) = omega arith
 
-  half_power : power_of_two (r / 2) ≡ true
+  pub half_power : power_of_two (r / 2) ≡ true
   half_power = power_even r more fits (omega (arith, even)) ∙ power
 
-  pairs_of : (count : ℕ) → count * (r / 2) * 2 ≡ count * r
+  pub pairs_of : (count : ℕ) → count * (r / 2) * 2 ≡ count * r
   pairs_of count = mul_assoc count (r / 2) 2 ∙ ap (λ (n : ℕ). count * n) (let e : r / 2 * 2 ≡ r = omega (arith, even) in e)
 
 -- what holds where the halvings of `left` are still to come, with the neighbours from `from` on: they give of the tape's front what all halvings give of it as it was

@@ -7,13 +7,17 @@ ghost use Rattle.refusal.specs.Outcome.{none_moved, told_on};
 ghost use Rattle.nonrecursive.specs.NonrecursiveDecimator as D;
 ghost use Rattle.nonrecursive.specs.Tape.{pairs, lined, put};
 
+use crate::first::halve_first;
 use crate::nonrecursive_decimator::{
     MOST_NEIGHBOURS, nonrecursive_at, state_answer, sum_neighbours,
 };
 use refusal::{Moved, NONE_MOVED, Refusal};
 
-// The most values of a chunk.
-const TAPE: usize = 256;
+// The most samples of a chunk.
+const CHUNK: usize = 256;
+
+// What the first halving hands on of them.
+const TAPE: usize = CHUNK / 2;
 
 // A valid state's stages and factor. They go by themselves where one is enough, and where the state is not known to be valid.
 #[derive(Clone, Copy)]
@@ -50,6 +54,7 @@ fn halve_of<const N: usize>(neighbours: &mut [i32], tape: &mut [i32], count: usi
     neighbours[..N].copy_from_slice(&held);
 }
 
+#[inline(never)]
 fn halve(stages: usize, neighbours: &mut [i32], tape: &mut [i32], count: usize)
     requires { (stages ≤ length neighbours.old) × (count * 2 ≤ length tape.old) }
     ensures { let halved = pairs stages neighbours.old (take (count * 2) tape.old) in
@@ -124,41 +129,47 @@ fn one_by_one(
     }
 }
 
-// How many frames of r samples there are, for so many places; no more than a tape holds.
+// How many frames of r samples there are, for so many places; no more than a chunk has.
 fn frames_in(r: usize, samples: usize, places: usize) -> usize
     requires { 0 < r }
     ensures { (result * r ≤ samples) × (result ≤ places) × (result * r ≤ 256) }
 {
-    (samples.min(TAPE) / r).min(places)
+    (samples.min(CHUNK) / r).min(places)
 }
 
 fn blank() -> [i32; TAPE]
-    ensures { length result ≡ 256 }
+    ensures { length result ≡ 128 }
 {
     [0; TAPE]
 }
 
-// Samples to the front of the tape, each read by itself: so it is known to be an i32. By the sample's number: in a zip with `iter_mut` a proof sees an iterator
-// in place of the tape.
-fn lay(tape: &mut [i32], samples: &[i32])
-    requires { length samples.now ≤ length tape.old }
-    ensures { take (length samples.now) tape.new ≡ map (wrap w32) samples.now }
+// Samples handed on as they are, each read by itself: so it is known to be an i32. By the sample's number: in a zip with `iter_mut` a proof sees an iterator
+// in place of dst.
+fn hand_on(dst: &mut [i32], samples: &[i32])
+    requires { length samples.now ≡ length dst.old }
+    ensures { dst.new ≡ map (wrap w32) samples.now }
 {
     for (i, sample) in samples.iter().enumerate() {
-        tape[i] = *sample;
+        dst[i] = *sample;
     }
 }
 
-// A frame of r samples for each place of dst, where the place is 0: they go through the halvings on a tape.
+// A frame of r samples for each place of dst, where the place is 0: the first halving reads them, the others go on a tape.
 fn chunk(settings: Settings, neighbours: &mut [i32; MOST_NEIGHBOURS], src: &[i32], dst: &mut [i32])
     requires { (length src.now ≡ length dst.old * settings.r) × (length src.now ≤ 256) }
     ensures sums { dst.new ≡ outs D.nonrecursive (D.nonrecursive_of settings.stages settings.r neighbours.old 0) src.now }
     ensures state { D.nonrecursive_of settings.stages settings.r neighbours.new 0 ≡ state D.nonrecursive (D.nonrecursive_of settings.stages settings.r neighbours.old 0) src.now }
 {
+    if settings.r < 2 {
+        hand_on(dst, src);
+        return;
+    }
     let count = dst.len();
+    let half = settings.r / 2;
+    let stages = settings.stages;
     let mut tape = blank();
-    lay(&mut tape, src);
-    thin_tape(settings.stages, settings.r, neighbours, &mut tape, count);
+    halve_first(stages, neighbours, src, &mut tape[..count * half]);
+    thin_tape(stages, half, &mut neighbours[stages..], &mut tape, count);
     dst.copy_from_slice(&tape[..count]);
 }
 

@@ -2,6 +2,7 @@
 #![tactic(auto)]
 
 pub mod block;
+mod first;
 pub mod nonrecursive_decimator;
 pub mod thinning;
 

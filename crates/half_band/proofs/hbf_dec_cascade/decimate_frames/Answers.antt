@@ -1,4 +1,4 @@
--- A turn takes as many frames as a tape has places for, and its outputs stand behind those before (`Turn`).
+-- A turn takes as many frames as a chunk has, and its outputs stand behind those before (`Turn`).
 use Rattle.std.proofs.Common.{◌≡◌, ℕ, ◌+◌, ◌-◌, ◌*◌, ◌≤◌, List, length, take, drop, sym, ap, subst, ◌∙◌, arith, length-drop, length-take-le, Float}
 use native.Mathlib.Nat.{le_of_lt, add-sub_of_le}
 use Rattle.half_band.specs.HbfTaps.{stage_taps}
@@ -25,7 +25,7 @@ decimate_on_tape-requires g c =
     let dst = inside (e - d) d c.loop-done.dst (omega (arith, t.more, t.most)) in (
       c.requires.0,
       src ∙ t.count ∙ ap (λ (n : ℕ). n * f) (sym dst) ∙ ap (λ (n : ℕ). length (take (e - d) (drop d c.loop-done.dst)) * n) c.rate_change-factor.ensures,
-      subst (λ (n : ℕ). n ≤ 192) (sym src) t.on_tape,
+      subst (λ (n : ℕ). n ≤ 96) (sym src) t.in_chunk,
     )
 
 pub loop-done-preserved : goal.loop-done-preserved
@@ -51,6 +51,11 @@ loop-done-preserved g c =
       so_far = subst (λ (k : ℕ). Emitted section s a.src.now a.dst.now u span (e * f) k) (add-sub_of_le (le_of_lt t.more))
           (subst (λ (i : ℕ). Emitted section s a.src.now a.dst.now u span i (d + (e - d))) (add-sub_of_le t.before) all);
     }
+
+pub loop-done-smaller : goal.loop-done-smaller
+loop-done-smaller g c =
+    let t = turn c.rate_change-factor.result c.args.depth (length c.args.dst.now) c.loop-done.done c.min-end.result c.rate_change-factor.ensures c.requires.0 c.loop-done-test.true c.min-end.ensures in
+    omega (arith, t.more, t.most)
 
 pub returns : goal.returns
 returns g c =
