@@ -1,12 +1,11 @@
 -- `HbfDecCascade`: a block's frames fill the span's places in step, and the opening's claims follow from those of the streaming cascade.
 use mathlib.Core.Path.{◌≡◌, sym, ap, ◌∙◌, subst}
-use mathlib.Core.List.{List, ◌++◌, append_assoc}
+use mathlib.Core.List.{List}
 use Prim.Native.Nat.{ℕ, zero, suc, ◌+◌, ◌-◌, ◌*◌, ◌/◌, ◌^◌, ◌≤◌, ◌<◌, min}
 use native.Mathlib.Nat.{le_trans, sub-zero, mul-one, mul_left_comm, add-mul, mul-le-mul_right, div-mul-le_self, pow-zero, pow-succ'}
 use native.Mathlib.Omega.{arith}
 use lib.Dec.{lit≤}
-use lib.ListN.{length, take, drop, replicate, length-replicate, get_or-replicate, length-append, length-drop}
-use lib.Seq.{length-take-le, take_at}
+use lib.ListN.{length, drop, replicate, length-replicate, get_or-replicate, length-drop}
 use lib.Ieee.{Float, nan}
 use Rattle.theory.specs.Sections.{Section, state, outs}
 use Rattle.float.specs.F32.{zero32}

@@ -2,13 +2,13 @@
 -- make of the values there what all make of the block.
 use mathlib.Core.Path.{◌≡◌, refl, sym, ap, ◌∙◌, subst}
 use mathlib.Core.Bool.{cond}
-use mathlib.Core.List.{List, [], ◌∷◌, ◌++◌, append_assoc}
+use mathlib.Core.List.{List, [], ◌∷◌, ◌++◌}
 use Rattle.std.specs.Bool.{then_some}
 use Prim.Native.Nat.{ℕ, zero, suc, ◌+◌, ◌-◌, ◌*◌, ◌/◌, ◌%◌, ◌≤◌, ◌<◌, min}
 use native.Mathlib.Omega.{arith}
 use lib.Dec.{eqb}
 use lib.ListN.{length, get_or, set, take, drop, length-append, length-drop}
-use lib.Seq.{length-take-le, take_at, take_all, get_or-append-add}
+use lib.Seq.{length-take-le, get_or-append-add}
 use lib.Ieee.{Float, nan}
 use Rattle.theory.specs.Sections.{onto, Section, state, outs}
 use Rattle.float.specs.F32.{zero32}

@@ -1,5 +1,5 @@
 -- Each turn is one stage over the values that the one before made (`Shrinking`).
-use Rattle.std.proofs.Common.{◌≡◌, ℕ, ◌-◌, ◌≤◌, length, drop, sym, ap, ◌∙◌, arith, length-drop}
+use Rattle.std.proofs.Common.{◌≡◌, ℕ, ◌-◌, length, drop, sym, ap, ◌∙◌, arith, length-drop}
 use lib.ListN.{replicate, length-replicate}
 use borrow.Rule.Slice.PartMut.{put_mid}
 use Rattle.float.specs.F32.{zero32}

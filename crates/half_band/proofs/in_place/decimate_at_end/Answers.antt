@@ -1,8 +1,6 @@
 -- The line is the tape from the window's place on (`led_is`, `end_is`).
-use Rattle.std.proofs.Common.{◌≡◌, Bool, List, [], length, drop, ap, ◌∙◌, Float}
+use Rattle.std.proofs.Common.{Bool, ap, ◌∙◌}
 use mir.Val.{bool_byte}
-use Rattle.theory.specs.Sections.{onto, state}
-use Rattle.half_band.specs.Windows.{pairs, decimator}
 use Rattle.half_band.proofs.InPlace.{lead_counts, none_in, led_is, end_is}
 use Rattle.half_band.proofs.in_place.decimate_at_end.Goals as goal
 

@@ -1,5 +1,5 @@
 -- A turn's window stands as it was (`InPlace`), and its output is put before those that are there.
-use Rattle.std.proofs.Common.{◌≡◌, ℕ, ◌+◌, ◌-◌, ◌*◌, ◌/◌, ◌≤◌, length, take, drop, refl, ap, ◌∙◌, arith}
+use Rattle.std.proofs.Common.{◌≡◌, ℕ, ◌+◌, ◌-◌, ◌*◌, length, take, drop, refl, ap, ◌∙◌, arith}
 use Rattle.half_band.specs.Windows.{dec_value}
 use Rattle.half_band.proofs.InPlace.{backward_start, backward_more, backward_done}
 use Rattle.half_band.proofs.in_place.decimate_back.Goals as goal
