@@ -1,5 +1,5 @@
 #!/usr/bin/env bash
-# Prints the path of the archive that callers link: the one that GAUGE_ARCHIVE names, else the proved one. That one is trusted by digests: of its sources and the kit, and of itself.
+# Prints the path of the archive that callers link: the one that GAUGE_ARCHIVE names, else the proved one. That one is trusted by digests: of its sources, the kit and the script that makes it, and of itself.
 # Where one differs it is proved again.
 set -euo pipefail
 . "$(dirname "$0")/common.sh"
@@ -11,7 +11,7 @@ if [[ -n ${GAUGE_ARCHIVE:-} ]]; then
 fi
 host/kit.sh
 made=$target/staticlib/gauge_line.digest
-if ! { [[ -f $made && $(head -n 1 "$made") == "$(host/digest.sh)" ]] &&
+if ! { [[ -f $made && $(head -n 1 "$made") == "$(made_of)" ]] &&
     (cd "$target/staticlib" && tail -n +2 "$made" | sha256sum --check --status --strict); }; then
     host/prove.sh
 fi

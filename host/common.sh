@@ -44,3 +44,8 @@ shown() {
 in_crate() {
     (cd "crates/$1" && rt "${@:2}")
 }
+
+# made_of: the digest of all that the archive is proved of, and that of the script that has it made.
+made_of() {
+    echo "$(host/digest.sh) $(sha256sum <host/prove.sh | cut -c 1-64)"
+}

@@ -52,7 +52,7 @@ built() {
 rm -rf "$to"
 mkdir -p "$to"
 like_toolchain
-sources=$(host/digest.sh)
+sources=$(made_of)
 echo "proving the archive: minutes from a fresh clone, less where crates are unchanged" >&2
 if ! { proved && built; } 2>&1 | tee "$log" | { grep --line-buffered '^rt: ' || true; } >&2; then
     tail -n 20 "$log" >&2
