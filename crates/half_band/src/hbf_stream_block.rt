@@ -96,6 +96,9 @@ pub fn hbf_stream_block_at(
         n + 96 ≤ length tape.old → result ≡ stream_block_made before (drop (length tape.old - n) tape.old) }
     ensures end { let before = stream_of depth delays.old held.old counts.old in
         n + 96 ≤ length tape.old → drop (length tape.old - result) tape.new ≡ stream_block_outs before (drop (length tape.old - n) tape.old) }
+    ensures without_room { let before = stream_of depth delays.old held.old counts.old in
+        let after = stream_of depth delays.new held.new counts.new in
+        length tape.old < n + 96 → (result ≡ 0) × (after ≡ before) × (tape.new ≡ tape.old) }
 {
     if tape.len() < DEC_DELAYS || tape.len() - DEC_DELAYS < n || MOST_STREAM_BLOCK < n {
         return 0;
