@@ -19,7 +19,7 @@ fir_settings_of s tap_count = record { tap_count = tap_count; factor = s.factor 
 
 -- what the resampler is opened with
 abbrev pub setting_of : Settings → Setting
-setting_of s = record { phases = s.phases; taps = s.taps; straight = s.straight; step = s.step }
+setting_of s = record { phases = s.phases; phase_taps = s.phase_taps; straight = s.straight; step = s.step }
 
 abbrev pub thinner_of : Fixed → ℕ → List ℤ → List ℤ → List ℤ → E.Thinner
 thinner_of f counter integrators combs neighbours = E.thinner_of f.settings.thinning f.settings.stages f.settings.r integrators combs neighbours counter
@@ -31,7 +31,7 @@ abbrev pub half_band_of : Fixed → List Float → List Float → List ℕ → H
 half_band_of f delays held counts = stream_of f.settings.depth delays held counts
 
 abbrev pub resampler_of : Fixed → Float → List Float → List Float → PolyphaseResampF32
-resampler_of f mu delay prototype = let s = f.settings in R.together s.straight s.phases s.taps mu s.step delay prototype
+resampler_of f mu delay prototype = let s = f.settings in R.together s.straight s.phases s.phase_taps mu s.step delay prototype
 
 -- the states of a section and of those behind it
 abbrev pub levels_on : HbfStream → PolyphaseResampF32 → PartsLevels

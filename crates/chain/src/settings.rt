@@ -14,7 +14,7 @@ pub struct Settings {
     pub factor: usize,
     pub depth: usize,
     pub phases: usize,
-    pub taps: usize,
+    pub phase_taps: usize,
     pub straight: bool,
     pub step: f32,
     // 02, §13: what section 1 thins by.
@@ -38,7 +38,7 @@ impl Settings {
     {
         Setting {
             phases: self.phases,
-            taps: self.taps,
+            phase_taps: self.phase_taps,
             straight: self.straight,
             step: self.step,
         }

@@ -158,11 +158,11 @@ due_between straight P T step d e h s₀ xs o₀ t alike mu w o b f q =
 
 -- and with no samples to consume they are a run
 pub emitted_ran :
-    (q : Setting) (mu : Float) (h d o₀ : List Float) (e : Emitted) → in_limits q.phases q.taps ≡ true
-    → e ≡ emitted_from q.straight q.phases q.taps q.step d h mu 0 o₀ → RanTo q mu h d [] o₀ (record { taken = 0; written = e.written }) e.mu d e.span
+    (q : Setting) (mu : Float) (h d o₀ : List Float) (e : Emitted) → in_limits q.phases q.phase_taps ≡ true
+    → e ≡ emitted_from q.straight q.phases q.phase_taps q.step d h mu 0 o₀ → RanTo q mu h d [] o₀ (record { taken = 0; written = e.written }) e.mu d e.span
 unfolding emitted_from resampler
 emitted_ran q mu h d o₀ e l same =
-    let made = due_between q.straight q.phases q.taps q.step d d h (state_of q mu d h) [] o₀ 0 (λ mu'. refl) mu 0 o₀ (between_start resampler (state_of q mu d h) [] o₀) e (rw l at same) in
+    let made = due_between q.straight q.phases q.phase_taps q.step d d h (state_of q mu d h) [] o₀ 0 (λ mu'. refl) mu 0 o₀ (between_start resampler (state_of q mu d h) [] o₀) e (rw l at same) in
     finished q mu h d [] o₀ (record { taken = 0; written = e.written }) e.mu d e.span made.0 (go e made.0 made.1 (ltb e.written (length e.span)) refl)
   where
     go :
@@ -224,7 +224,7 @@ PushMade s x before after r = (r ≡ push_outcome s x before) × (after ≡ push
 
 pub push_ran :
     (q : Setting) (mu₀ : Float) (d₀ h : List Float) (x : Float) (before : List Float) (r : Moved) (mu : Float) (d₁ d after : List Float)
-    → valid (state_of q mu₀ d₀ h) ≡ true → d₁ ≡ shifted_in q.taps x d₀ → RanTo q (sub binary32 mu₀ one32) h d₁ [] before r mu d after
+    → valid (state_of q mu₀ d₀ h) ≡ true → d₁ ≡ shifted_in q.phase_taps x d₀ → RanTo q (sub binary32 mu₀ one32) h d₁ [] before r mu d after
     → PushMade (state_of q mu₀ d₀ h) x before after (record { number = 0; value = r.written; state = state_of q mu d h })
 unfolding push_outcome push_span push
 push_ran q mu₀ d₀ h x before r mu d₁ d after v k e =

@@ -208,10 +208,10 @@ together straight P T mu step d h = record { phases = P; taps = T; straight = st
 
 -- and of which a call is lent the arrays and mu beside what its opening set
 abbrev pub state_of : Setting → Float → List Float → List Float → PolyphaseResampF32
-state_of q mu d h = together q.straight q.phases q.taps mu q.step d h
+state_of q mu d h = together q.straight q.phases q.phase_taps mu q.step d h
 
 abbrev pub setting_of : PolyphaseResampF32 → Setting
-setting_of s = record { phases = s.phases; taps = s.taps; straight = s.straight; step = s.step }
+setting_of s = record { phases = s.phases; phase_taps = s.taps; straight = s.straight; step = s.step }
 
 -- what a run from mu₀ left: the counts r, mu and the delay d are those of the feed, and the span o is o₀ with the outputs in front
 abbrev pub ran : Setting → Float → List Float → List Float → List Float → List Float → Fed PolyphaseResampF32 Float

@@ -43,11 +43,11 @@ impl Reading<'_> {
     // What is due from mu on is written from the place `from` of dst on, as long as it has a place. No range: mu says how many are due, and a `for` over the places
     // would count those written too, and break where mu is past.
     pub(crate) fn write_due(self, delay: &[f32], mu: f32, dst: &mut [f32], from: usize) -> Due
-        requires { self.setting.taps ≤ length delay.now }
+        requires { self.setting.phase_taps ≤ length delay.now }
         ensures { let before = dst.old in
             let r = self.entry in
             let s = r.setting in
-            R.told_due result dst.new ≡ R.emitted s.straight s.phases s.taps s.step delay.now r.prototype.now (length before - from) mu from before }
+            R.told_due result dst.new ≡ R.emitted s.straight s.phases s.phase_taps s.step delay.now r.prototype.now (length before - from) mu from before }
     {
         let mut next = mu;
         let mut written = from;
@@ -72,9 +72,9 @@ impl Setting {
         dst: &mut [f32],
         from: usize,
     ) -> Due
-        ensures { R.told_due result dst.new ≡ R.emitted_from self.straight self.phases self.taps self.step delay.now prototype.now mu from dst.old }
+        ensures { R.told_due result dst.new ≡ R.emitted_from self.straight self.phases self.phase_taps self.step delay.now prototype.now mu from dst.old }
     {
-        if !in_limits(self.phases, self.taps) {
+        if !in_limits(self.phases, self.phase_taps) {
             return Due { mu, written: from };
         }
         // Mostly none is due, and then no reading is made ready for one.

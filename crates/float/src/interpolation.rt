@@ -15,7 +15,7 @@ pub(crate) struct Reading<'a> {
     pub prototype: &'a [f32; MOST_CELLS],
     pub setting: Setting,
     ghost phases_inside: { (R.least_phases ≤ setting.phases) × (setting.phases ≤ R.most_phases) },
-    ghost taps_inside: { (R.least_taps ≤ setting.taps) × (setting.taps ≤ R.most_taps) },
+    ghost taps_inside: { (R.least_taps ≤ setting.phase_taps) × (setting.phase_taps ≤ R.most_taps) },
 }
 
 // The first places: P in wrapped phase; one more in straight phase, at q = P.
@@ -59,7 +59,7 @@ impl<'a> Reading<'a> {
     // For a caller that has tested the setting: what each answers to one outside the limits is its own.
     #[inline(always)]
     pub(crate) fn of(prototype: &'a [f32; MOST_CELLS], setting: Setting) -> Reading<'a>
-        requires { R.in_limits setting.phases setting.taps ≡ true }
+        requires { R.in_limits setting.phases setting.phase_taps ≡ true }
         ensures { (result.prototype.now ≡ prototype.now) × (result.setting ≡ setting) }
     {
         Reading { prototype, setting }
@@ -68,11 +68,11 @@ impl<'a> Reading<'a> {
     // The P × T cells.
     fn cells(self) -> &'a [f32]
         ensures { let r = self.entry in
-            let n = r.setting.phases * r.setting.taps in
+            let n = r.setting.phases * r.setting.phase_taps in
             (result.now ≡ take n r.prototype.now) × (length result.now ≡ n) }
     {
         let prototype = self.prototype;
-        &prototype[..self.setting.phases * self.setting.taps]
+        &prototype[..self.setting.phases * self.setting.phase_taps]
     }
 }
 
@@ -108,15 +108,15 @@ impl Reading<'_> {
     // In straight phase, the sums from place p, at the prototype's end, and from the next place on, f of the way from the one to the other. But for the last tap
     // both places lie before the end; past it a tap is 0.0.
     fn blended_at_the_end(self, delay: &[f32], p: usize, f: f32) -> f32
-        requires { (length delay.now ≡ self.setting.taps) × (p ≤ self.setting.phases) }
+        requires { (length delay.now ≡ self.setting.phase_taps) × (p ≤ self.setting.phases) }
         ensures { let r = self.entry in
             let h = r.prototype.now in
             let d = delay.now in
             let P = r.setting.phases in
-            let T = r.setting.taps in
+            let T = r.setting.phase_taps in
             result ≡ blend (phase_sum (straight_tap h P T p) d T) (phase_sum (straight_tap h P T (p + 1)) d T) f }
     {
-        let last = self.setting.taps - 1;
+        let last = self.setting.phase_taps - 1;
         let (y0, y1) = self.summed(&delay[..last], p, p + 1);
         let cells = self.cells();
         let from = last * self.setting.phases;
@@ -129,13 +129,13 @@ impl Reading<'_> {
     // One output at a mu that is cut, by the setting. Below the last phase both settings read the same cells. There and at the end in straight phase the two places
     // are neighbours, which the compiler reads as pairs: so these calls say `p + 1`, and wrapped phase, which goes back to the first, has one of its own.
     pub(crate) fn interpolate(self, delay: &[f32], mu: f32) -> f32
-        requires { (self.setting.taps ≤ length delay.now) × (mu ≡ cut_unit mu) }
+        requires { (self.setting.phase_taps ≤ length delay.now) × (mu ≡ cut_unit mu) }
         ensures { let r = self.entry in
-            result ≡ output r.setting.straight r.setting.phases r.setting.taps mu delay.now r.prototype.now }
+            result ≡ output r.setting.straight r.setting.phases r.setting.phase_taps mu delay.now r.prototype.now }
     {
         let phases = self.setting.phases as u32;
         let straight = self.setting.straight;
-        let window = &delay[..self.setting.taps];
+        let window = &delay[..self.setting.phase_taps];
         let q = (1.0 - mu) * (phases as f32);
         let place = first_place(straight, q, phases);
         let f = q - (place as f32);
@@ -159,9 +159,9 @@ impl Setting {
         delay: &[f32; MOST_PHASE_TAPS],
         mu: f32,
     ) -> f32
-        ensures { result ≡ (if R.in_limits self.phases self.taps then output self.straight self.phases self.taps mu delay.now prototype.now else zero32) }
+        ensures { result ≡ (if R.in_limits self.phases self.phase_taps then output self.straight self.phases self.phase_taps mu delay.now prototype.now else zero32) }
     {
-        if !in_limits(self.phases, self.taps) {
+        if !in_limits(self.phases, self.phase_taps) {
             return 0.0;
         }
         Reading::of(prototype, self).interpolate(delay, mu.clamp(0.0, 1.0))

@@ -18,12 +18,12 @@ impl Setting {
     // Rows 12, 13 and 14 of a prototype of so many cells. Which steps are fine is the caller's: a line takes fewer than a resampler alone.
     #[tactic(auto, using(crate::proofs::PolyphaseOutput::few_cells, crate::proofs::PolyphaseOutput::limits_say))]
     pub fn settings_answer(self, cells: usize, step_fine: bool) -> Result<(), Refusal>
-        ensures { number_in result ≡ R.settings_number self.phases self.taps cells step_fine }
+        ensures { number_in result ≡ R.settings_number self.phases self.phase_taps cells step_fine }
     {
-        if !in_limits(self.phases, self.taps) {
+        if !in_limits(self.phases, self.phase_taps) {
             return Err(Refusal::Phases);
         }
-        if cells != self.phases * self.taps {
+        if cells != self.phases * self.phase_taps {
             return Err(Refusal::Prototype);
         }
         if !step_fine {
@@ -35,7 +35,7 @@ impl Setting {
     // Those of a resampler alone.
     #[tactic(auto, using(crate::proofs::PolyphaseCalls::opening_number))]
     fn answer(self, prototype: &[f32]) -> Result<(), Refusal>
-        ensures { number_in result ≡ (R.opening self.straight self.phases self.taps prototype.now self.step).number }
+        ensures { number_in result ≡ (R.opening self.straight self.phases self.phase_taps prototype.now self.step).number }
     {
         self.settings_answer(prototype.len(), above_zero(self.step))
     }
@@ -50,11 +50,11 @@ impl Setting {
         cells: &mut [f32; MOST_CELLS],
     )
         ensures { let own = R.own_taps (R.state_of self mu.old delay.old cells.old) in
-            R.state_of self mu.new delay.new cells.new ≡ R.fresh self.straight self.phases self.taps own self.step }
+            R.state_of self mu.new delay.new cells.new ≡ R.fresh self.straight self.phases self.phase_taps own self.step }
     {
         *mu = 1.0;
         delay.fill(0.0);
-        keep(cells, self.phases.saturating_mul(self.taps));
+        keep(cells, self.phases.saturating_mul(self.phase_taps));
     }
 
     // The state of a refused opening, and in the line of a resampler that is off. A leaf for both.
@@ -71,7 +71,7 @@ impl Setting {
         cells.fill(0.0);
         Setting {
             phases: 0,
-            taps: 0,
+            phase_taps: 0,
             straight: false,
             step: 0.0,
         }
@@ -86,8 +86,8 @@ impl Setting {
         cells: &mut [f32; MOST_CELLS],
     ) -> Result<(), Refusal>
         ensures answer { told_reset result (R.state_of self.new mu.new delay.new cells.new)
-            ≡ R.opening self.old.straight self.old.phases self.old.taps prototype.now self.old.step }
-        ensures whole { W.Opens self.old.straight self.old.phases self.old.taps prototype.now self.old.step
+            ≡ R.opening self.old.straight self.old.phases self.old.phase_taps prototype.now self.old.step }
+        ensures whole { W.Opens self.old.straight self.old.phases self.old.phase_taps prototype.now self.old.step
             (told_reset result (R.state_of self.new mu.new delay.new cells.new)) }
     {
         let wanted = *self;

@@ -57,12 +57,12 @@ impl PolyphaseResampF32 {
     // go, would not do: it keeps P × T places of a prototype, and this keeps all that there are places for.
     #[tactic(auto, unfolding(crate::specs::PolyphaseResamp::fresh))]
     pub fn fresh(setting: Setting, prototype: &[f32]) -> Self
-        ensures { result ≡ R.fresh setting.straight setting.phases setting.taps prototype.now setting.step }
+        ensures { result ≡ R.fresh setting.straight setting.phases setting.phase_taps prototype.now setting.step }
     {
         let count = prototype.len().min(MOST_CELLS);
         PolyphaseResampF32 {
             phases: setting.phases,
-            taps: setting.taps,
+            taps: setting.phase_taps,
             straight: setting.straight,
             mu: 1.0,
             step: setting.step,
@@ -77,7 +77,7 @@ impl PolyphaseResampF32 {
     {
         Setting {
             phases: self.phases,
-            taps: self.taps,
+            phase_taps: self.taps,
             straight: self.straight,
             step: self.step,
         }

@@ -42,7 +42,7 @@ impl Reading<'_> {
     ) -> Moved
         ensures { R.RanTo self.entry.setting mu.old self.entry.prototype.now delay.old src.now dst.old result mu.new delay.new dst.new }
     {
-        let taps = self.setting.taps;
+        let taps = self.setting.phase_taps;
         let mut tape = [0.0f32; TAPE];
         put_at_end(&mut tape, &delay[..taps]);
         let mut newest = TAPE - taps;
@@ -101,7 +101,7 @@ impl Setting {
         ensures span { out.new ≡ R.push_span (R.state_of self mu.old delay.old prototype.now) x out.old }
     {
         self.state_answer(*mu)?;
-        shift_in(delay, self.taps, x);
+        shift_in(delay, self.phase_taps, x);
         let due = self.write_due(prototype, delay, *mu - 1.0, out, 0);
         *mu = due.mu;
         Ok(due.written)

@@ -27,7 +27,7 @@ const MOST_LINE_STEP: f32 = 64.0;
 #[derive(Clone, Copy)]
 pub struct Setting {
     pub phases: usize,
-    pub taps: usize,
+    pub phase_taps: usize,
     pub straight: bool,
     pub step: f32,
 }
@@ -68,17 +68,17 @@ impl Setting {
     // Whether a call at this mu is not refused by 15.
     #[tactic(auto, unfolding(crate::specs::PolyphaseResamp::valid_at))]
     pub fn is_valid(self, mu: f32) -> bool
-        ensures { result ≡ R.valid_at self.phases self.taps self.step mu }
+        ensures { result ≡ R.valid_at self.phases self.phase_taps self.step mu }
     {
-        in_limits(self.phases, self.taps)
+        in_limits(self.phases, self.phase_taps)
             && (above_zero(self.step) && mu_from(LOWEST_MU, self.step, mu))
     }
 
     // Row 15 of a state at this mu.
     #[inline(always)]
     pub(crate) fn state_answer(self, mu: f32) -> Result<(), Refusal>
-        ensures number { number_in result ≡ cond (R.valid_at self.phases self.taps self.step mu) 0 15 }
-        ensures valid { IfOk result (λ _. R.valid_at self.phases self.taps self.step mu ≡ true) }
+        ensures number { number_in result ≡ cond (R.valid_at self.phases self.phase_taps self.step mu) 0 15 }
+        ensures valid { IfOk result (λ _. R.valid_at self.phases self.phase_taps self.step mu ≡ true) }
     {
         if !self.is_valid(mu) {
             return Err(Refusal::State);
@@ -89,12 +89,12 @@ impl Setting {
     // Whether a feed at this mu is not refused by 15: P = 0 means off.
     #[tactic(auto, unfolding(crate::specs::PolyphaseResamp::valid_in_line_at))]
     pub fn is_valid_in_line(self, mu: f32) -> bool
-        ensures { result ≡ R.valid_in_line_at self.phases self.taps self.step mu }
+        ensures { result ≡ R.valid_in_line_at self.phases self.phase_taps self.step mu }
     {
         if self.phases == 0 {
             return true;
         }
-        in_limits(self.phases, self.taps)
+        in_limits(self.phases, self.phase_taps)
             && (step_in_line(self.step) && mu_from(0.0, self.step, mu))
     }
 }

@@ -122,7 +122,7 @@ numbers_by stages r counter tap_count factor wait depth phases phase_taps straig
             factor = factor;
             depth = depth;
             phases = phases;
-            taps = phase_taps;
+            phase_taps = phase_taps;
             straight = is_set straight;
             step = step;
             thinning = kind_of kind;

@@ -36,7 +36,7 @@ pub extern "C" fn gauge_raw_plan_3(
           factor = factor;
           depth = depth;
           phases = phases;
-          taps = phase_taps;
+          phase_taps = phase_taps;
           straight = is_set straight;
           step = step;
           thinning = kind_of thinning;
@@ -50,7 +50,7 @@ pub extern "C" fn gauge_raw_plan_3(
           factor = factor;
           depth = depth;
           phases = phases;
-          taps = phase_taps;
+          phase_taps = phase_taps;
           straight = is_set straight;
           step = step;
           thinning = kind_of thinning;
@@ -65,7 +65,7 @@ pub extern "C" fn gauge_raw_plan_3(
         factor,
         depth,
         phases,
-        taps: phase_taps,
+        phase_taps: phase_taps,
         straight: is_set(straight),
         step,
         thinning: kind(thinning),

@@ -70,7 +70,7 @@ pub extern "C" fn gauge_raw_line_open_3(
           factor = wanted_factor;
           depth = wanted_depth;
           phases = wanted_phases;
-          taps = wanted_phase_taps;
+          phase_taps = wanted_phase_taps;
           straight = is_set wanted_straight;
           step = wanted_step;
           thinning = kind_of wanted_thinning;
@@ -86,7 +86,7 @@ pub extern "C" fn gauge_raw_line_open_3(
         factor: wanted_factor,
         depth: wanted_depth,
         phases: wanted_phases,
-        taps: wanted_phase_taps,
+        phase_taps: wanted_phase_taps,
         straight: is_set(wanted_straight),
         step: wanted_step,
         thinning: kind(wanted_thinning),

@@ -32,7 +32,7 @@ pub(crate) fn numbers(
             factor,
             depth,
             phases,
-            taps: phase_taps,
+            phase_taps: phase_taps,
             straight: is_set(straight),
             step,
             thinning: kind(thinning),
@@ -75,7 +75,7 @@ pub(crate) fn put_numbers(
     *factor = s.factor;
     *depth = s.depth;
     *phases = s.phases;
-    *phase_taps = s.taps;
+    *phase_taps = s.phase_taps;
     *step = s.step;
     put_clock(next, sample_counter, wait, straight, mu, cuts, thinning);
 }

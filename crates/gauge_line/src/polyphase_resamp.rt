@@ -12,11 +12,11 @@ use refusal::NONE_MOVED;
 
 // What an opening set, of the numbers that a caller lends.
 fn setting(phases: usize, taps: usize, straight: usize, step: f32) -> Setting
-    ensures { result ≡ record { phases = phases; taps = taps; straight = is_set straight; step = step } }
+    ensures { result ≡ record { phases = phases; phase_taps = taps; straight = is_set straight; step = step } }
 {
     Setting {
         phases,
-        taps,
+        phase_taps: taps,
         straight: is_set(straight),
         step,
     }
@@ -30,11 +30,11 @@ fn put_setting(
     straight: &mut usize,
     step: &mut f32,
 )
-    ensures state { (phases.new ≡ next.phases) × (taps.new ≡ next.taps) × (is_set straight.new ≡ next.straight) × (step.new ≡ next.step) }
+    ensures state { (phases.new ≡ next.phases) × (taps.new ≡ next.phase_taps) × (is_set straight.new ≡ next.straight) × (step.new ≡ next.step) }
     ensures setting { IsFlag straight.new }
 {
     *phases = next.phases;
-    *taps = next.taps;
+    *taps = next.phase_taps;
     *straight = flag(next.straight);
     *step = next.step;
 }
@@ -61,7 +61,7 @@ pub extern "C" fn gauge_raw_polyphase_resamp_from_taps(
 {
     let mut opened = Setting {
         phases: wanted_phases,
-        taps: wanted_taps,
+        phase_taps: wanted_taps,
         straight: false,
         step: wanted_step,
     };
@@ -92,7 +92,7 @@ pub extern "C" fn gauge_raw_polyphase_resamp_from_taps_straight(
 {
     let mut opened = Setting {
         phases: wanted_phases,
-        taps: wanted_taps,
+        phase_taps: wanted_taps,
         straight: true,
         step: wanted_step,
     };

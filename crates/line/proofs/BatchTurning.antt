@@ -35,7 +35,7 @@ unfolding fine
 valid_of l h = (and_parts (valid_at l.thinning l.cic.stages l.cic.r l.cic.sample_counter) _ h).0
 
 module _ {l₀ : Line} {xs : List ℤ} {out₀ out : List Float} {l : Line} {t w : ℕ} (mid : Midway line 64 Good line_lawful l₀ xs out₀ out l t w)
-    {q : Setting} (setting : q ≡ setting_of l.resampler) {e : Emitted} (due : e ≡ emitted_from q.straight q.phases q.taps q.step l.resampler.delay l.resampler.prototype l.resampler.mu w out) where
+    {q : Setting} (setting : q ≡ setting_of l.resampler) {e : Emitted} (due : e ≡ emitted_from q.straight q.phases q.phase_taps q.step l.resampler.delay l.resampler.prototype l.resampler.mu w out) where
   abbrev quiet : Drained l₀ xs out₀ l t e
   quiet = emptied mid setting due
 

@@ -46,8 +46,8 @@ passed false x q e = absurd (omega arith)
 
 -- the resampler's settings, where it is on
 pub record On (o : Opening) : Type 0 where
-  pub limits : in_limits o.settings.phases o.settings.taps ≡ true
-  pub long : length o.prototype ≡ o.settings.phases * o.settings.taps
+  pub limits : in_limits o.settings.phases o.settings.phase_taps ≡ true
+  pub long : length o.prototype ≡ o.settings.phases * o.settings.phase_taps
   pub step : step_in_line o.settings.step ≡ true
 
 pub record Accepted (o : Opening) : Type 0 where
@@ -80,18 +80,18 @@ accepted o e =
     not_deep false r = refl
 
     on :
-        ◌≡◌ {A = ℕ} (cond (in_limits o.settings.phases o.settings.taps) (cond (eqb (length o.prototype) (o.settings.phases * o.settings.taps)) (cond (step_in_line o.settings.step) 0 14) 13) 12) 0
+        ◌≡◌ {A = ℕ} (cond (in_limits o.settings.phases o.settings.phase_taps) (cond (eqb (length o.prototype) (o.settings.phases * o.settings.phase_taps)) (cond (step_in_line o.settings.step) 0 14) 13) 12) 0
         → On o
     on r =
-        let u = passed (in_limits o.settings.phases o.settings.taps) _ 11 r in
-        let v = passed (eqb (length o.prototype) (o.settings.phases * o.settings.taps)) _ 12 u.1 in
+        let u = passed (in_limits o.settings.phases o.settings.phase_taps) _ 11 r in
+        let v = passed (eqb (length o.prototype) (o.settings.phases * o.settings.phase_taps)) _ 12 u.1 in
         let w = passed (step_in_line o.settings.step) 0 13 v.1 in
         record { limits = u.0; long = eqb-true _ _ v.0; step = w.0 }
 
 -- by whether the resampler is off
 module _ (o : Opening) (ok : Accepted o) where
   abbrev resampler : PolyphaseResampF32
-  resampler = cond (eqb o.settings.phases 0) R.zeros (R.fresh o.settings.straight o.settings.phases o.settings.taps o.prototype o.settings.step)
+  resampler = cond (eqb o.settings.phases 0) R.zeros (R.fresh o.settings.straight o.settings.phases o.settings.phase_taps o.prototype o.settings.step)
 
   some_phases : (n : ℕ) → o.settings.phases ≡ suc n → o.settings.phases ≡ 0 → ⊥
   some_phases n e z = omega arith
@@ -100,7 +100,7 @@ module _ (o : Opening) (ok : Accepted o) where
   resampler_valid zero e = rw e (line_off R.zeros (unfold R.zeros in refl))
   resampler_valid (suc n) e =
       let on = ok.resampler (some_phases n e) in
-      rw (ne_eqb o.settings.phases 0 (some_phases n e)) (line_fresh o.settings.straight o.settings.phases o.settings.taps o.prototype o.settings.step on.limits on.step)
+      rw (ne_eqb o.settings.phases 0 (some_phases n e)) (line_fresh o.settings.straight o.settings.phases o.settings.phase_taps o.prototype o.settings.step on.limits on.step)
 
   pub fresh_valid : valid (fresh o) ≡ true
   unfolding valid fresh resampler_fresh half_band_fine
@@ -118,8 +118,8 @@ module _ (o : Opening) (ok : Accepted o) where
       whole : On o → Resampled o.settings.phases o v (all in_line 64 resampler v)
       whole on =
           rw (ne_eqb o.settings.phases 0 (some_phases n e))
-          (subst⁻¹ (λ (k : ℕ). Resampled k o v (all in_line 64 (R.fresh o.settings.straight k o.settings.taps o.prototype o.settings.step) v)) e
-          (becomes_all o.settings.straight (suc n) o.settings.taps o.prototype (subst (λ (k : ℕ). in_limits k o.settings.taps ≡ true) e on.limits) (on.long ∙ ap (λ (k : ℕ). k * o.settings.taps) e) o.settings.step on.step v))
+          (subst⁻¹ (λ (k : ℕ). Resampled k o v (all in_line 64 (R.fresh o.settings.straight k o.settings.phase_taps o.prototype o.settings.step) v)) e
+          (becomes_all o.settings.straight (suc n) o.settings.phase_taps o.prototype (subst (λ (k : ℕ). in_limits k o.settings.phase_taps ≡ true) e on.limits) (on.long ∙ ap (λ (k : ℕ). k * o.settings.phase_taps) e) o.settings.step on.step v))
 
   reaches : (w : List ℤ) →
       outs hbf_stream (stream_fresh o.settings.depth) (outs (each level) (tt {0}) (outs fir (Q.fresh_in_line o.taps o.settings.factor) (outs (each (cut w16)) (tt {0}) (outs either (E.fresh o.settings.thinning o.settings.stages o.settings.r) w))))
@@ -150,4 +150,4 @@ one_list o w a b = go o.settings.phases
   where
     go : (n : ℕ) → Resampled n o (levels o w) a → Resampled n o (levels o w) b → a ≡ b
     go zero p q = p ∙ sym q
-    go (suc n) p q = becomes_one o.settings.straight (suc n) o.settings.taps o.prototype o.settings.step (levels o w) a b p q
+    go (suc n) p q = becomes_one o.settings.straight (suc n) o.settings.phase_taps o.prototype o.settings.step (levels o w) a b p q

@@ -74,7 +74,7 @@ few_opened o e = elim (dec_le 1 (length o.taps)) [
 -- the prototype of an opening, from the front of an array in which it stands
 own_prototype :
     (o : Opening) (h : List Float) (n : ℕ) → opening_number_of o ≡ 0 → o.settings.phases ≡ n → (length o.prototype ≤ 1024 → take (length o.prototype) h ≡ o.prototype)
-    → resampler_fresh o.settings (take (o.settings.phases * o.settings.taps) h) ≡ resampler_fresh o.settings o.prototype
+    → resampler_fresh o.settings (take (o.settings.phases * o.settings.phase_taps) h) ≡ resampler_fresh o.settings o.prototype
 unfolding resampler_fresh
 own_prototype o h zero e p front = rw p refl
 own_prototype o h (suc n) e p front =
@@ -87,7 +87,7 @@ pub opened_own :
     → take (length o.taps) taps ≡ o.taps → (length o.prototype ≤ 1024 → take (length o.prototype) h ≡ o.prototype)
     → record {
       number = 0;
-      state = fresh (record { settings = o.settings; taps = take (length o.taps) taps; prototype = take (o.settings.phases * o.settings.taps) h });
+      state = fresh (record { settings = o.settings; taps = take (length o.taps) taps; prototype = take (o.settings.phases * o.settings.phase_taps) h });
     } ≡ opened o
 unfolding opened fresh
 opened_own o taps h e t p =

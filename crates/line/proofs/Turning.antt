@@ -103,7 +103,7 @@ waited f c lent xs out good one few {k} moved rest cuts =
     (step_ended line k (ltb 0 (length out)) xs 1 (lt-ltb 0 (length out) one.1) still (omega arith)) refl
 
 module _ {l₀ : Line} {xs : List ℤ} {out₀ out : List Float} {l : Line} {t w : ℕ} (mid : Midway line 64 Good line_lawful l₀ xs out₀ out l t w)
-    {q : Setting} (setting : q ≡ setting_of l.resampler) {e : Emitted} (due : e ≡ emitted_from q.straight q.phases q.taps q.step l.resampler.delay l.resampler.prototype l.resampler.mu w out) where
+    {q : Setting} (setting : q ≡ setting_of l.resampler) {e : Emitted} (due : e ≡ emitted_from q.straight q.phases q.phase_taps q.step l.resampler.delay l.resampler.prototype l.resampler.mu w out) where
   abbrev quiet : Drained l₀ xs out₀ l t e
   quiet = emptied mid setting due
 

@@ -131,14 +131,14 @@ resampler_number P T cells step = cond (eqb P 0) 0 (cond (in_limits P T) (cond (
 unfoldable pub number_at : Settings → ℕ → ℕ → ℕ
 number_at s tap_count cells =
     first_of (E.settings_number s.thinning s.stages s.r)
-    (first_of (settings_number_in_line tap_count s.factor) (first_of (depth_number s.depth) (resampler_number s.phases s.taps cells s.step)))
+    (first_of (settings_number_in_line tap_count s.factor) (first_of (depth_number s.depth) (resampler_number s.phases s.phase_taps cells s.step)))
 
 abbrev pub opening_number_of : Opening → ℕ
 opening_number_of o = number_at o.settings (length o.taps) (length o.prototype)
 
 -- "A part that is off is opened as zeros, settings too": no taps, depth 0, P = 0
 unfoldable pub resampler_fresh : Settings → List Float → PolyphaseResampF32
-resampler_fresh s prototype = cond (eqb s.phases 0) R.zeros (R.fresh s.straight s.phases s.taps prototype s.step)
+resampler_fresh s prototype = cond (eqb s.phases 0) R.zeros (R.fresh s.straight s.phases s.phase_taps prototype s.step)
 
 unfoldable pub fresh : Opening → Line
 fresh o =
@@ -183,7 +183,7 @@ opening_of l =
             factor = l.fir.factor;
             depth = l.half_band.depth;
             phases = l.resampler.phases;
-            taps = l.resampler.taps;
+            phase_taps = l.resampler.taps;
             straight = l.resampler.straight;
             step = l.resampler.step;
             thinning = l.thinning;

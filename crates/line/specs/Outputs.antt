@@ -30,7 +30,7 @@ levels o w =
 -- none is left": P phases; none means off
 abbrev pub Resampled : ℕ → Opening → List Float → List Float → Type 0
 Resampled zero o v y = y ≡ v
-Resampled (suc n) o v y = Becomes o.settings.straight (suc n) o.settings.taps o.prototype o.settings.step v y
+Resampled (suc n) o v y = Becomes o.settings.straight (suc n) o.settings.phase_taps o.prototype o.settings.step v y
 
 -- y are the outputs of W
 unfoldable pub Outputs : Opening → List ℤ → List Float → Type 0

@@ -27,7 +27,7 @@ line_together n integrators combs neighbours taps fir_delay delays held counts d
       neighbours = neighbours;
       fir = fir_state taps n.tap_count s.factor fir_delay c.wait;
       half_band = stream_of s.depth delays held counts;
-      resampler = R.together s.straight s.phases s.taps c.mu s.step delay prototype;
+      resampler = R.together s.straight s.phases s.phase_taps c.mu s.step delay prototype;
       cuts = c.cuts;
     }
 
@@ -38,7 +38,7 @@ line_on n p =
 
 -- what such a line is opened with, of the taps and the prototype in front of their arrays
 abbrev pub own_opening : Settings → ℕ → Places → Opening
-own_opening s tap_count p = record { settings = s; taps = take tap_count p.taps.now; prototype = take (s.phases * s.taps) p.prototype.now }
+own_opening s tap_count p = record { settings = s; taps = take tap_count p.taps.now; prototype = take (s.phases * s.phase_taps) p.prototype.now }
 
 -- the references are those that were lent, so what a call wrote stands where the caller keeps it
 pub record SamePlaces (before after : Places) : Type 0 where

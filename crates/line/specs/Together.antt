@@ -39,7 +39,7 @@ valid_at n counts =
     let s = n.settings in
     let c = n.clock in
     (E.valid_at s.thinning s.stages s.r c.sample_counter && leb (gain_bits s.stages s.r) most_bits)
-    && (fir_valid_in_line n.tap_count s.factor c.wait && (not (stream_refused_in_line s.depth counts) && R.valid_in_line_at s.phases s.taps s.step c.mu))
+    && (fir_valid_in_line n.tap_count s.factor c.wait && (not (stream_refused_in_line s.depth counts) && R.valid_in_line_at s.phases s.phase_taps s.step c.mu))
 
 -- what a feed of the line l left: the counts, the line k and the span are those of section 6's feed
 pub record RanTo (l : Line) (xs : List ℤ) (before after : List Float) (taken written : ℕ) (k : Line) : Type 0 where

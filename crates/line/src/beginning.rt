@@ -28,7 +28,7 @@ const OFF: Settings = Settings {
     factor: 0,
     depth: 0,
     phases: 0,
-    taps: 0,
+    phase_taps: 0,
     straight: false,
     step: 0.0,
     thinning: Thinning::Integrators,
@@ -90,7 +90,7 @@ fn begin_resampler(
     delay: &mut [f32; MOST_PHASE_TAPS],
     prototype: &mut [f32; MOST_CELLS],
 ) -> Setting
-    ensures { R.state_of result mu.new delay.new prototype.new ≡ L.resampler_fresh s (take (s.phases * s.taps) prototype.old) }
+    ensures { R.state_of result mu.new delay.new prototype.new ≡ L.resampler_fresh s (take (s.phases * s.phase_taps) prototype.old) }
 {
     if s.phases == 0 {
         return Setting::clear(mu, delay, prototype);
@@ -123,7 +123,7 @@ fn begin(settings: Settings, tap_count: usize, n: &mut LineNumbers, lent: &mut P
             factor: fir.factor,
             depth: settings.depth,
             phases: resampler.phases,
-            taps: resampler.taps,
+            phase_taps: resampler.phase_taps,
             straight: resampler.straight,
             step: resampler.step,
             thinning: settings.thinning,

@@ -63,7 +63,7 @@ pub fn numbers_in(l: &Line) -> LineNumbers
             factor: l.fir.factor,
             depth: l.half_band.depth,
             phases: l.resampler.phases,
-            taps: l.resampler.taps,
+            phase_taps: l.resampler.taps,
             straight: l.resampler.straight,
             step: l.resampler.step,
             thinning: l.thinning,
@@ -134,7 +134,7 @@ impl Line {
         self.fir.factor = s.factor;
         self.half_band.depth = s.depth;
         self.resampler.phases = s.phases;
-        self.resampler.taps = s.taps;
+        self.resampler.taps = s.phase_taps;
         self.resampler.straight = s.straight;
         self.resampler.step = s.step;
         self.put_clock(n.clock);

@@ -38,7 +38,7 @@ fn depth_answer(depth: usize) -> Result<(), Refusal>
 // No phases: off, and nothing else is looked at.
 #[tactic(auto, unfolding(crate::specs::Line::resampler_number))]
 fn resampler_answer(s: Settings, cells: usize) -> Result<(), Refusal>
-    ensures { number_in result ≡ L.resampler_number s.phases s.taps cells s.step }
+    ensures { number_in result ≡ L.resampler_number s.phases s.phase_taps cells s.step }
 {
     if s.phases == 0 {
         return Ok(());

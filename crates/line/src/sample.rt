@@ -38,7 +38,7 @@ fn resampler_in(
     if f.settings.phases == 0 {
         return Some(level);
     }
-    shift_in(delay, f.settings.taps, level);
+    shift_in(delay, f.settings.phase_taps, level);
     *mu -= 1.0;
     None
 }

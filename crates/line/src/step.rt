@@ -47,7 +47,7 @@ pub(crate) fn step_on(
     place: bool,
 ) -> LineStep
     requires { let s = own.fixed.settings in
-        T.due_at own.fixed clock.old.mu ≡ true → in_limits s.phases s.taps ≡ true }
+        T.due_at own.fixed clock.old.mu ≡ true → in_limits s.phases s.phase_taps ≡ true }
     ensures same { Same lent.old lent.new }
     ensures steps { T.stepped_in own.fixed (L.event_of result) clock.new lent.new
         ≡ step L.line place (T.line_held own.fixed clock.old lent.old) sample }

@@ -313,7 +313,7 @@ module _ (p : PolyphaseResampF32) (w : ResamplerWhole p) (few : p.taps ≤ 16) (
   delayed : List ℕ
   delayed = joined f32_bytes (take p.taps p.delay)
 
-  pub resampler_back : (q : Settings) → q.phases ≡ p.phases → q.cells ≡ p.taps → q.straight ≡ cond p.straight 1 0 → q.step ≡ to_bits binary32 p.step → resampler_from q (prototype_bytes p) (resampler_bytes p) ≡ p
+  pub resampler_back : (q : Settings) → q.phases ≡ p.phases → q.phase_taps ≡ p.taps → q.straight ≡ cond p.straight 1 0 → q.step ≡ to_bits binary32 p.step → resampler_from q (prototype_bytes p) (resampler_bytes p) ≡ p
   unfolding resampler_from prototype_bytes resampler_bytes delayed
   resampler_back q a b c d =
       rw (

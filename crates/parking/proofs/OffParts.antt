@@ -97,7 +97,7 @@ on_alike k =
       neighbours = refl;
       fir = fir_alike k.taps.now k.fir_delay.now n.tap_count s.factor n.clock.wait;
       half_band = refl;
-      resampler = resampler_alike k.delay.now k.prototype.now s.phases s.taps s.straight n.clock.mu s.step;
+      resampler = resampler_alike k.delay.now k.prototype.now s.phases s.phase_taps s.straight n.clock.mu s.step;
       cuts = refl;
     }
 

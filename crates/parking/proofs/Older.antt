@@ -107,7 +107,7 @@ module _ (l : Line) (v : valid l ≡ true)
         factor = omega arith;
         depth = omega (arith, m.depth);
         phases = omega (arith, m.phases);
-        cells = omega (arith, m.cells);
+        phase_taps = omega (arith, m.phase_taps);
         straight = omega arith;
         step = bits_below (resampler_on l.resampler).step step;
         cuts = word;

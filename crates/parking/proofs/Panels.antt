@@ -28,7 +28,7 @@ pub record Fits (s : Settings) : Type 0 where
   pub factor : s.factor < 65536
   pub depth : s.depth < 65536
   pub phases : s.phases < 65536
-  pub cells : s.cells < 65536
+  pub phase_taps : s.phase_taps < 65536
   pub straight : s.straight < 65536
   pub step : s.step < 4294967296
   pub cuts : s.cuts < 4294967296
@@ -41,7 +41,7 @@ unfolding settings_of settings_bytes le16
 settings_back s f =
     let a : le32 (settings_bytes s) 16 ≡ s.step = found_at (settings_bytes s) 16 s.step (bytes32 s.cuts) refl f.step in
     let b : le32 (settings_bytes s) 20 ≡ s.cuts = found_at (settings_bytes s) 20 s.cuts [] refl f.cuts in
-    rw (two_digits s.stages f.stages, two_digits s.r f.r, two_digits s.taps f.taps, two_digits s.factor f.factor, two_digits s.depth f.depth, two_digits s.phases f.phases, two_digits s.cells f.cells, two_digits s.straight f.straight, a, b)
+    rw (two_digits s.stages f.stages, two_digits s.r f.r, two_digits s.taps f.taps, two_digits s.factor f.factor, two_digits s.depth f.depth, two_digits s.phases f.phases, two_digits s.phase_taps f.phase_taps, two_digits s.straight f.straight, a, b)
 
 -- ---- entries laid one behind the other
 

@@ -56,19 +56,19 @@ limits_of l v =
     let g = to_parts l v in
     let r = resampler_few l.resampler g.1.1.1.1.1 in
     let n = thin_numbers (thinner_of l) g.0 in
-    record { stages = n.stages; r = n.r; taps = fir_few l.fir g.1.1.0; depth = half_depth l.half_band g.1.1.1.1.0; phases = r.0; cells = r.1 }
+    record { stages = n.stages; r = n.r; taps = fir_few l.fir g.1.1.0; depth = half_depth l.half_band g.1.1.1.1.0; phases = r.0; phase_taps = r.1 }
 
 -- so no sheet is long
 pub sizes_most : (q : Settings) → InLimits q → sum (sizes q) ≤ 6000
 unfolding sum sizes
 sizes_most q m =
-    let a = m.stages in let b = m.taps in let c = bytes_most q.depth m.depth in let h = cells_most q.phases q.cells m.phases m.cells in let i = m.cells in
+    let a = m.stages in let b = m.taps in let c = bytes_most q.depth m.depth in let h = cells_most q.phases q.phase_taps m.phases m.phase_taps in let i = m.phase_taps in
     omega arith
 
 pub thin_most : (q : Settings) → InLimits q → sum (thin_sizes q) ≤ 6000
 unfolding sum thin_sizes
 thin_most q m =
-    let a = few_neighbours q.stages q.r m.stages m.r in let b = m.taps in let c = bytes_most q.depth m.depth in let h = cells_most q.phases q.cells m.phases m.cells in let i = m.cells in
+    let a = few_neighbours q.stages q.r m.stages m.r in let b = m.taps in let c = bytes_most q.depth m.depth in let h = cells_most q.phases q.phase_taps m.phases m.phase_taps in let i = m.phase_taps in
     omega arith
 
 module _ (d : CicDecimator) (n : List ℤ) (f : FirDecimator) (s : HbfStream) (p : PolyphaseResampF32) (cuts : ℕ) (a : ArrayLengths d f s p) (ln : length n ≡ 96) (m : InLimits (settings_in d f s.depth p cuts)) where

@@ -170,7 +170,7 @@ module _ (l : Line) (g : Sound l) where
         factor = omega arith;
         depth = omega arith;
         phases = omega arith;
-        cells = omega arith;
+        phase_taps = omega arith;
         straight = omega arith;
         step = bits_below p.step w.resampler.step;
         cuts = omega arith;
@@ -242,7 +242,7 @@ module _ (l : Line) (g : Sound l) where
   lengths_are₈ t = rw (taps_is, delay_is, stages_is, cells_is, resampler_is, neighbours_length d ns t few cn.counter) (unfold settings_bytes in refl)
 
   limits : InLimits q
-  limits = unfold settings_in in record { stages = cn.stages; r = cn.r; taps = fn.taps; depth = depth_few; phases = rn.phases; cells = rn.taps }
+  limits = unfold settings_in in record { stages = cn.stages; r = cn.r; taps = fn.taps; depth = depth_few; phases = rn.phases; phase_taps = rn.taps }
 
   small_of : (e : List (List ℕ)) → 0 < length e → length e ≤ 8 → length (flat e) ≤ 6000 → Small e
   small_of e a b h = record { some = a; few = omega arith; most = omega arith }
@@ -295,7 +295,7 @@ module _ (l : Line) (g : Sound l) where
   abbrev fields_of : Settings → Bool
   fields_of k =
       leb k.straight 1 && (is_float k.step && (fir_written k (delay_bytes f) && (resampler_written k (resampler_bytes p)
-      && (stages_written (stages_bytes s (min s.depth 5)) (min k.depth 5) && (floats_at (prototype_bytes p) 0 (k.phases * k.cells) && floats_at (resampler_bytes p) 0 (1 + k.cells))))))
+      && (stages_written (stages_bytes s (min s.depth 5)) (min k.depth 5) && (floats_at (prototype_bytes p) 0 (k.phases * k.phase_taps) && floats_at (resampler_bytes p) 0 (1 + k.phase_taps))))))
 
   half_written : stages_written (stages_bytes s (min s.depth 5)) (min s.depth 5) ≡ true
   half_written = rw depth_min (stages_written_lem s s.depth depth_few w.half_band counts_small)
@@ -305,8 +305,8 @@ module _ (l : Line) (g : Sound l) where
       let a : leb q.straight 1 ≡ true = unfold settings_in in le-leb (cond p.straight 1 0) 1 (straight_most p.straight) in
       let b : is_float q.step ≡ true = unfold settings_in in step_is in
       let c : stages_written (stages_bytes s (min s.depth 5)) (min q.depth 5) ≡ true = unfold settings_in in half_written in
-      let e : floats_at (prototype_bytes p) 0 (q.phases * q.cells) ≡ true = unfold settings_in in prototype_floats p w.resampler rn.taps cells_few in
-      let h : floats_at (resampler_bytes p) 0 (1 + q.cells) ≡ true = unfold settings_in in resampler_floats p w.resampler rn.taps cells_few in
+      let e : floats_at (prototype_bytes p) 0 (q.phases * q.phase_taps) ≡ true = unfold settings_in in prototype_floats p w.resampler rn.taps cells_few in
+      let h : floats_at (resampler_bytes p) 0 (1 + q.phase_taps) ≡ true = unfold settings_in in resampler_floats p w.resampler rn.taps cells_few in
       rw (a, b, fir_written_lem, resampler_written_lem, c, e, h)
 
   written_is : written es ≡ true

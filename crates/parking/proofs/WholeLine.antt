@@ -253,14 +253,14 @@ half_fresh n =
     }
 
 module _ (o : Opening) (acc : Accepted o) (ty : Typed o) where
-  resampler_on_lem : (On o) → (o.settings.phases ≡ 0 → ⊥) → ResamplerWhole (R.fresh o.settings.straight o.settings.phases o.settings.taps o.prototype o.settings.step)
+  resampler_on_lem : (On o) → (o.settings.phases ≡ 0 → ⊥) → ResamplerWhole (R.fresh o.settings.straight o.settings.phases o.settings.phase_taps o.prototype o.settings.step)
   unfolding R.fresh packed
   resampler_on_lem on n =
-      let t = limits_taps o.settings.phases o.settings.taps on.limits in
-      let m : o.settings.phases * o.settings.taps ≤ 64 * 16 = mul-le-mul t.0 t.1 in
+      let t = limits_taps o.settings.phases o.settings.phase_taps on.limits in
+      let m : o.settings.phases * o.settings.phase_taps ≤ 64 * 16 = mul-le-mul t.0 t.1 in
       let l : length o.prototype ≤ 1024 = rw on.long m in
       record {
-        delay = used_fresh IsFloat zero32 o.settings.taps 16 zero_f32;
+        delay = used_fresh IsFloat zero32 o.settings.phase_taps 16 zero_f32;
         prototype = rw (take_all 1024 o.prototype l, ← on.long) (padded_used IsFloat zero32 1024 o.prototype l ty.prototype zero_f32);
         mu = of_bits-fits binary32 0x3f80_0000;
         step = ty.step;
@@ -278,7 +278,7 @@ module _ (o : Opening) (acc : Accepted o) (ty : Typed o) where
         cuts = omega arith;
       }
     where
-      go : (b : Bool) → eqb o.settings.phases 0 ≡ b → ResamplerWhole (cond b R.zeros (R.fresh o.settings.straight o.settings.phases o.settings.taps o.prototype o.settings.step))
+      go : (b : Bool) → eqb o.settings.phases 0 ≡ b → ResamplerWhole (cond b R.zeros (R.fresh o.settings.straight o.settings.phases o.settings.phase_taps o.prototype o.settings.step))
       go true e = resampler_off
       go false e = let n = eqb-false o.settings.phases 0 e in resampler_on_lem (acc.resampler n) n
 

@@ -19,7 +19,7 @@ use Rattle.parking.proofs.Thinned.{few_neighbours}
 module _ (d : CicDecimator) (f : FirDecimator) (s : HbfStream) (p : PolyphaseResampF32) (cuts : ℕ) (a : ArrayLengths d f s p) (m : InLimits (settings_in d f s.depth p cuts)) where
   few_cells : p.phases * p.taps ≤ 1024
   unfolding settings_in
-  few_cells = cells_most p.phases p.taps m.phases m.cells
+  few_cells = cells_most p.phases p.taps m.phases m.phase_taps
 
   depth_min : min s.depth 5 ≡ s.depth
   unfolding settings_in
@@ -45,7 +45,7 @@ module _ (d : CicDecimator) (f : FirDecimator) (s : HbfStream) (p : PolyphaseRes
 
   floats_is : length (prototype_bytes p ++ resampler_bytes p) ≡ 4 * (p.phases * p.taps) + (4 + 4 * p.taps)
   unfolding settings_in
-  floats_is = resampler_long p m.cells few_cells a.delay a.prototype
+  floats_is = resampler_long p m.phase_taps few_cells a.delay a.prototype
 
   pub lengths_of_lem : lengths_of (entries_of d f s p cuts) ≡ sizes (settings_in d f s.depth p cuts)
   unfolding lengths_of entries_of sizes settings_in settings_bytes

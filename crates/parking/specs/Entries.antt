@@ -39,7 +39,7 @@ settings_in d f depth p cuts =
       factor = f.factor;
       depth = depth;
       phases = p.phases;
-      cells = p.taps;
+      phase_taps = p.taps;
       straight = cond p.straight 1 0;
       step = to_bits binary32 p.step;
       cuts = cuts;
@@ -146,12 +146,12 @@ unfoldable pub resampler_from : Settings → List ℕ → List ℕ → Polyphase
 resampler_from q cells e =
     record {
       phases = q.phases;
-      taps = q.cells;
+      taps = q.phase_taps;
       straight = leb 1 q.straight;
       mu = f32_at e 0;
       step = of_bits binary32 q.step;
-      delay = laid 0 (values_at f32_at 4 e 4 q.cells) (replicate 16 zero32);
-      prototype = laid 0 (values_at f32_at 4 cells 0 (q.phases * q.cells)) (replicate 1024 zero32);
+      delay = laid 0 (values_at f32_at 4 e 4 q.phase_taps) (replicate 16 zero32);
+      prototype = laid 0 (values_at f32_at 4 cells 0 (q.phases * q.phase_taps)) (replicate 1024 zero32);
     }
 
 -- entry k
@@ -191,13 +191,13 @@ unfoldable pub fir_written : Settings → List ℕ → Bool
 fir_written q e = cond (eqb q.taps 0) (eqb q.factor 0 && eqb (le16 e 0) 0) true
 
 unfoldable pub resampler_written : Settings → List ℕ → Bool
-resampler_written q e = cond (eqb q.phases 0) (eqb q.cells 0 && (eqb q.straight 0 && (eqb q.step 0 && eqb (le32 e 0) 0))) true
+resampler_written q e = cond (eqb q.phases 0) (eqb q.phase_taps 0 && (eqb q.straight 0 && (eqb q.step 0 && eqb (le32 e 0) 0))) true
 
 unfoldable pub written : List (List ℕ) → Bool
 written es =
     let q = settings_of (entry_of es 0) in
     leb q.straight 1 && (is_float q.step && (fir_written q (entry_of es 3) && (resampler_written q (entry_of es 6)
-    && (stages_written (entry_of es 4) (min q.depth 5) && (floats_at (entry_of es 5) 0 (q.phases * q.cells) && floats_at (entry_of es 6) 0 (1 + q.cells))))))
+    && (stages_written (entry_of es 4) (min q.depth 5) && (floats_at (entry_of es 5) 0 (q.phases * q.phase_taps) && floats_at (entry_of es 6) 0 (1 + q.phase_taps))))))
 
 -- at a limit of the line's FIR
 unfoldable pub fine : ℕ → List (List ℕ) → Bool

@@ -14,14 +14,14 @@ pub record InLimits (q : Settings) : Type 0 where
   pub taps : q.taps ≤ most_taps
   pub depth : q.depth ≤ 5
   pub phases : q.phases ≤ 64
-  pub cells : q.cells ≤ 16
+  pub phase_taps : q.phase_taps ≤ 16
 
 -- numbers that fit the words of the settings entry, as far as lengths go by them
 pub record InWords (q : Settings) : Type 0 where
   pub stages : q.stages < 65536
   pub taps : q.taps < 65536
   pub phases : q.phases < 65536
-  pub cells : q.cells < 65536
+  pub phase_taps : q.phase_taps < 65536
 
 pub record ArrayLengths (d : CicDecimator) (f : FirDecimator) (s : HbfStream) (p : PolyphaseResampF32) : Type 0 where
   pub integrators : length d.integrator_state ≡ 8

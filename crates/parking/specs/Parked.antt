@@ -36,14 +36,14 @@ pub record Settings : Type 0 where
   pub factor : ℕ
   pub depth : ℕ
   pub phases : ℕ
-  pub cells : ℕ
+  pub phase_taps : ℕ
   pub straight : ℕ
   pub step : ℕ
   pub cuts : ℕ
 
 unfoldable pub settings_bytes : Settings → List ℕ
 settings_bytes s =
-    bytes16 s.stages ++ (bytes16 s.r ++ (bytes16 s.taps ++ (bytes16 s.factor ++ (bytes16 s.depth ++ (bytes16 s.phases ++ (bytes16 s.cells ++ (bytes16 s.straight ++ (bytes32 s.step ++ bytes32 s.cuts))))))))
+    bytes16 s.stages ++ (bytes16 s.r ++ (bytes16 s.taps ++ (bytes16 s.factor ++ (bytes16 s.depth ++ (bytes16 s.phases ++ (bytes16 s.phase_taps ++ (bytes16 s.straight ++ (bytes32 s.step ++ bytes32 s.cuts))))))))
 
 unfoldable pub settings_of : List ℕ → Settings
 settings_of e =
@@ -54,7 +54,7 @@ settings_of e =
       factor = le16 e 6;
       depth = le16 e 8;
       phases = le16 e 10;
-      cells = le16 e 12;
+      phase_taps = le16 e 12;
       straight = le16 e 14;
       step = le32 e 16;
       cuts = le32 e 20;
@@ -68,7 +68,7 @@ half_band_bytes depth = get_or (0 ∷ 54 ∷ 124 ∷ 210 ∷ 376 ∷ 750 ∷ [])
 
 unfoldable pub sizes : Settings → List ℕ
 sizes s =
-    24 ∷ (2 + 8 * s.stages) ∷ (2 * s.taps) ∷ (2 + 2 * s.taps) ∷ half_band_bytes s.depth ∷ (4 * (s.phases * s.cells)) ∷ (4 + 4 * s.cells) ∷ []
+    24 ∷ (2 + 8 * s.stages) ∷ (2 * s.taps) ∷ (2 + 2 * s.taps) ∷ half_band_bytes s.depth ∷ (4 * (s.phases * s.phase_taps)) ∷ (4 + 4 * s.phase_taps) ∷ []
 
 -- request 13: "parked in eight entries, the CIC one empty, the last holding its place and then N neighbours for each halving of the factor, rounded down, that leaves at
 -- least 1"
@@ -77,7 +77,7 @@ neighbour_count N r = N * halvings r
 
 unfoldable pub thin_sizes : Settings → List ℕ
 thin_sizes s =
-    24 ∷ 0 ∷ (2 * s.taps) ∷ (2 + 2 * s.taps) ∷ half_band_bytes s.depth ∷ (4 * (s.phases * s.cells)) ∷ (4 + 4 * s.cells) ∷ (2 + 4 * neighbour_count s.stages s.r) ∷ []
+    24 ∷ 0 ∷ (2 * s.taps) ∷ (2 + 2 * s.taps) ∷ half_band_bytes s.depth ∷ (4 * (s.phases * s.phase_taps)) ∷ (4 + 4 * s.phase_taps) ∷ (2 + 4 * neighbour_count s.stages s.r) ∷ []
 
 -- ---- the sheet
 

@@ -18,7 +18,7 @@ numbers_of q =
       factor = q.factor;
       depth = q.depth;
       phases = q.phases;
-      cells = q.cells;
+      phase_taps = q.phase_taps;
       straight = q.straight;
       step = q.step;
       cuts = q.cuts;
@@ -44,7 +44,7 @@ last_size thinning.Neighbours stages r = 2 + 4 * neighbour_count stages r
 -- the sizes of eight entries, of which the last is empty where the kind has seven
 abbrev pub all_sizes : Thinning → Settings → List ℕ
 all_sizes k q =
-    24 ∷ first_size k q.stages ∷ (2 * q.taps) ∷ (2 + 2 * q.taps) ∷ half_band_bytes q.depth ∷ (4 * (q.phases * q.cells)) ∷ (4 + 4 * q.cells) ∷ last_size k q.stages q.r ∷ []
+    24 ∷ first_size k q.stages ∷ (2 * q.taps) ∷ (2 + 2 * q.taps) ∷ half_band_bytes q.depth ∷ (4 * (q.phases * q.phase_taps)) ∷ (4 + 4 * q.phase_taps) ∷ last_size k q.stages q.r ∷ []
 
 -- the line with its parts that are off as zeros, and its entries
 abbrev pub on : Line → Line

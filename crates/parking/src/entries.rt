@@ -31,7 +31,7 @@ pub(crate) fn put_settings(span: &mut [u8], q: &ParkedSettings)
     ensures { span.new ≡ P.settings_bytes (numbers_of q.now) }
 {
     let numbers = [
-        q.stages, q.r, q.taps, q.factor, q.depth, q.phases, q.cells, q.straight,
+        q.stages, q.r, q.taps, q.factor, q.depth, q.phases, q.phase_taps, q.straight,
     ];
     let (front, behind) = span.split_at_mut(16);
     let (step, cuts) = behind.split_at_mut(4);
@@ -120,14 +120,14 @@ pub(crate) fn put_resampler(span: &mut [u8], line: &FineLine<'_>)
     ensures { let p = (line_kept line.now.kept).resampler in span.new ≡ E.prototype_bytes p ++ E.resampler_bytes p }
 {
     let s = line.kept.numbers.settings;
-    let cells = s.phases * s.taps;
+    let cells = s.phases * s.phase_taps;
     let prototype = line.kept.prototype;
     let delay = line.kept.delay;
     let (front, behind) = span.split_at_mut(4 * cells);
     let (mu, back) = behind.split_at_mut(4);
     put_all(front, &prototype[..cells]);
     mu.copy_from_slice(&bits_of_f32(line.kept.numbers.clock.mu).to_le_bytes());
-    put_all(back, &delay[..s.taps]);
+    put_all(back, &delay[..s.phase_taps]);
 }
 
 // "its place and then N neighbours for each halving"

@@ -47,7 +47,7 @@ fn resampler_parked(n: LineNumbers) -> LineNumbers
     if n.settings.phases == 0 {
         return LineNumbers {
             settings: Settings {
-                taps: 0,
+                phase_taps: 0,
                 straight: false,
                 step: 0.0,
                 ..n.settings

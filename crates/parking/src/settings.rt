@@ -21,7 +21,7 @@ pub struct ParkedSettings {
     pub factor: usize,
     pub depth: usize,
     pub phases: usize,
-    pub cells: usize,
+    pub phase_taps: usize,
     // The entry's word, which in a sheet may be any: over 1 is refused by row 15 when it is taken up.
     pub straight: usize,
     pub step: u32,
@@ -89,7 +89,7 @@ impl ParkedSettings {
             factor: s.factor,
             depth: s.depth,
             phases: s.phases,
-            cells: s.taps,
+            phase_taps: s.phase_taps,
             straight: usize::from(s.straight),
             step: bits_of_f32(s.step),
             cuts: n.clock.cuts,
@@ -112,8 +112,8 @@ impl ParkedSettings {
             2 * self.taps,
             2 + 2 * self.taps,
             half_band_bytes(self.depth),
-            4 * (self.phases * self.cells),
-            4 + 4 * self.cells,
+            4 * (self.phases * self.phase_taps),
+            4 + 4 * self.phase_taps,
             last,
         ]
     }

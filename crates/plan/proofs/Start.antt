@@ -101,7 +101,7 @@ half_start (suc n) k =
 
 mu_start : (s : Settings) (h : List Float) → clock5 (resampler_fresh s h) ≡ resampler_clock s
 unfolding resampler_fresh R.fresh R.zeros
-mu_start s h = by_cond clock5 (eqb s.phases 0) R.zeros (R.fresh s.straight s.phases s.taps h s.step) ∙ go (eqb s.phases 0) refl
+mu_start s h = by_cond clock5 (eqb s.phases 0) R.zeros (R.fresh s.straight s.phases s.phase_taps h s.step) ∙ go (eqb s.phases 0) refl
   where
     go :
         (b : Bool) → eqb s.phases 0 ≡ b

@@ -40,7 +40,7 @@ pub(crate) fn readings<W: Write>(out: &mut W) -> io::Result<()> {
         factor: 0,
         depth: 0,
         phases: 2,
-        taps: 1,
+        phase_taps: 1,
         straight: false,
         step: 0.5,
         thinning: Thinning::Integrators,

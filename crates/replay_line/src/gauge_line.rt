@@ -22,7 +22,7 @@ fn settings_of(words: &mut Words<'_>) -> Settings {
         factor: words.long(),
         depth: words.long(),
         phases: words.long(),
-        taps: words.long(),
+        phase_taps: words.long(),
         straight: words.long() != 0,
         step: words.value(),
         thinning: thinning_of(words.long()),

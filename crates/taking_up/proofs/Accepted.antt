@@ -48,7 +48,7 @@ fir_as_read q t e w = go (eqb q.taps 0) refl w
     go true z w = fir_off q t e (eqb-true q.taps 0 z) (eqb-true q.factor 0 (and_parts (eqb q.factor 0) (eqb (le16 e 0) 0) w).0) (eqb-true (le16 e 0) 0 (and_parts (eqb q.factor 0) (eqb (le16 e 0) 0) w).1)
     go false z w = refl
 
-resampler_off : (q : Settings) (c e : List ℕ) → q.phases ≡ 0 → q.cells ≡ 0 → q.straight ≡ 0 → q.step ≡ 0 → le32 e 0 ≡ 0 → R.zeros ≡ resampler_from q c e
+resampler_off : (q : Settings) (c e : List ℕ) → q.phases ≡ 0 → q.phase_taps ≡ 0 → q.straight ≡ 0 → q.step ≡ 0 → le32 e 0 ≡ 0 → R.zeros ≡ resampler_from q c e
 unfolding R.zeros resampler_from values_at
 resampler_off q c e a b d f g = sym (rw (a, b, d, f, g, ← laid_none 0 (replicate 16 zero32), ← laid_none 0 (replicate 1024 zero32)))
 
@@ -56,12 +56,12 @@ pub resampler_as_read : (q : Settings) (c e : List ℕ) → resampler_written q 
 unfolding resampler_on resampler_written resampler_from
 resampler_as_read q c e w = go (eqb q.phases 0) refl w
   where
-    go : (b : Bool) → eqb q.phases 0 ≡ b → cond b (eqb q.cells 0 && (eqb q.straight 0 && (eqb q.step 0 && eqb (le32 e 0) 0))) true ≡ true → cond b R.zeros (resampler_from q c e) ≡ resampler_from q c e
+    go : (b : Bool) → eqb q.phases 0 ≡ b → cond b (eqb q.phase_taps 0 && (eqb q.straight 0 && (eqb q.step 0 && eqb (le32 e 0) 0))) true ≡ true → cond b R.zeros (resampler_from q c e) ≡ resampler_from q c e
     go true z w =
-        let w₁ = (and_parts (eqb q.cells 0) (eqb q.straight 0 && (eqb q.step 0 && eqb (le32 e 0) 0)) w).1 in
+        let w₁ = (and_parts (eqb q.phase_taps 0) (eqb q.straight 0 && (eqb q.step 0 && eqb (le32 e 0) 0)) w).1 in
         let w₂ = (and_parts (eqb q.straight 0) (eqb q.step 0 && eqb (le32 e 0) 0) w₁).1 in
         resampler_off q c e (eqb-true q.phases 0 z)
-        (eqb-true q.cells 0 (and_parts (eqb q.cells 0) (eqb q.straight 0 && (eqb q.step 0 && eqb (le32 e 0) 0)) w).0)
+        (eqb-true q.phase_taps 0 (and_parts (eqb q.phase_taps 0) (eqb q.straight 0 && (eqb q.step 0 && eqb (le32 e 0) 0)) w).0)
         (eqb-true q.straight 0 (and_parts (eqb q.straight 0) (eqb q.step 0 && eqb (le32 e 0) 0) w₁).0)
         (eqb-true q.step 0 (and_parts (eqb q.step 0) (eqb (le32 e 0) 0) w₂).0)
         (eqb-true (le32 e 0) 0 (and_parts (eqb q.step 0) (eqb (le32 e 0) 0) w₂).1)
@@ -88,14 +88,14 @@ module _ (e₀ e₁ e₂ e₃ e₄ e₅ e₆ : List ℕ) where
     pub fir : fir_written q e₃ ≡ true
     pub resampler : resampler_written q e₆ ≡ true
     pub stages : stages_written e₄ (min q.depth 5) ≡ true
-    pub cells : floats_at e₅ 0 (q.phases * q.cells) ≡ true
-    pub delays : floats_at e₆ 0 (1 + q.cells) ≡ true
+    pub cells : floats_at e₅ 0 (q.phases * q.phase_taps) ≡ true
+    pub delays : floats_at e₆ 0 (1 + q.phase_taps) ≡ true
 
   pub fields_told : written es ≡ true → Fields
   unfolding written
   fields_told w =
-      let c₇ = floats_at e₆ 0 (1 + q.cells) in
-      let c₆ = floats_at e₅ 0 (q.phases * q.cells) && c₇ in
+      let c₇ = floats_at e₆ 0 (1 + q.phase_taps) in
+      let c₆ = floats_at e₅ 0 (q.phases * q.phase_taps) && c₇ in
       let c₅ = stages_written e₄ (min q.depth 5) && c₆ in
       let c₄ = resampler_written q e₆ && c₅ in
       let c₃ = fir_written q e₃ && c₄ in
@@ -111,8 +111,8 @@ module _ (e₀ e₁ e₂ e₃ e₄ e₅ e₆ : List ℕ) where
         fir = (and_parts (fir_written q e₃) c₄ w₃).0;
         resampler = (and_parts (resampler_written q e₆) c₅ w₄).0;
         stages = (and_parts (stages_written e₄ (min q.depth 5)) c₆ w₅).0;
-        cells = (and_parts (floats_at e₅ 0 (q.phases * q.cells)) c₇ w₆).0;
-        delays = (and_parts (floats_at e₅ 0 (q.phases * q.cells)) c₇ w₆).1;
+        cells = (and_parts (floats_at e₅ 0 (q.phases * q.phase_taps)) c₇ w₆).0;
+        delays = (and_parts (floats_at e₅ 0 (q.phases * q.phase_taps)) c₇ w₆).1;
       }
 
   pub record Lengths : Type 0 where
@@ -120,8 +120,8 @@ module _ (e₀ e₁ e₂ e₃ e₄ e₅ e₆ : List ℕ) where
     pub taps : length e₂ ≡ 2 * q.taps
     pub delay : length e₃ ≡ 2 + 2 * q.taps
     pub half_band : length e₄ ≡ half_band_bytes q.depth
-    pub cells : length e₅ ≡ 4 * (q.phases * q.cells)
-    pub resampler : length e₆ ≡ 4 + 4 * q.cells
+    pub cells : length e₅ ≡ 4 * (q.phases * q.phase_taps)
+    pub resampler : length e₆ ≡ 4 + 4 * q.phase_taps
 
   pub record AllBytes : Type 0 where
     pub a₀ : All Byte e₀

@@ -181,18 +181,18 @@ module _ (q : Settings) (t e : List ℕ) where
       ∙ two_again e 0 a (omega arith))
 
 module _ (q : Settings) (c e : List ℕ) where
-  pub prototype_again : All Byte c → length c ≡ 4 * (q.phases * q.cells) → floats_at c 0 (q.phases * q.cells) ≡ true → prototype_bytes (resampler_from q c e) ≡ c
+  pub prototype_again : All Byte c → length c ≡ 4 * (q.phases * q.phase_taps) → floats_at c 0 (q.phases * q.phase_taps) ≡ true → prototype_bytes (resampler_from q c e) ≡ c
   unfolding prototype_bytes resampler_from
   prototype_again a long f =
-      let n = q.phases * q.cells in
+      let n = q.phases * q.phase_taps in
       let xs = values_at f32_at 4 c 0 n in
       rw (front_again xs (replicate 1024 zero32) n (values_length f32_at 4 c n 0))
       (sym (append-nil (joined f32_bytes xs)) ∙ ap (λ (l : List ℕ). joined f32_bytes xs ++ l) (sym (nothing_behind c (0 + 4 * n) (let z : length c ≡ 0 + 4 * n = omega arith in z))) ∙ values_again writes_f32 c a n 0 (omega arith) (floats_fine c 0 n f))
 
-  pub resampler_again : All Byte e → length e ≡ 4 + 4 * q.cells → floats_at e 0 (1 + q.cells) ≡ true → resampler_bytes (resampler_from q c e) ≡ e
+  pub resampler_again : All Byte e → length e ≡ 4 + 4 * q.phase_taps → floats_at e 0 (1 + q.phase_taps) ≡ true → resampler_bytes (resampler_from q c e) ≡ e
   unfolding resampler_bytes resampler_from
   resampler_again a long f =
-      let n = q.cells in
+      let n = q.phase_taps in
       let xs = values_at f32_at 4 e 4 n in
       let fine = floats_fine e 0 (1 + n) f in
       rw (front_again xs (replicate 16 zero32) n (values_length f32_at 4 e n 4))

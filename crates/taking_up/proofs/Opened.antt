@@ -44,7 +44,7 @@ limits_told q h =
     let b = leb q.taps most_taps in
     let c = leb q.depth 5 in
     let d = leb q.phases 64 in
-    let e = leb q.cells 16 in
+    let e = leb q.phase_taps 16 in
     let h₀ = (and_parts a (r && (b && (c && (d && e)))) h).1 in
     let h₁ = (and_parts r (b && (c && (d && e))) h₀).1 in
     let h₂ = (and_parts b (c && (d && e)) h₁).1 in
@@ -55,18 +55,18 @@ limits_told q h =
       taps = leb-true q.taps most_taps (and_parts b (c && (d && e)) h₁).0;
       depth = leb-true q.depth 5 (and_parts c (d && e) h₂).0;
       phases = leb-true q.phases 64 (and_parts d e h₃).0;
-      cells = leb-true q.cells 16 (and_parts d e h₃).1;
+      phase_taps = leb-true q.phase_taps 16 (and_parts d e h₃).1;
     }
 
 pub told_limits : (q : Settings) → InLimits q → in_limits q ≡ true
 unfolding in_limits
 told_limits q m =
-    rw (le-leb q.stages 8 m.stages, le-leb q.r 4096 m.r, le-leb q.taps most_taps m.taps, le-leb q.depth 5 m.depth, le-leb q.phases 64 m.phases, le-leb q.cells 16 m.cells)
+    rw (le-leb q.stages 8 m.stages, le-leb q.r 4096 m.r, le-leb q.taps most_taps m.taps, le-leb q.depth 5 m.depth, le-leb q.phases 64 m.phases, le-leb q.phase_taps 16 m.phase_taps)
 
 -- an off resampler's cells are none
-off_cells : (q : Settings) (e : List ℕ) → resampler_written q e ≡ true → q.phases ≡ 0 → q.cells ≡ 0
+off_cells : (q : Settings) (e : List ℕ) → resampler_written q e ≡ true → q.phases ≡ 0 → q.phase_taps ≡ 0
 unfolding resampler_written
-off_cells q e h z = eqb-true q.cells 0 (and_parts (eqb q.cells 0) (eqb q.straight 0 && (eqb q.step 0 && eqb (le32 e 0) 0)) (rw (eq-eqb q.phases 0 z) at h)).0
+off_cells q e h z = eqb-true q.phase_taps 0 (and_parts (eqb q.phase_taps 0) (eqb q.straight 0 && (eqb q.step 0 && eqb (le32 e 0) 0)) (rw (eq-eqb q.phases 0 z) at h)).0
 
 -- a line that was read with these settings has their numbers
 pub record With (q : Settings) (l : Line) : Type 0 where
@@ -74,7 +74,7 @@ pub record With (q : Settings) (l : Line) : Type 0 where
   pub r : l.cic.r ≡ q.r
   pub depth : l.half_band.depth ≡ q.depth
   pub phases : l.resampler.phases ≡ q.phases
-  pub cells : l.resampler.taps ≡ q.cells
+  pub phase_taps : l.resampler.taps ≡ q.phase_taps
 
 module _ (l : Line) (q : Settings) (delay half_band cells resampler : List ℕ) (w : With q l) where
   fine_written : fine_in l q delay half_band cells resampler ≡ true → resampler_written q resampler ≡ true
@@ -109,12 +109,12 @@ module _ (l : Line) (q : Settings) (delay half_band cells resampler : List ℕ) 
       let g = to_parts l (fine_valid h) in
       let n = thin_numbers (L.thinner_of l) g.0 in
       let d = half_depth l.half_band g.1.1.1.1.0 in
-      let r : (q.phases ≤ 64) × (q.cells ≤ 16) = elim (dec_lt 0 q.phases) [
-        | yes p ↦ (let t = resampler_taps l.resampler g.1.1.1.1.1 (let z : l.resampler.phases ≡ 0 → ⊥ = (let e = w.phases in omega arith) in z) in let e = w.phases in let f = w.cells in (omega arith, omega arith))
+      let r : (q.phases ≤ 64) × (q.phase_taps ≤ 16) = elim (dec_lt 0 q.phases) [
+        | yes p ↦ (let t = resampler_taps l.resampler g.1.1.1.1.1 (let z : l.resampler.phases ≡ 0 → ⊥ = (let e = w.phases in omega arith) in z) in let e = w.phases in let f = w.phase_taps in (omega arith, omega arith))
         | no p ↦ (let z : q.phases ≡ 0 = omega arith in let c = off_cells q resampler (fine_written h) z in (omega arith, omega arith))
       ] in
       let e₁ = w.stages in let e₂ = w.r in let e₃ = w.depth in let m₁ = n.stages in let m₂ = n.r in
-      record { stages = omega arith; r = omega arith; taps = fine_taps h; depth = omega arith; phases = r.0; cells = r.1 }
+      record { stages = omega arith; r = omega arith; taps = fine_taps h; depth = omega arith; phases = r.0; phase_taps = r.1 }
 
   -- out of the limits, 15
   in_outside : in_limits q ≡ false → refused_line 15 ≡ opened_in l q delay half_band cells resampler
@@ -156,8 +156,8 @@ last_out false b c d e f g = refl
 -- what only one kind has, and then what both have
 pub long_is : (k : Thinning) (q : Settings) (e : Parts) → first_by k q (length e.cic) (length e.last) && rest_by q e ≡ long_by k q e
 unfolding long_as thin_long_as same sizes thin_sizes
-long_is thinning.Integrators q e = ap (λ (x : Bool). eqb (length e.cic) (2 + 8 * q.stages) && (eqb (length e.taps) (2 * q.taps) && (eqb (length e.delay) (2 + 2 * q.taps) && (eqb (length e.half_band) (half_band_bytes q.depth) && (eqb (length e.cells) (4 * (q.phases * q.cells)) && x))))) (sym (and-true (eqb (length e.resampler) (4 + 4 * q.cells))))
-long_is thinning.Neighbours q e = last_out (eqb (length e.cic) 0) (eqb (length e.taps) (2 * q.taps)) (eqb (length e.delay) (2 + 2 * q.taps)) (eqb (length e.half_band) (half_band_bytes q.depth)) (eqb (length e.cells) (4 * (q.phases * q.cells))) (eqb (length e.resampler) (4 + 4 * q.cells)) (eqb (length e.last) (2 + 4 * neighbour_count q.stages q.r))
+long_is thinning.Integrators q e = ap (λ (x : Bool). eqb (length e.cic) (2 + 8 * q.stages) && (eqb (length e.taps) (2 * q.taps) && (eqb (length e.delay) (2 + 2 * q.taps) && (eqb (length e.half_band) (half_band_bytes q.depth) && (eqb (length e.cells) (4 * (q.phases * q.phase_taps)) && x))))) (sym (and-true (eqb (length e.resampler) (4 + 4 * q.phase_taps))))
+long_is thinning.Neighbours q e = last_out (eqb (length e.cic) 0) (eqb (length e.taps) (2 * q.taps)) (eqb (length e.delay) (2 + 2 * q.taps)) (eqb (length e.half_band) (half_band_bytes q.depth)) (eqb (length e.cells) (4 * (q.phases * q.phase_taps))) (eqb (length e.resampler) (4 + 4 * q.phase_taps)) (eqb (length e.last) (2 + 4 * neighbour_count q.stages q.r))
 
 first_cic : (k : Thinning) (q : Settings) (c l : ℕ) → first_by k q c l ≡ true → k ≡ thinning.Integrators → c ≡ 2 + 8 * q.stages
 first_cic thinning.Integrators q c l h z = eqb-true c (2 + 8 * q.stages) h
@@ -173,8 +173,8 @@ long_fits k q e h =
     let m₂ : Bool = eqb (length e.taps) (2 * q.taps) in
     let m₃ : Bool = eqb (length e.delay) (2 + 2 * q.taps) in
     let m₄ : Bool = eqb (length e.half_band) (half_band_bytes q.depth) in
-    let m₅ : Bool = eqb (length e.cells) (4 * (q.phases * q.cells)) in
-    let m₆ : Bool = eqb (length e.resampler) (4 + 4 * q.cells) in
+    let m₅ : Bool = eqb (length e.cells) (4 * (q.phases * q.phase_taps)) in
+    let m₆ : Bool = eqb (length e.resampler) (4 + 4 * q.phase_taps) in
     let g : a && (m₂ && (m₃ && (m₄ && (m₅ && m₆)))) ≡ true = long_is k q e ∙ h in
     let f = (and_parts a (m₂ && (m₃ && (m₄ && (m₅ && m₆)))) g).0 in
     let e₂ = (and_parts a (m₂ && (m₃ && (m₄ && (m₅ && m₆)))) g).1 in
@@ -187,16 +187,16 @@ long_fits k q e h =
       taps = eqb-true (length e.taps) (2 * q.taps) (and_parts m₂ (m₃ && (m₄ && (m₅ && m₆))) e₂).0;
       delay = eqb-true (length e.delay) (2 + 2 * q.taps) (and_parts m₃ (m₄ && (m₅ && m₆)) e₃).0;
       half_band = eqb-true (length e.half_band) (half_band_bytes q.depth) (and_parts m₄ (m₅ && m₆) e₄).0;
-      cells = eqb-true (length e.cells) (4 * (q.phases * q.cells)) (and_parts m₅ m₆ e₅).0;
-      resampler = eqb-true (length e.resampler) (4 + 4 * q.cells) (and_parts m₅ m₆ e₅).1;
+      cells = eqb-true (length e.cells) (4 * (q.phases * q.phase_taps)) (and_parts m₅ m₆ e₅).0;
+      resampler = eqb-true (length e.resampler) (4 + 4 * q.phase_taps) (and_parts m₅ m₆ e₅).1;
     }
 
 -- ---- of either kind
 
 line_with_by : (k : Thinning) (q : Settings) (e : Parts) → With q (line_by k q e)
 unfolding line_of thin_line_of cic_from place_from half_band_from resampler_from
-line_with_by thinning.Integrators q e = record { stages = refl; r = refl; depth = refl; phases = refl; cells = refl }
-line_with_by thinning.Neighbours q e = record { stages = refl; r = refl; depth = refl; phases = refl; cells = refl }
+line_with_by thinning.Integrators q e = record { stages = refl; r = refl; depth = refl; phases = refl; phase_taps = refl }
+line_with_by thinning.Neighbours q e = record { stages = refl; r = refl; depth = refl; phases = refl; phase_taps = refl }
 
 module _ (k : Thinning) (q : Settings) (e : Parts) where
   pub outside_by : in_limits q ≡ false → refused_line 15 ≡ opened_in_by k q e

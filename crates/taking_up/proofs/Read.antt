@@ -30,7 +30,7 @@ use Rattle.taking_up.specs.Taking.{line_of, thin_line_of, line_fine, written_of}
 abbrev pub none : LineNumbers
 none =
     record {
-      settings = record { stages = 0; r = 0; factor = 0; depth = 0; phases = 0; taps = 0; straight = false; step = zero32; thinning = thinning.Integrators };
+      settings = record { stages = 0; r = 0; factor = 0; depth = 0; phases = 0; phase_taps = 0; straight = false; step = zero32; thinning = thinning.Integrators };
       tap_count = 0;
       clock = record { sample_counter = 0; wait = 0; mu = zero32; cuts = 0 };
     }

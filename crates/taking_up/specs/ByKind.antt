@@ -70,7 +70,7 @@ first_by thinning.Integrators q cic last = eqb cic (2 + 8 * q.stages)
 first_by thinning.Neighbours q cic last = eqb cic 0 && eqb last (2 + 4 * neighbour_count q.stages q.r)
 
 abbrev pub rest_by : Settings → Parts → Bool
-rest_by q e = eqb (length e.taps) (2 * q.taps) && (eqb (length e.delay) (2 + 2 * q.taps) && (eqb (length e.half_band) (half_band_bytes q.depth) && (eqb (length e.cells) (4 * (q.phases * q.cells)) && eqb (length e.resampler) (4 + 4 * q.cells))))
+rest_by q e = eqb (length e.taps) (2 * q.taps) && (eqb (length e.delay) (2 + 2 * q.taps) && (eqb (length e.half_band) (half_band_bytes q.depth) && (eqb (length e.cells) (4 * (q.phases * q.phase_taps)) && eqb (length e.resampler) (4 + 4 * q.phase_taps))))
 
 abbrev pub long_by : Thinning → Settings → Parts → Bool
 long_by thinning.Integrators q e = long_as q (length e.cic) (length e.taps) (length e.delay) (length e.half_band) (length e.cells) (length e.resampler)
@@ -82,8 +82,8 @@ pub record Long (k : Thinning) (q : Settings) (e : Parts) : Type 0 where
   pub taps : length e.taps ≡ 2 * q.taps
   pub delay : length e.delay ≡ 2 + 2 * q.taps
   pub half_band : length e.half_band ≡ half_band_bytes q.depth
-  pub cells : length e.cells ≡ 4 * (q.phases * q.cells)
-  pub resampler : length e.resampler ≡ 4 + 4 * q.cells
+  pub cells : length e.cells ≡ 4 * (q.phases * q.phase_taps)
+  pub resampler : length e.resampler ≡ 4 + 4 * q.phase_taps
 
 -- the line of the entries
 abbrev pub line_by : Thinning → Settings → Parts → Line

@@ -13,7 +13,7 @@ use Rattle.parking.specs.Entries.{cic_from, place_from, neighbours_from, fir_fro
 
 -- 01's limits, as far as lengths go, as a test
 unfoldable pub in_limits : Settings → Bool
-in_limits q = leb q.stages 8 && (leb q.r 4096 && (leb q.taps most_taps && (leb q.depth 5 && (leb q.phases 64 && leb q.cells 16))))
+in_limits q = leb q.stages 8 && (leb q.r 4096 && (leb q.taps most_taps && (leb q.depth 5 && (leb q.phases 64 && leb q.phase_taps 16))))
 
 -- the line of settings and the six entries behind them
 unfoldable pub line_of : Settings → List ℕ → List ℕ → List ℕ → List ℕ → List ℕ → List ℕ → Line
@@ -43,7 +43,7 @@ thin_line_of q taps delay half_band cells resampler last =
 
 -- whether the floats are words that parking writes, and whether it writes such fields
 unfoldable pub floats_written : Settings → List ℕ → List ℕ → List ℕ → Bool
-floats_written q half_band cells resampler = stages_written half_band (min q.depth 5) && (floats_at cells 0 (q.phases * q.cells) && floats_at resampler 0 (1 + q.cells))
+floats_written q half_band cells resampler = stages_written half_band (min q.depth 5) && (floats_at cells 0 (q.phases * q.phase_taps) && floats_at resampler 0 (1 + q.phase_taps))
 
 unfoldable pub written_of : Settings → List ℕ → List ℕ → List ℕ → List ℕ → Bool
 written_of q delay half_band cells resampler =

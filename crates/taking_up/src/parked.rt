@@ -100,13 +100,13 @@ impl<'a> Parked<'a> {
         prototype: &mut [f32; MOST_CELLS],
     ) -> f32
         ensures { let q = self.entry.q in let e = told self.entry.e in
-            R.together (leb 1 q.straight) q.phases q.cells result (of_bits binary32 q.step) delay.new prototype.new ≡ E.resampler_from (numbers_of q) e.cells e.resampler }
+            R.together (leb 1 q.straight) q.phases q.phase_taps result (of_bits binary32 q.step) delay.new prototype.new ≡ E.resampler_from (numbers_of q) e.cells e.resampler }
     {
         let q = self.q;
         let e = self.e.resampler;
         clear_resampler(delay, prototype);
-        read_values(e, 4, q.cells, delay);
-        read_values(self.e.cells, 0, q.phases * q.cells, prototype);
+        read_values(e, 4, q.phase_taps, delay);
+        read_values(self.e.cells, 0, q.phases * q.phase_taps, prototype);
         f32_of_bits(le32_at(e, 0))
     }
 
@@ -127,7 +127,7 @@ impl<'a> Parked<'a> {
                 factor: q.factor,
                 depth: q.depth,
                 phases: q.phases,
-                taps: q.cells,
+                phase_taps: q.phase_taps,
                 straight: 1 <= q.straight,
                 step: f32_of_bits(q.step),
                 thinning: self.e.thinning(),
@@ -161,8 +161,8 @@ impl<'a> Parked<'a> {
         ensures { let e = told self.entry.e in result ≡ T.floats_written (numbers_of self.entry.q) e.half_band e.cells e.resampler }
     {
         self.stages_written()
-            && are_floats(self.e.cells, 0, self.q.phases * self.q.cells)
-            && are_floats(self.e.resampler, 0, 1 + self.q.cells)
+            && are_floats(self.e.cells, 0, self.q.phases * self.q.phase_taps)
+            && are_floats(self.e.resampler, 0, 1 + self.q.phase_taps)
     }
 
     // Whether the line that was read, of these numbers and counts of held samples, is one that parking writes. Refusal 15.

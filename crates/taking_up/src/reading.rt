@@ -34,7 +34,7 @@ pub(crate) fn settings_from(e: &[u8]) -> ParkedSettings
         factor: usize::from(le16_at(e, 6)),
         depth: usize::from(le16_at(e, 8)),
         phases: usize::from(le16_at(e, 10)),
-        cells: usize::from(le16_at(e, 12)),
+        phase_taps: usize::from(le16_at(e, 12)),
         straight: usize::from(le16_at(e, 14)),
         step: le32_at(e, 16),
         cuts: le32_at(e, 20),
@@ -51,7 +51,7 @@ pub(crate) fn in_limits(q: ParkedSettings) -> bool
         && q.taps <= MOST_TAPS
         && q.depth <= MOST_DEPTH
         && q.phases <= MOST_PHASES
-        && q.cells <= MOST_PHASE_TAPS
+        && q.phase_taps <= MOST_PHASE_TAPS
 }
 
 // n values from a place on, into the front of an array.
@@ -113,5 +113,5 @@ pub(crate) fn fir_written(q: ParkedSettings, e: &[u8]) -> bool
 pub(crate) fn resampler_written(q: ParkedSettings, e: &[u8]) -> bool
     ensures { result ≡ E.resampler_written (numbers_of q) e.now }
 {
-    q.phases != 0 || (q.cells == 0 && q.straight == 0 && q.step == 0 && le32_at(e, 0) == 0)
+    q.phases != 0 || (q.phase_taps == 0 && q.straight == 0 && q.step == 0 && le32_at(e, 0) == 0)
 }

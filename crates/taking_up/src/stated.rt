@@ -36,8 +36,8 @@ impl<'a> Stated<'a> {
         self.e.taps.len() == 2 * self.q.taps
             && self.e.delay.len() == 2 + 2 * self.q.taps
             && self.e.half_band.len() == half_band_bytes(self.q.depth)
-            && self.e.cells.len() == 4 * (self.q.phases * self.q.cells)
-            && self.e.resampler.len() == 4 + 4 * self.q.cells
+            && self.e.cells.len() == 4 * (self.q.phases * self.q.phase_taps)
+            && self.e.resampler.len() == 4 + 4 * self.q.phase_taps
     }
 
     // Whether the entries behind the settings are as long as these make them. Refusal 21.

@@ -8,8 +8,8 @@ summed-y0-requires c =
     let r = c.args.self in
     let l = inside _ _ r.phases_inside r.taps_inside in
     let few = r.taps_inside in
-    let front : length (take (r.setting.taps - 1) c.args.delay.now) ≡ r.setting.taps - 1 = length-take-le _ _ (omega (arith, c.requires.0)) in
-    let all : length (take (r.setting.taps - 1) c.args.delay.now) + 1 ≤ r.setting.taps = omega (arith, few, front) in
+    let front : length (take (r.setting.phase_taps - 1) c.args.delay.now) ≡ r.setting.phase_taps - 1 = length-take-le _ _ (omega (arith, c.requires.0)) in
+    let all : length (take (r.setting.phase_taps - 1) c.args.delay.now) + 1 ≤ r.setting.phase_taps = omega (arith, few, front) in
     let most = r.phases_inside.1 in
     (omega (arith, few, front), near_inside _ _ _ _ l all (omega (arith, c.requires.1)), near_inside _ _ _ _ l all (omega (arith, c.requires.1)), omega (arith, c.requires.1, most), omega (arith, c.requires.1, most))
 
@@ -18,9 +18,9 @@ returns c =
     let r = c.args.self in
     let p = c.args.p in
     let l = inside _ _ r.phases_inside r.taps_inside in
-    let last : r.setting.taps ≡ r.setting.taps - 1 + 1 = omega (arith, r.taps_inside) in
-    let front : length (take (r.setting.taps - 1) c.args.delay.now) ≡ r.setting.taps - 1 = length-take-le _ _ (omega (arith, c.requires.0)) in
-    let from = (r.setting.taps - 1) * r.setting.phases in
+    let last : r.setting.phase_taps ≡ r.setting.phase_taps - 1 + 1 = omega (arith, r.taps_inside) in
+    let front : length (take (r.setting.phase_taps - 1) c.args.delay.now) ≡ r.setting.phase_taps - 1 = length-take-le _ _ (omega (arith, c.requires.0)) in
+    let from = (r.setting.phase_taps - 1) * r.setting.phases in
     let next : from + p + 1 ≡ from + (p + 1) = omega arith in
     let y0 = last_straight _ _ _ _ _ p _ _ _ l last (omega (arith, c.requires.1)) refl (c.summed-y0.ensures.0 ∙ sum_front _ _ _ _ front) (c.cell_at-c0.ensures ∙ cell_front _ _ _ _ c.cells-cells.ensures) in
     let y1 = last_straight _ _ _ _ _ (p + 1) _ _ _ l last (omega (arith, c.requires.1)) next (c.summed-y0.ensures.1 ∙ sum_front _ _ _ _ front) (c.cell_at-c1.ensures ∙ cell_front _ _ _ _ c.cells-cells.ensures) in

@@ -15,10 +15,10 @@ loop-written-init c =
     let a = c.args in
     let q = a.self.setting in
     let few = a.self.taps_inside.1 in
-    let long : length (take q.taps a.delay.now) ≡ q.taps = length-take-le _ _ (omega (arith, few, c.told-delay)) in
-    let fits : length (take q.taps a.delay.now) ≤ 80 = omega (arith, long, few) in
-    let start : wound q.taps c.put_at_end.new.span (80 - q.taps) a.delay.now ≡ a.delay.now =
-    rw (c.put_at_end.ensures, ends_in (take q.taps a.delay.now) (replicate 80 zero32) fits, long) (wound_start q.taps a.delay.now (replicate 80 zero32) (omega arith)) in
+    let long : length (take q.phase_taps a.delay.now) ≡ q.phase_taps = length-take-le _ _ (omega (arith, few, c.told-delay)) in
+    let fits : length (take q.phase_taps a.delay.now) ≤ 80 = omega (arith, long, few) in
+    let start : wound q.phase_taps c.put_at_end.new.span (80 - q.phase_taps) a.delay.now ≡ a.delay.now =
+    rw (c.put_at_end.ensures, ends_in (take q.phase_taps a.delay.now) (replicate 80 zero32) fits, long) (wound_start q.phase_taps a.delay.now (replicate 80 zero32) (omega arith)) in
     record {
       between = rw start (between_start resampler (state_of q a.mu.now a.delay.now a.self.prototype.now) a.src.now a.dst.now);
       whole = c.put_at_end.auto.span;
@@ -30,7 +30,7 @@ pub loop-written-smaller-then-at : goal.loop-written-smaller-then-at
 loop-written-smaller-then-at c =
     let q = c.args.self.setting in
     let l = c.loop-written in
-    let due = due_grows q.straight q.phases q.taps q.step _ c.args.self.prototype.now l.at l.written l.dst (told_due c.write_due-due.result c.write_due-due.new.dst) c.write_due-due.ensures c.loop-written-test.true c.if-at.true in
+    let due = due_grows q.straight q.phases q.phase_taps q.step _ c.args.self.prototype.now l.at l.written l.dst (told_due c.write_due-due.result c.write_due-due.new.dst) c.write_due-due.ensures c.loop-written-test.true c.if-at.true in
     omega (arith, due, c.loop-written-test.true, c.loop-written.auto.dst)
 
 pub loop-written-preserved-then-at : goal.loop-written-preserved-then-at
@@ -38,10 +38,10 @@ loop-written-preserved-then-at c =
     let a = c.args in
     let q = a.self.setting in
     let l = c.loop-written in
-    let d = wound q.taps l.tape l.newest a.delay.now in
+    let d = wound q.phase_taps l.tape l.newest a.delay.now in
     let some : 0 < q.phases = omega (arith, a.self.phases_inside) in
-    let made = due_between q.straight q.phases q.taps q.step _ d a.self.prototype.now (state_of q a.mu.now a.delay.now a.self.prototype.now) a.src.now a.dst.now l.taken
-    (λ mu. outputs_alike q.phases q.taps a.self.prototype.now a.self.prototype.now _ _ some (λ i u. refl) (λ t u. wound_at q.taps a.delay.now l.tape l.newest (80 - l.newest) t (omega (arith, l.invariant)) (omega (arith, l.invariant)) u) q.straight mu)
+    let made = due_between q.straight q.phases q.phase_taps q.step _ d a.self.prototype.now (state_of q a.mu.now a.delay.now a.self.prototype.now) a.src.now a.dst.now l.taken
+    (λ mu. outputs_alike q.phases q.phase_taps a.self.prototype.now a.self.prototype.now _ _ some (λ i u. refl) (λ t u. wound_at q.phase_taps a.delay.now l.tape l.newest (80 - l.newest) t (omega (arith, l.invariant)) (omega (arith, l.invariant)) u) q.straight mu)
     l.at l.written l.dst l.invariant.between (told_due c.write_due-due.result c.write_due-due.new.dst) c.write_due-due.ensures in
     record { between = made.0; whole = l.invariant.whole; on_tape = l.invariant.on_tape }
 
@@ -51,7 +51,7 @@ loop-written-preserved c =
     let a = c.args in
     let q = a.self.setting in
     let l = c.loop-written in
-    let moved = wound_in q.taps a.delay.now l.tape c.take_in-newest.new.tape l.newest c.take_in-newest.result _ a.self.taps_inside.1 (omega (arith, l.invariant.whole, l.invariant.on_tape)) c.take_in-newest.ensures.1 in
+    let moved = wound_in q.phase_taps a.delay.now l.tape c.take_in-newest.new.tape l.newest c.take_in-newest.result _ a.self.taps_inside.1 (omega (arith, l.invariant.whole, l.invariant.on_tape)) c.take_in-newest.ensures.1 in
     record {
       between = rw (moved, c.in-Some.ensures.lookup.1) (after_input resampler _ _ _ _ _ _ _ l.invariant.between c.in-Some.field-0.now c.if-at.false refl c.loop-written-test.true (ltb-true _ _ (sym c.in-Some.ensures.lookup.0)));
       whole = c.take_in-newest.array_long;
@@ -70,6 +70,6 @@ returns c =
       | else-loop-written-test w ↦ ended_full resampler _ _ _ _ _ _ _ l.invariant.between w.loop-written-test.false
       | then-loop-written-test+else-at+in_default w ↦ ended_dry resampler _ _ _ _ _ _ _ l.invariant.between w.if-at.false (ltb-false _ _ (sym w.in_default.ensures.lookup.0))
     ] in
-    let whole : l.newest + q.taps - l.newest ≡ q.taps = omega arith in
-    rw (c.copy_from_slice.ensures.after, wound_front q.taps a.delay.now l.tape l.newest (l.newest + q.taps - l.newest) whole)
+    let whole : l.newest + q.phase_taps - l.newest ≡ q.phase_taps = omega arith in
+    rw (c.copy_from_slice.ensures.after, wound_front q.phase_taps a.delay.now l.tape l.newest (l.newest + q.phase_taps - l.newest) whole)
     (finished q a.mu.now a.self.prototype.now a.delay.now a.src.now a.dst.now _ l.at _ _ l.invariant.between ended)

@@ -11,4 +11,4 @@ unfolding fresh own_taps
 returns c =
     let a = c.args in
     ap₂ (λ (d h : List Float). state_of a.self one32 d h) (c.fill.ensures.after (λ y e. e) ∙ ap (λ (n : ℕ). replicate n zero32) c.told-delay)
-    (c.keep.ensures ∙ kept_held a.cells.now c.saturating_mul.result (a.self.phases * a.self.taps) c.saturating_mul.ensures c.told-cells)
+    (c.keep.ensures ∙ kept_held a.cells.now c.saturating_mul.result (a.self.phases * a.self.phase_taps) c.saturating_mul.ensures c.told-cells)

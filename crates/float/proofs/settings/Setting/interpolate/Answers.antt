@@ -17,4 +17,4 @@ returns c =
     let a = c.args in
     let e : c.clamp.result ≡ cut_unit c.args.mu = unfold cut_unit in c.clamp.ensures.value in
     rw (sym c.in_limits.ensures ∙ c.if-not-in_limits.false)
-    ((rw (c.of.ensures.1, c.of.ensures.0) at c.interpolate.ensures) ∙ ap (λ (x : Float). output a.self.straight a.self.phases a.self.taps x a.delay.now a.prototype.now) e ∙ output_cut _ _ _ a.mu _ _)
+    ((rw (c.of.ensures.1, c.of.ensures.0) at c.interpolate.ensures) ∙ ap (λ (x : Float). output a.self.straight a.self.phases a.self.phase_taps x a.delay.now a.prototype.now) e ∙ output_cut _ _ _ a.mu _ _)

@@ -15,14 +15,14 @@ returns-in-Err c =
     let a = c.args in
     let s = a.self.now in
     let q = c.in-Err.row in
-    let refused = refused_by s.straight s.phases s.taps a.prototype.now s.step (number_of q) (number_positive q) c.in-Err.ensures in
+    let refused = refused_by s.straight s.phases s.phase_taps a.prototype.now s.step (number_of q) (number_positive q) c.in-Err.ensures in
     let made = opening_answer (ap {B = Opened PolyphaseResampF32} (λ (z : PolyphaseResampF32). record { number = number_of q; state = z }) c.clear.ensures ∙ refused) in
     record { answer = made.0; whole = made.1 }
 
 pub slice_bounds-copy_from_slice-end : goal.slice_bounds-copy_from_slice-end
 slice_bounds-copy_from_slice-end c =
     let s = c.args.self.now in
-    let opens = taken_by s.straight s.phases s.taps c.args.prototype.now s.step c.in-Ok.ensures in
+    let opens = taken_by s.straight s.phases s.phase_taps c.args.prototype.now s.step c.in-Ok.ensures in
     opens.fits
 
 -- the prototype is what stands in front of the cells
@@ -35,10 +35,10 @@ returns-in-Ok c =
     let a = c.args in
     let s = a.self.now in
     let h = a.prototype.now in
-    let opens = taken_by s.straight s.phases s.taps h s.step c.in-Ok.ensures in
-    let own = own_is h c.copy_from_slice.new.self (drop (length h) a.cells.now) (s.phases * s.taps) c.copy_from_slice.ensures.after opens.long in
+    let opens = taken_by s.straight s.phases s.phase_taps h s.step c.in-Ok.ensures in
+    let own = own_is h c.copy_from_slice.new.self (drop (length h) a.cells.now) (s.phases * s.phase_taps) c.copy_from_slice.ensures.after opens.long in
     let made =
     opening_answer (ap {B = Opened PolyphaseResampF32} (λ (z : PolyphaseResampF32). record { number = 0; state = z })
-    (c.begin.ensures ∙ ap (λ (l : List Float). fresh s.straight s.phases s.taps l s.step) own) ∙ sym opens.whole)
+    (c.begin.ensures ∙ ap (λ (l : List Float). fresh s.straight s.phases s.phase_taps l s.step) own) ∙ sym opens.whole)
     in
     record { answer = made.0; whole = made.1 }
