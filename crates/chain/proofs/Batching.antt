@@ -16,7 +16,7 @@ use Rattle.theory.proofs.FeedsSeen.{feed_seen, feed_hands}
 use Rattle.float.specs.PolyphaseResamp.{is_on, passed, consumed, in_line, resampler, valid_in_line}
 use Rattle.float.specs.declared.polyphase_resamp.PolyphaseResampF32.{PolyphaseResampF32}
 use Rattle.float.proofs.PolyphaseRange as Res
-use Rattle.chain.specs.Batched.{Whole, Batched}
+use Rattle.chain.specs.inner.Batched.{Whole, Batched}
 
 -- ---- a section in front of a machine
 module _ {S R A B : Type 0} (f : Section S A B) (m : Machine R B Float) where

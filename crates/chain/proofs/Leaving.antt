@@ -27,9 +27,9 @@ use Rattle.float.specs.PolyphaseResamp as R
 use Rattle.float.specs.declared.polyphase_resamp.PolyphaseResampF32.{PolyphaseResampF32}
 use Rattle.float.proofs.LinePace.{stride_of, leaves_place}
 use Rattle.chain.specs.Chain.{from2, from3, from4, from5, from_levels}
-use Rattle.chain.specs.Parts.{fir_of, half_band_of, resampler_of, levels_on, fir_on, cut_on}
-use Rattle.chain.specs.Batched.{most_sums, Leaves}
-use Rattle.chain.specs.Counting.{or_one, stages_left}
+use Rattle.chain.specs.inner.Parts.{fir_of, half_band_of, resampler_of, levels_on, fir_on, cut_on}
+use Rattle.chain.specs.inner.Batched.{most_sums, Leaves}
+use Rattle.chain.specs.inner.Counting.{or_one, stages_left}
 use Rattle.chain.specs.declared.fixed.Fixed.{Fixed}
 use Rattle.chain.proofs.Sections.{FirGood, fir_left, fir_period, fir_down, HalfGood, half_left, half_period, half_down, some_stages}
 

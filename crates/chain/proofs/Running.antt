@@ -22,10 +22,10 @@ use Rattle.theory.specs.Lists.{but_last}
 use Rattle.theory.specs.Sections.{onto, state, outs}
 use Rattle.theory.specs.Tally.{held_sum}
 use Rattle.theory.specs.Machines.{Machine, alone}
-use Rattle.theory.specs.Feeds.{Fed, idle, less, feed}
+use Rattle.theory.specs.Feeds.{Fed, idle, feed}
 use Rattle.theory.proofs.Machines.{lawful_alone}
 use Rattle.theory.proofs.Tally.{held_more}
-use Rattle.theory.proofs.Feeds.{feed_right}
+use Rattle.theory.proofs.Feeds.{less, feed_right}
 use Rattle.theory.proofs.FeedRules.{feed_full, feed_due, feed_end}
 use Rattle.theory.proofs.Batches.{feed_takes, feed_alone, alone_before_last, whole_but_last}
 use Rattle.theory.proofs.Sections.{outs_few}
@@ -34,12 +34,12 @@ use Rattle.nonrecursive.specs.EitherKind.{Thinner, either, thin, thin_fed, valid
 use Rattle.nonrecursive.proofs.EitherKind.{outs_scaled, state_scaled}
 use Rattle.q15.specs.Fixed.{cut, cut_count}
 use Rattle.q15.specs.FirDecimator.{fir, summing}
-use Rattle.q15.specs.FirBlock.{block_fits, fir_block_state, fir_block_outs, fir_block_cuts}
+use Rattle.q15.specs.inner.FirBlock.{block_fits, fir_block_state, fir_block_outs, fir_block_cuts}
 use Rattle.q15.specs.declared.fir_decimator.FirDecimator.{FirDecimator}
 use Rattle.q15.proofs.CutFilling.{count_few}
 use Rattle.q15.proofs.FirBlocks.{block_fits_lem}
 use Rattle.half_band.specs.HbfStream.{hbf_stream}
-use Rattle.half_band.specs.HbfStreamBlock.{stream_block_fits, stream_block_state, stream_block_outs}
+use Rattle.half_band.specs.inner.HbfStreamBlock.{stream_block_fits, stream_block_state, stream_block_outs}
 use Rattle.half_band.specs.declared.hbf_stream.HbfStream.{HbfStream}
 use Rattle.half_band.proofs.InPlace.{end_put}
 use Rattle.float.specs.Level.{level}
@@ -47,9 +47,9 @@ use Rattle.float.specs.PolyphaseResamp.{is_on, in_line, resampler, valid, valid_
 use Rattle.float.specs.declared.polyphase_resamp.PolyphaseResampF32.{PolyphaseResampF32}
 use Rattle.float.proofs.PolyphaseRange as Res
 use Rattle.chain.specs.Chain.{Parts2, from2, from3, from4, from5, from_levels, chain}
-use Rattle.chain.specs.Parts.{levels_on, fir_on, cut_on}
+use Rattle.chain.specs.inner.Parts.{levels_on, fir_on, cut_on}
 use Rattle.chain.specs.Cuts.{most_cuts}
-use Rattle.chain.specs.Batched.{Whole, Leaves, Batched}
+use Rattle.chain.specs.inner.Batched.{Whole, Leaves, Batched}
 use Rattle.chain.proofs.Batching.{whole_behind, batched_before, batched_each, whole_each, is_off, is_on_lem, batched_off, off_room, fed_on_lem}
 
 -- ---- a feed writes no more than there are places

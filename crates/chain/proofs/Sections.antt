@@ -25,11 +25,11 @@ use Rattle.half_band.specs.HbfStream.{Half, Passed, half, stage_in, with_stage, 
 use Rattle.half_band.specs.HbfTaps.{stage_taps, decimation}
 use Rattle.half_band.specs.Limits.{most_depth}
 use Rattle.half_band.specs.declared.hbf_stream.HbfStream.{HbfStream}
-use Rattle.half_band.specs.HbfTaps.{decimation_five}
+use Rattle.half_band.specs.inner.FiveStages.{decimation_five}
 use Rattle.half_band.proofs.Passing.{none_through}
 use Rattle.half_band.proofs.Streaming.{depth_next}
 use Rattle.std.proofs.lemmas.Bool.{and_parts}
-use Rattle.chain.specs.Counting.{or_one, stages_left}
+use Rattle.chain.specs.inner.Counting.{or_one, stages_left}
 use Rattle.theory.proofs.Counting.{came, CountsDown}
 
 -- a choice, seen

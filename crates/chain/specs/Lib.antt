@@ -1,6 +1,4 @@
 pub mod Chain
-pub mod Parts
 pub mod Cuts
-pub mod Batched
-pub mod Counting
-pub mod Lending
+pub mod Same
+pub mod inner

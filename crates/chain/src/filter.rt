@@ -8,8 +8,9 @@ ghost use Rattle.q15.specs.FirDecimator.{fir, fir_state, summing};
 ghost use Rattle.float.specs.PolyphaseResamp.{valid_in_line};
 ghost use Rattle.chain.specs.Chain.{from3};
 ghost use Rattle.chain.specs.Cuts.{most_cuts};
-ghost use Rattle.chain.specs.Lending.{fir_in, resampler_in, from_fir_in, Same, ThinnerStays};
-ghost use Rattle.chain.specs.Batched.{most_sums, Whole, Batched};
+ghost use Rattle.chain.specs.Same.{Same};
+ghost use Rattle.chain.specs.inner.Lending.{fir_in, resampler_in, from_fir_in, ThinnerStays};
+ghost use Rattle.chain.specs.inner.Batched.{most_sums, Whole, Batched};
 
 use crate::arrays::Arrays;
 use crate::clock::{Clock, held_sum};

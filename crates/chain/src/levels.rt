@@ -3,9 +3,10 @@ ghost use Rattle.std.specs.Prelude.{◌≡◌, true, ◌++◌, map, ◌≤◌, l
 ghost use Rattle.float.specs.Level.{level};
 ghost use Rattle.float.specs.PolyphaseResamp.{valid_in_line};
 ghost use Rattle.chain.specs.Chain.{from_levels};
-ghost use Rattle.chain.specs.Lending as N;
-ghost use Rattle.chain.specs.Lending.{Same, ThinnerStays};
-ghost use Rattle.chain.specs.Batched.{most_sums, Whole, Batched};
+ghost use Rattle.chain.specs.inner.Lending as N;
+ghost use Rattle.chain.specs.Same.{Same};
+ghost use Rattle.chain.specs.inner.Lending.{ThinnerStays};
+ghost use Rattle.chain.specs.inner.Batched.{most_sums, Whole, Batched};
 
 use crate::arrays::Arrays;
 use crate::fixed::{Fixed, MOST_SUMS};

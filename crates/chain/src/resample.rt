@@ -2,8 +2,8 @@
 ghost use Rattle.std.specs.Prelude.{◌≡◌, true, ◌≤◌, length};
 ghost use Rattle.float.specs.PolyphaseResamp.{valid_in_line};
 ghost use Rattle.chain.specs.Chain.{from5};
-ghost use Rattle.chain.specs.Parts.{resampler_of};
-ghost use Rattle.chain.specs.Batched.{Whole, Batched};
+ghost use Rattle.chain.specs.inner.Parts.{resampler_of};
+ghost use Rattle.chain.specs.inner.Batched.{Whole, Batched};
 
 use crate::fixed::Fixed;
 use float::settings::{MOST_CELLS, MOST_PHASE_TAPS};

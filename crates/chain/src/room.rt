@@ -6,9 +6,9 @@ ghost use Rattle.std.specs.Float.Ieee.{of_bits, mul, to_unsigned};
 ghost use Rattle.q15.specs.FirDecimator.{fir_valid_in_line};
 ghost use Rattle.float.specs.PolyphaseResamp.{valid_in_line};
 ghost use Rattle.chain.specs.Chain.{from2, from5};
-ghost use Rattle.chain.specs.Parts.{fir_of, half_band_of, resampler_of, cut_on};
-ghost use Rattle.chain.specs.Counting.{or_one, stages_left};
-ghost use Rattle.chain.specs.Batched.{most_sums, Leaves};
+ghost use Rattle.chain.specs.inner.Parts.{fir_of, half_band_of, resampler_of, cut_on};
+ghost use Rattle.chain.specs.inner.Counting.{or_one, stages_left};
+ghost use Rattle.chain.specs.inner.Batched.{most_sums, Leaves};
 
 use crate::fixed::{FEW_SUMS, Fixed, MOST_SUMS};
 use float::f32_to_usize_saturating;

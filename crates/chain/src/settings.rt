@@ -1,6 +1,6 @@
 // 01, section 6: what a line is opened with, beside its taps and its prototype.
 ghost use Rattle.std.specs.Prelude.{◌≡◌};
-ghost use Rattle.chain.specs.Parts.{fir_settings_of, setting_of};
+ghost use Rattle.chain.specs.inner.Parts.{fir_settings_of, setting_of};
 
 use float::settings::Setting;
 use nonrecursive::Thinning;

@@ -11,8 +11,9 @@ ghost use Rattle.q15.specs.FirDecimator.{summing};
 ghost use Rattle.float.specs.PolyphaseResamp.{valid_in_line};
 ghost use Rattle.chain.specs.Chain.{from2, chain};
 ghost use Rattle.chain.specs.Cuts.{most_cuts};
-ghost use Rattle.chain.specs.Lending.{resampler_in, parts_in, Same};
-ghost use Rattle.chain.specs.Batched.{most_sums, Whole, Leaves, Batched};
+ghost use Rattle.chain.specs.Same.{Same};
+ghost use Rattle.chain.specs.inner.Lending.{resampler_in, parts_in};
+ghost use Rattle.chain.specs.inner.Batched.{most_sums, Whole, Leaves, Batched};
 
 use crate::arrays::Arrays;
 use crate::clock::{Clock, held_sum};

@@ -1,7 +1,7 @@
 -- Delay and samples stand in a row in front of a tape (`span::lay`): the parts of the tape are theirs, and its part behind the first samples is the next delay.
 use Rattle.std.proofs.Common.{◌≡◌, ℕ, ◌+◌, ◌-◌, ◌≤◌, List, ◌++◌, length, take, drop, sym, refl, ap, ◌∙◌, add_comm, arith, length-append, length-drop, length-take-le, take-take, take_at, take-add, drop_at}
 use lib.Ieee.{Float}
-use Rattle.float.specs.Ending.{ending_in}
+use Rattle.float.specs.inner.Ending.{ending_in}
 use Rattle.float.proofs.Tape.{ends_in, put_over}
 
 -- the front of a tape with d and v

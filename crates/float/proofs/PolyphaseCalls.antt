@@ -11,7 +11,8 @@ use Rattle.refusal.specs.Outcome.{Outcome, Opened}
 use Rattle.refusal.specs.declared.Moved.{Moved}
 use Rattle.float.specs.F32.{one32, above_zero}
 use Rattle.float.specs.PolyphaseOutput.{output}
-use Rattle.float.specs.PolyphaseResamp.{in_limits, valid, consumed, output_of, passed, resampler, Emitted, emitted, emitted_from, fresh, settings_number, refused_opening, opening, own_taps, reset, Counts, laid, together, state_of, RanTo, shifted_in, block, block_outcome, block_span, push, push_outcome, push_span}
+use Rattle.float.specs.PolyphaseResamp.{in_limits, valid, consumed, output_of, passed, resampler, Emitted, emitted, emitted_from, fresh, settings_number, refused_opening, opening, own_taps, reset, Counts, laid, together, state_of, shifted_in, block, block_outcome, block_span, push, push_outcome, push_span}
+use Rattle.float.specs.inner.Running.{RanTo}
 use Rattle.float.specs.PolyphaseWhole.{Opens, Resets, Conserves, BlockKept, PushKept}
 use Rattle.float.specs.declared.polyphase_resamp.PolyphaseResampF32.{PolyphaseResampF32}
 use Rattle.float.specs.declared.settings.Setting.{Setting}

@@ -4,7 +4,7 @@ use lib.ListN.{get_or-append}
 use lib.Seq.{set_split, paste}
 use lib.Ieee.{Float, nan}
 use Rattle.float.specs.PolyphaseResamp.{shifted_in}
-use Rattle.float.specs.Ending.{ending_in}
+use Rattle.float.specs.inner.Ending.{ending_in}
 
 -- the delay whose first T places stand on the tape, and whose others are those of d
 abbrev pub wound : ℕ → List Float → ℕ → List Float → List Float

@@ -5,4 +5,4 @@ pub mod PolyphaseWhole
 pub mod ResampleLinear
 pub mod Level
 pub mod Same
-pub mod Ending
+pub mod inner

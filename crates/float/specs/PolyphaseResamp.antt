@@ -1,5 +1,5 @@
 -- 01, section 5: the resampler's state, its opening and its calls, and as a machine what section 6 says of its whole list.
-use Rattle.std.specs.Prelude.{◌≡◌, ℕ, zero, suc, ◌+◌, ◌-◌, ◌*◌, ◌<◌, Bool, false, cond, not, ◌&&◌, ◌||◌, List, [], ◌∷◌, ◌++◌, length, take, drop, replicate, ◌==◌, from_bits, nat_le, slice_set, Float, None, Some}
+use Rattle.std.specs.Prelude.{ℕ, zero, suc, ◌+◌, ◌-◌, ◌*◌, Bool, false, cond, not, ◌&&◌, ◌||◌, List, [], ◌∷◌, ◌++◌, length, take, drop, replicate, ◌==◌, from_bits, nat_le, slice_set, Float, None, Some}
 use Rattle.std.specs.Float.{binary32}
 use Rattle.std.specs.Float.Ieee.{add, sub, lt, le}
 use Rattle.theory.specs.Machines.{Machine}
@@ -121,10 +121,6 @@ valid_in_line s = valid_in_line_at s.phases s.taps s.step s.mu
 abbrev pub most_cells : ℕ
 most_cells = most_phases * most_taps
 
--- the places from p on, P apart, of the first n taps lie in the prototype's array
-unfoldable pub Inside : ℕ → ℕ → ℕ → Type 0
-Inside P n p = (t : ℕ) → t < n → t * P + p < most_cells
-
 unfoldable pub packed : List Float → List Float
 packed h = take most_cells h ++ replicate (most_cells - length h) zero32
 
@@ -209,19 +205,6 @@ together straight P T mu step d h = record { phases = P; taps = T; straight = st
 -- and of which a call is lent the arrays and mu beside what its opening set
 abbrev pub state_of : Setting → Float → List Float → List Float → PolyphaseResampF32
 state_of q mu d h = together q.straight q.phases q.phase_taps mu q.step d h
-
-abbrev pub setting_of : PolyphaseResampF32 → Setting
-setting_of s = record { phases = s.phases; phase_taps = s.taps; straight = s.straight; step = s.step }
-
--- what a run from mu₀ left: the counts r, mu and the delay d are those of the feed, and the span o is o₀ with the outputs in front
-abbrev pub ran : Setting → Float → List Float → List Float → List Float → List Float → Fed PolyphaseResampF32 Float
-ran q mu₀ h d₀ xs o₀ = feed resampler (state_of q mu₀ d₀ h) xs (length o₀)
-
-pub record RanTo (q : Setting) (mu₀ : Float) (h d₀ xs o₀ : List Float) (r : Moved) (mu : Float) (d o : List Float) : Type 0 where
-  pub state : state_of q mu d h ≡ (ran q mu₀ h d₀ xs o₀).line
-  pub taken : r.taken ≡ (ran q mu₀ h d₀ xs o₀).taken
-  pub written : r.written ≡ length (ran q mu₀ h d₀ xs o₀).written
-  pub span : o ≡ laid (ran q mu₀ h d₀ xs o₀).written o₀
 
 -- 01, section 5, "while mu < 1 an output is made": mu after the outputs that were due, the places written, and the span
 pub record Emitted : Type 0 where

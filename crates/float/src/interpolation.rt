@@ -5,6 +5,7 @@ ghost use Rattle.std.specs.Float.Ieee.{le, to_unsigned};
 ghost use Rattle.float.specs.F32.{zero32, blend};
 ghost use Rattle.float.specs.PolyphaseOutput.{tap, straight_tap, cut_unit, first_place, phase_sum, output};
 ghost use Rattle.float.specs.PolyphaseResamp as R;
+ghost use Rattle.float.specs.inner.Running as N;
 
 use crate::cast::whole_part;
 use crate::settings::{MOST_CELLS, MOST_PHASE_TAPS, Setting, in_limits};
@@ -80,10 +81,10 @@ impl Reading<'_> {
     // The sums over the delay's places, a tap for each, of the cells from p0 and from p1 on, P apart. By number: in straight phase a place may lie past its row of P
     // cells, so that a zip with such rows would not do. The number has 32 bits and each sum a part that begins at its first cell: so a machine of 32 bits steps along
     // both by their addresses.
-    #[tactic(auto, unfolding(crate::specs::PolyphaseOutput::phase_sum, crate::specs::PolyphaseOutput::tap, crate::specs::PolyphaseResamp::Inside))]
+    #[tactic(auto, unfolding(crate::specs::PolyphaseOutput::phase_sum, crate::specs::PolyphaseOutput::tap, crate::specs::inner::Running::Inside))]
     fn summed(self, delay: &[f32], p0: usize, p1: usize) -> (f32, f32)
         requires { let n = length delay.now in
-            (n ≤ R.most_taps) × R.Inside self.setting.phases n p0 × R.Inside self.setting.phases n p1 × (p0 ≤ R.most_cells) × (p1 ≤ R.most_cells) }
+            (n ≤ R.most_taps) × N.Inside self.setting.phases n p0 × N.Inside self.setting.phases n p1 × (p0 ≤ R.most_cells) × (p1 ≤ R.most_cells) }
         ensures { let r = self.entry in
             let h = r.prototype.now in
             let d = delay.now in

@@ -2,6 +2,7 @@
 ghost use Rattle.std.specs.Prelude.{◌≡◌, true, false};
 ghost use Rattle.refusal.specs.Outcome.{told_opened, told_on, told_reset, none_moved};
 ghost use Rattle.float.specs.PolyphaseResamp as R;
+ghost use Rattle.float.specs.inner.Running as N;
 ghost use Rattle.float.specs.PolyphaseWhole as W;
 
 use crate::settings::{MOST_CELLS, MOST_PHASE_TAPS, Setting};
@@ -73,7 +74,7 @@ impl PolyphaseResampF32 {
 
     // What an opening sets of it.
     fn setting(&self) -> Setting
-        ensures { result ≡ R.setting_of self.now }
+        ensures { result ≡ N.setting_of self.now }
     {
         Setting {
             phases: self.phases,

@@ -3,6 +3,7 @@
 ghost use Rattle.std.specs.Prelude.{◌≡◌, ◌+◌, ◌≤◌, ◌∷◌, take, drop};
 ghost use Rattle.refusal.specs.Outcome.{told_on, none_moved};
 ghost use Rattle.float.specs.PolyphaseResamp as R;
+ghost use Rattle.float.specs.inner.Running as N;
 
 use crate::due::shift_in;
 use crate::interpolation::Reading;
@@ -40,7 +41,7 @@ impl Reading<'_> {
         src: &[f32],
         dst: &mut [f32],
     ) -> Moved
-        ensures { R.RanTo self.entry.setting mu.old self.entry.prototype.now delay.old src.now dst.old result mu.new delay.new dst.new }
+        ensures { N.RanTo self.entry.setting mu.old self.entry.prototype.now delay.old src.now dst.old result mu.new delay.new dst.new }
     {
         let taps = self.setting.phase_taps;
         let mut tape = [0.0f32; TAPE];

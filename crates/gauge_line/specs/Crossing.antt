@@ -12,11 +12,6 @@ abbrev pub optional : {A : Type 0} → A → Option A → ℕ × A
 optional z None = (0, z)
 optional z (Some y) = (1, y)
 
--- how many of them there are
-abbrev pub made_in : {A : Type 0} → Option A → ℕ
-made_in None = 0
-made_in (Some y) = 1
-
 abbrev pub crossed : {A S : Type 0} → A → Outcome (Option A) S → Outcome (ℕ × A) S
 crossed z o = record { number = o.number; value = optional z o.value; state = o.state }
 
@@ -31,11 +26,6 @@ flag_of b = cond b 1 0
 -- 02, §13: which kind thins a line crosses as a number: 0 is the integrators, any other the neighbours
 abbrev pub kind_of : ℕ → Thinning
 kind_of n = cond (is_set n) thinning.Neighbours thinning.Integrators
-
--- and the number that is written for it
-abbrev pub kind_number : Thinning → ℕ
-kind_number thinning.Integrators = 0
-kind_number thinning.Neighbours = 1
 
 -- 02, §4: a FIR output that may be missing, and whether it was cut
 abbrev pub crossed_fir : {S : Type 0} → Outcome Filtered S → Outcome (ℕ × (ℤ × ℕ)) S

@@ -21,7 +21,6 @@ use Rattle.half_band.specs.declared.hbf_stream.HbfStream.{HbfStream}
 use Rattle.float.specs.declared.polyphase_resamp.PolyphaseResampF32.{PolyphaseResampF32}
 use Rattle.linear_phase.specs.declared.linear_phase_fir.LinearPhaseFir.{LinearPhaseFir}
 use Rattle.line.specs.declared.gauge_line.Line.{Line}
-use Rattle.line.specs.declared.lent.LineNumbers.{LineNumbers}
 use Rattle.gauge_line.specs.Crossing.{is_set, flag_of, kind_of}
 
 -- the two moments of a call
@@ -110,28 +109,3 @@ abbrev pub line_at :
 line_at m stages r integrators combs counter taps tap_count factor fir_delay wait depth delays held counts phases phase_taps straight mu step delay prototype cuts kind neighbours =
     line_by (at m stages) (at m r) (at m integrators) (at m combs) (at m counter) (at m taps) (at m tap_count) (at m factor) (at m fir_delay) (at m wait)
     (at m depth) (at m delays) (at m held) (at m counts) (at m phases) (at m phase_taps) (at m straight) (at m mu) (at m step) (at m delay) (at m prototype) (at m cuts) (at m kind) (at m neighbours)
-
--- its numbers alone
-abbrev pub numbers_by : ℕ → ℕ → ℕ → ℕ → ℕ → ℕ → ℕ → ℕ → ℕ → ℕ → Float → Float → ℕ → ℕ → LineNumbers
-numbers_by stages r counter tap_count factor wait depth phases phase_taps straight mu step cuts kind =
-    record {
-      settings =
-          record {
-            stages = stages;
-            r = r;
-            factor = factor;
-            depth = depth;
-            phases = phases;
-            phase_taps = phase_taps;
-            straight = is_set straight;
-            step = step;
-            thinning = kind_of kind;
-          };
-      tap_count = tap_count;
-      clock = record { sample_counter = counter; wait = wait; mu = mu; cuts = cuts };
-    }
-
-abbrev pub numbers_at :
-    Moment → Place ℕ → Place ℕ → Place ℕ → Place ℕ → Place ℕ → Place ℕ → Place ℕ → Place ℕ → Place ℕ → Place ℕ → Place Float → Place Float → Place ℕ → Place ℕ → LineNumbers
-numbers_at m stages r counter tap_count factor wait depth phases phase_taps straight mu step cuts kind =
-    numbers_by (at m stages) (at m r) (at m counter) (at m tap_count) (at m factor) (at m wait) (at m depth) (at m phases) (at m phase_taps) (at m straight) (at m mu) (at m step) (at m cuts) (at m kind)

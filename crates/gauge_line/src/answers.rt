@@ -3,7 +3,8 @@ ghost use Rattle.std.specs.Prelude.{◌≡◌, None};
 ghost use Rattle.refusal.specs.Outcome.{number_in, value_in};
 ghost use Rattle.sheet.specs.Sheet.{no_place};
 ghost use Rattle.line.specs.Line as L;
-ghost use Rattle.gauge_line.specs.Crossing.{made_in, moves};
+ghost use Rattle.gauge_line.specs.Crossing.{moves};
+ghost use Rattle.gauge_line.specs.inner.Numbers.{made_in};
 
 use line::LineStep;
 use refusal::Refusal;

@@ -1,7 +1,8 @@
 // The numbers of a line as a caller in C keeps them, field by field: put together from the fields that were lent, and put back into them.
 ghost use Rattle.std.specs.Prelude.{◌≡◌};
 ghost use Rattle.gauge_line.specs.Crossing.{is_set, kind_of};
-ghost use Rattle.gauge_line.specs.States.{exit, IsFlag, numbers_at, numbers_by};
+ghost use Rattle.gauge_line.specs.States.{exit, IsFlag};
+ghost use Rattle.gauge_line.specs.inner.Numbers.{numbers_at, numbers_by};
 
 use crate::states::{flag, is_set, kind, kind_number};
 use line::{Clock, LineNumbers, Settings};

@@ -5,7 +5,8 @@ ghost use Rattle.integer.specs.CicInterpolator.{interpolator_of};
 ghost use Rattle.nonrecursive.specs.NonrecursiveDecimator.{nonrecursive_of};
 ghost use Rattle.q15.specs.FirDecimator.{fir_state};
 ghost use Rattle.linear_phase.specs.LinearPhaseFir.{phase_of};
-ghost use Rattle.gauge_line.specs.Crossing.{is_set, flag_of, kind_of, kind_number};
+ghost use Rattle.gauge_line.specs.Crossing.{is_set, flag_of, kind_of};
+ghost use Rattle.gauge_line.specs.inner.Numbers.{kind_number};
 ghost use Rattle.gauge_line.specs.States.{exit, decimator_at, nonrecursive_at, interpolator_at, fir_at, stream_at};
 
 use half_band::{

@@ -9,13 +9,14 @@ use lib.ListN.{length, drop, replicate, length-replicate, get_or-replicate, leng
 use lib.Ieee.{Float, nan}
 use Rattle.theory.specs.Sections.{Section, state, outs}
 use Rattle.float.specs.F32.{zero32}
-use Rattle.half_band.specs.Windows.{pairs, decimator, spliced}
+use Rattle.half_band.specs.Windows.{pairs, spliced}
+use Rattle.half_band.specs.inner.Decimator.{decimator}
 use Rattle.half_band.specs.HbfStream.{stream, stream_of}
 use Rattle.half_band.specs.HbfDecCascade.{dec_cascade_fresh, MeetsBy}
 use Rattle.half_band.specs.declared.hbf_stream.HbfStream.{HbfStream}
 use Rattle.refusal.proofs.Limits.{Between, not_outside}
 use Rattle.half_band.proofs.WholeLists.{length_pairs}
-use Rattle.half_band.specs.HbfTaps.{FiveStages}
+use Rattle.half_band.specs.inner.FiveStages.{FiveStages}
 use Rattle.half_band.proofs.Streaming.{stream_whole}
 use Rattle.half_band.proofs.Reaching.{stream_reaches}
 use Rattle.half_band.proofs.Frames.{made_count, nothing_held}

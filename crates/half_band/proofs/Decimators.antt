@@ -12,7 +12,8 @@ use Rattle.theory.specs.Sections.{state, outs}
 use Rattle.refusal.specs.Rows.{samples_refused}
 use Rattle.refusal.specs.Outcome.{told_on}
 use Rattle.float.specs.F32.{zero32}
-use Rattle.half_band.specs.Windows.{pairs, decimator}
+use Rattle.half_band.specs.Windows.{pairs}
+use Rattle.half_band.specs.inner.Decimator.{decimator}
 use Rattle.half_band.specs.HbfDec.{dec_taps, dec_window, with_dec_window, dec_next, dec_out, hbf_dec, dec_fresh, dec_refused, dec_block, dec_span, DecMeets}
 use Rattle.half_band.specs.declared.hbf_dec.HbfDec.{HbfDec}
 use Rattle.refusal.proofs.Limits.{Between, not_outside}

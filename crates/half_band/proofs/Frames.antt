@@ -11,14 +11,15 @@ use lib.ListN.{length, get_or, replicate, get_or-replicate, length-replicate}
 use lib.Seq.{ext_get_or, get_or-set_other}
 use lib.Ieee.{Float, nan}
 use Rattle.theory.specs.Sections.{Section, onto, state, outs}
-use Rattle.theory.specs.Cascades.{stay, cascade_next, cascade}
+use Rattle.theory.proofs.Cascades.{stay, cascade_next, cascade}
 use Rattle.float.specs.F32.{zero32}
-use Rattle.half_band.specs.Windows.{slid, pairs, decimator}
+use Rattle.half_band.specs.Windows.{slid, pairs}
+use Rattle.half_band.specs.inner.Decimator.{decimator}
 use Rattle.half_band.specs.HbfStream.{Half, half, stage_in, with_stage, through, stream, stream_of}
 use Rattle.half_band.specs.declared.hbf_stream.HbfStream.{HbfStream}
 use Rattle.half_band.proofs.Blocks.{outs_length}
 use Rattle.half_band.proofs.WholeLists.{length_pairs, dec_made}
-use Rattle.half_band.specs.HbfTaps.{FiveStages}
+use Rattle.half_band.specs.inner.FiveStages.{FiveStages}
 use Rattle.half_band.proofs.Stages.{Sized, stage, stages_from}
 use Rattle.half_band.proofs.Streaming.{half_pairs, view, state_view, depth_state, sized_state}
 

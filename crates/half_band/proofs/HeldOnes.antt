@@ -17,7 +17,8 @@ use Rattle.refusal.proofs.Limits.{within, not_outside}
 use Rattle.theory.specs.Sections.{state, outs}
 use Rattle.float.specs.F32.{zero32}
 use Rattle.half_band.specs.HalfBand.{decimated_by}
-use Rattle.half_band.specs.HbfTaps.{stage_taps, decimation, decimation_five}
+use Rattle.half_band.specs.HbfTaps.{stage_taps, decimation}
+use Rattle.half_band.specs.inner.FiveStages.{decimation_five}
 use Rattle.half_band.specs.Reach.{reach_of, Reaches}
 use Rattle.half_band.specs.Windows.{slid}
 use Rattle.half_band.specs.HbfStream.{Half, half, stage_in, with_stage, through, stream, hbf_stream, stream_fresh, held_fine, stream_refused, stream_refused_in_line, StreamMeets}

@@ -14,7 +14,8 @@ use lib.Ieee.{Float, nan}
 use mir.Val.{bool_byte}
 use Rattle.theory.specs.Sections.{Section, onto, state, outs}
 use Rattle.theory.proofs.Sections.{outs_append}
-use Rattle.half_band.specs.Windows.{slid, dec_value, pairs, decimator}
+use Rattle.half_band.specs.Windows.{slid, dec_value, pairs}
+use Rattle.half_band.specs.inner.Decimator.{decimator}
 use Rattle.half_band.proofs.Blocks.{state_next, outs_length}
 use Rattle.half_band.proofs.PairsAlong.{moved_on, state_along}
 use Rattle.half_band.proofs.StageRuns.{front_pairs}

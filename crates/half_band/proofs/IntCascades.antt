@@ -18,7 +18,8 @@ use Rattle.refusal.specs.Outcome.{told_on}
 use Rattle.refusal.specs.Rows.{samples_refused}
 use Rattle.half_band.specs.HalfBand.{flat, interpolated, interpolated_by}
 use Rattle.float.specs.F32.{zero32}
-use Rattle.half_band.specs.HbfTaps.{stage_taps, interpolation, FiveStages, interpolation_five}
+use Rattle.half_band.specs.HbfTaps.{stage_taps, interpolation}
+use Rattle.half_band.specs.inner.FiveStages.{FiveStages, interpolation_five}
 use Rattle.half_band.specs.Windows.{slid, int_value, interpolator, spliced}
 use Rattle.half_band.specs.HbfIntCascade.{Upsampled, int_stage, upsampled, int_cascade_run, int_cascade_after, int_cascade_fresh, int_cascade_refused, int_cascade_count, int_cascade_block, int_cascade_span, joined, int_cascade_left, int_cascade_blocks, IntCascadeMeets}
 use Rattle.half_band.specs.declared.hbf_int_cascade.HbfIntCascade.{HbfIntCascade}

@@ -1,7 +1,8 @@
 -- A window and values stand in a row in front of a line: behind as many places as there are values is the window left, and the line's windows give the outputs of their pairs.
 use Rattle.std.proofs.Common.{◌≡◌, ℕ, ◌+◌, ◌-◌, ◌*◌, ◌≤◌, List, ◌++◌, length, take, drop, sym, ap, ap₂, ◌∙◌, arith, take_at, drop_at, Float}
 use Rattle.theory.specs.Sections.{state, outs}
-use Rattle.half_band.specs.Windows.{pairs, decimator}
+use Rattle.half_band.specs.Windows.{pairs}
+use Rattle.half_band.specs.inner.Decimator.{decimator}
 use Rattle.float.proofs.Laid.{tape_last}
 use Rattle.half_band.proofs.PairsAlong.{state_along}
 

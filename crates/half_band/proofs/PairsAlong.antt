@@ -9,7 +9,8 @@ use lib.ListN.{length, get_or, take, drop, length-drop}
 use lib.Seq.{length-take-le, take-add, drop_at, drop-append-le, drop-drop, drop-cons, get_or-drop}
 use lib.Ieee.{Float, nan}
 use Rattle.theory.specs.Sections.{state}
-use Rattle.half_band.specs.Windows.{slid, pairs, decimator}
+use Rattle.half_band.specs.Windows.{slid, pairs}
+use Rattle.half_band.specs.inner.Decimator.{decimator}
 use Rattle.half_band.proofs.Moving.{length_slid}
 use Rattle.half_band.proofs.WholeLists.{pair_at}
 

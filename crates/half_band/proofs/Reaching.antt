@@ -20,7 +20,7 @@ use Rattle.half_band.specs.HalfBand.{half32, earlier, dec_acc, dec_output, decim
 use Rattle.half_band.specs.HbfStream.{stream, stream_fresh}
 use Rattle.half_band.specs.Reach.{spanned, reach_of, AgreeBy, ReachesBy, Reaches}
 use Rattle.half_band.proofs.Earlier.{before_start, since_start}
-use Rattle.half_band.specs.HbfTaps.{FiveStages}
+use Rattle.half_band.specs.inner.FiveStages.{FiveStages}
 use Rattle.half_band.proofs.Streaming.{stream_whole}
 
 -- entry j of a list by index

@@ -11,12 +11,13 @@ use lib.Ieee.{Float, nan}
 use Rattle.theory.specs.Sections.{Section, onto, state, outs}
 use Rattle.theory.proofs.Sections.{state_keeps}
 use Rattle.float.specs.F32.{zero32}
-use Rattle.half_band.specs.Windows.{pairs, decimator, spliced}
+use Rattle.half_band.specs.Windows.{pairs, spliced}
+use Rattle.half_band.specs.inner.Decimator.{decimator}
 use Rattle.half_band.specs.HbfStream.{Half, half, Passed, stage_in, with_stage, through, stream, stream_of}
 use Rattle.half_band.specs.declared.hbf_stream.HbfStream.{HbfStream}
 use Rattle.half_band.proofs.Moving.{length_slid}
 use Rattle.half_band.proofs.Parts.{part_long, length_with}
-use Rattle.half_band.specs.HbfTaps.{FiveStages}
+use Rattle.half_band.specs.inner.FiveStages.{FiveStages}
 use Rattle.half_band.proofs.Passing.{ended}
 use Rattle.half_band.proofs.Stages.{Sized}
 use Rattle.half_band.proofs.Streaming.{depth_next, half_pairs}

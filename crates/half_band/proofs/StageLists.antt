@@ -14,7 +14,7 @@ use Rattle.theory.proofs.Sections.{state_keeps}
 use Rattle.half_band.specs.HbfStream.{Half, half, Passed, stage_in, with_stage, through, stream_of}
 use Rattle.half_band.specs.declared.hbf_stream.HbfStream.{HbfStream}
 use Rattle.half_band.proofs.Splicing.{splice_same, splice_again, splice_order}
-use Rattle.half_band.specs.HbfTaps.{FiveStages}
+use Rattle.half_band.specs.inner.FiveStages.{FiveStages}
 use Rattle.half_band.proofs.Passing.{none_through}
 use Rattle.half_band.proofs.Stages.{Sized, half_long, window_long, found, sized_with, elsewhere, sized_through, before_through}
 

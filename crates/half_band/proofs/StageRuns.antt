@@ -13,7 +13,8 @@ use lib.Seq.{length-take-le, take-take}
 use lib.Ieee.{Float, nan}
 use Rattle.theory.specs.Sections.{onto, state, outs}
 use Rattle.float.specs.F32.{zero32}
-use Rattle.half_band.specs.Windows.{slid, dec_value, pairs, decimator}
+use Rattle.half_band.specs.Windows.{slid, dec_value, pairs}
+use Rattle.half_band.specs.inner.Decimator.{decimator}
 use Rattle.half_band.specs.HbfStream.{Half, half}
 use Rattle.half_band.proofs.Streaming.{half_pairs}
 

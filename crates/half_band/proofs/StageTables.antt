@@ -4,7 +4,8 @@ use mathlib.Core.List.{List, []}
 use Prim.Native.Nat.{ℕ, ◌-◌, ◌≤◌, ◌<◌}
 use lib.ListN.{length, get_or, take, drop, get_or-eq_default}
 use lib.Ieee.{Float}
-use Rattle.half_band.specs.HbfTaps.{Table, stage_taps, by_five, decimation, interpolation}
+use Rattle.half_band.specs.HbfTaps.{Table, stage_taps, decimation, interpolation}
+use Rattle.half_band.specs.inner.FiveStages.{by_five}
 
 -- stage k, the j-th of the table, has so many taps from so far on
 pub cut : (cells : List Float) (t : Table) → cells ≡ t.taps → (k j first count : ℕ) → k ≡ j → first ≡ get_or t.starts j 0 → count ≡ get_or t.lengths j 0 → take count (drop first cells) ≡ stage_taps t k

@@ -11,14 +11,14 @@ use lib.ListN.{length, get_or, set, take, drop, length-set}
 use lib.Seq.{get_or-set_same, get_or-set_other}
 use lib.Ieee.{Float, nan}
 use Rattle.theory.specs.Sections.{Section}
-use Rattle.theory.specs.Cascades.{stay, cascade_next, cascade_out}
+use Rattle.theory.proofs.Cascades.{stay, cascade_next, cascade_out}
 use Rattle.float.specs.F32.{zero32}
 use Rattle.half_band.specs.Windows.{slid}
 use Rattle.half_band.specs.HbfStream.{Half, half, Passed, stage_in, with_stage, through}
 use Rattle.half_band.specs.declared.hbf_stream.HbfStream.{HbfStream}
 use Rattle.half_band.proofs.Moving.{length_slid}
 use Rattle.half_band.proofs.Parts.{parts_from, same_parts, part_long, part_found, part_elsewhere, length_with}
-use Rattle.half_band.specs.HbfTaps.{FiveStages}
+use Rattle.half_band.specs.inner.FiveStages.{FiveStages}
 use Rattle.half_band.proofs.Passing.{none_through}
 
 -- the arrays as long as their types say

@@ -13,10 +13,12 @@ use lib.Ieee.{Float, nan}
 use Rattle.theory.specs.Sections.{onto, Section, state, outs}
 use Rattle.float.specs.F32.{zero32}
 use Rattle.theory.proofs.Sections.{outs_few}
-use Rattle.half_band.specs.HbfTaps.{stage_taps, decimation, decimation_five}
-use Rattle.half_band.specs.Windows.{pairs, decimator, spliced}
+use Rattle.half_band.specs.HbfTaps.{stage_taps, decimation}
+use Rattle.half_band.specs.inner.FiveStages.{decimation_five}
+use Rattle.half_band.specs.Windows.{pairs, spliced}
+use Rattle.half_band.specs.inner.Decimator.{decimator}
 use Rattle.half_band.specs.HbfStream.{Half, half, stage_in, with_stage, hbf_stream, stream_of}
-use Rattle.half_band.specs.HbfStreamBlock.{stage_after, stage_outs}
+use Rattle.half_band.specs.inner.HbfStreamBlock.{stage_after, stage_outs}
 use Rattle.half_band.specs.declared.hbf_stream.HbfStream.{HbfStream}
 use Rattle.half_band.proofs.WholeLists.{length_pairs}
 use Rattle.half_band.proofs.Frames.{made_count}

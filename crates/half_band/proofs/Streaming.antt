@@ -8,18 +8,19 @@ use native.Mathlib.Omega.{arith}
 use lib.ListN.{length, get_or, take, replicate, get_or-replicate, length-replicate}
 use lib.Ieee.{Float, nan}
 use Rattle.theory.specs.Sections.{state, outs}
-use Rattle.theory.specs.Cascades.{cascade, cascaded}
+use Rattle.theory.proofs.Cascades.{cascade, cascaded}
 use Rattle.theory.proofs.Sections.{state_keeps}
 use Rattle.theory.proofs.Cascades.{outs_cascade}
 use Rattle.half_band.specs.HalfBand.{decimated, decimated_by}
 use Rattle.float.specs.F32.{zero32}
-use Rattle.half_band.specs.Windows.{slid, dec_value, pairs, decimator}
+use Rattle.half_band.specs.Windows.{slid, dec_value, pairs}
+use Rattle.half_band.specs.inner.Decimator.{decimator}
 use Rattle.half_band.specs.HbfStream.{Half, half, stage_in, stream, stream_fresh}
 use Rattle.half_band.specs.declared.hbf_stream.HbfStream.{HbfStream}
 use Rattle.std.proofs.lemmas.List.{drop-replicate, take-replicate}
 use Rattle.half_band.proofs.WholeLists.{decimator_whole}
 use Rattle.half_band.proofs.Along.{outs_along, state_along}
-use Rattle.half_band.specs.HbfTaps.{FiveStages}
+use Rattle.half_band.specs.inner.FiveStages.{FiveStages}
 use Rattle.half_band.proofs.Stages.{Sized, stage, stages_from, sized_through, depth_through, out_through, stages_through}
 
 -- a stage that holds nothing

@@ -16,7 +16,8 @@ use Rattle.theory.proofs.Listed.{made_at, outs_collected, collected_listed}
 use Rattle.q15.proofs.Filling.{listed_ext}
 use Rattle.half_band.specs.HalfBand.{half32, earlier, dec_acc, dec_output, decimated, even_output, odd_acc, odd_output, flat, interpolated}
 use Rattle.float.specs.F32.{zero32}
-use Rattle.half_band.specs.Windows.{slid, folded, dec_value, int_value, pairs, decimator, interpolator}
+use Rattle.half_band.specs.Windows.{slid, folded, dec_value, int_value, pairs, interpolator}
+use Rattle.half_band.specs.inner.Decimator.{decimator}
 use Rattle.half_band.proofs.Earlier.{earlier_same, last_of, length_last_of, slid_last, place_of}
 
 -- a section that makes an output of every value, whose state and output follow from the values so far

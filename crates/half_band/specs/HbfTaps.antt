@@ -1,8 +1,7 @@
 -- 01, section 4: "with the `HBF_TAPS` of those lengths, each tap the f32 nearest to its printed decimal".
-use Rattle.std.specs.Prelude.{List, [], ◌∷◌, Bool, true, false, ℕ, zero, suc, ◌^◌, ◌≤◌, ◌<◌, length, get_or, take, drop, Float}
+use Rattle.std.specs.Prelude.{List, [], ◌∷◌, Bool, true, false, ℕ, ◌^◌, get_or, take, drop, Float}
 use Rattle.std.specs.Float.{binary32}
 use Rattle.std.specs.Float.Ieee.{round}
-use Rattle.std.proofs.Common.{arith, lit≤}
 
 -- the f32 nearest to n / 10 ^ k, below zero where `negative`
 unfoldable pub printed : Bool → ℕ → ℕ → Float
@@ -68,20 +67,6 @@ pub record Table : Type 0 where
 unfoldable pub stage_taps : Table → ℕ → List Float
 stage_taps t k = take (get_or t.lengths k 0) (drop (get_or t.starts k 0) t.taps)
 
--- five stages, each of 1 to 23 taps
-pub record FiveStages (taps : ℕ → List Float) : Type 0 where
-  pub least : (k : ℕ) → k < 5 → 1 ≤ length (taps k)
-  pub most : (k : ℕ) → k < 5 → length (taps k) ≤ 23
-
--- what holds of five numbers holds below 5
-pub by_five : (P : ℕ → Type 0) → P 0 → P 1 → P 2 → P 3 → P 4 → (k : ℕ) → k < 5 → P k
-by_five P a b c d e zero h = a
-by_five P a b c d e (suc zero) h = b
-by_five P a b c d e (suc (suc zero)) h = c
-by_five P a b c d e (suc (suc (suc zero))) h = d
-by_five P a b c d e (suc (suc (suc (suc zero)))) h = e
-by_five P a b c d e (suc (suc (suc (suc (suc k))))) h = absurd (omega arith)
-
 -- "`HbfDecCascade` of depth d runs the first d of M = 3, 4, 5, 10, 23"
 unfoldable pub decimation : Table
 decimation = record { taps = hbf_taps; starts = 42 ∷ 38 ∷ 33 ∷ 23 ∷ 0 ∷ []; lengths = 3 ∷ 4 ∷ 5 ∷ 10 ∷ 23 ∷ [] }
@@ -89,19 +74,3 @@ decimation = record { taps = hbf_taps; starts = 42 ∷ 38 ∷ 33 ∷ 23 ∷ 0 �
 -- "`HbfIntCascade` runs M = 23, 10, 5, 4, 3"
 unfoldable pub interpolation : Table
 interpolation = record { taps = hbf_taps; starts = 0 ∷ 23 ∷ 33 ∷ 38 ∷ 42 ∷ []; lengths = 23 ∷ 10 ∷ 5 ∷ 4 ∷ 3 ∷ [] }
-
-pub decimation_five : FiveStages (stage_taps decimation)
-unfolding stage_taps decimation hbf_taps
-decimation_five =
-    record {
-      least = by_five (λ k. 1 ≤ length (stage_taps decimation k)) (lit≤ tt) (lit≤ tt) (lit≤ tt) (lit≤ tt) (lit≤ tt);
-      most = by_five (λ k. length (stage_taps decimation k) ≤ 23) (lit≤ tt) (lit≤ tt) (lit≤ tt) (lit≤ tt) (lit≤ tt);
-    }
-
-pub interpolation_five : FiveStages (stage_taps interpolation)
-unfolding stage_taps interpolation hbf_taps
-interpolation_five =
-    record {
-      least = by_five (λ k. 1 ≤ length (stage_taps interpolation k)) (lit≤ tt) (lit≤ tt) (lit≤ tt) (lit≤ tt) (lit≤ tt);
-      most = by_five (λ k. length (stage_taps interpolation k) ≤ 23) (lit≤ tt) (lit≤ tt) (lit≤ tt) (lit≤ tt) (lit≤ tt);
-    }

@@ -7,8 +7,8 @@ pub mod HbfDec
 pub mod Equal
 pub mod Reach
 pub mod HbfStream
-pub mod HbfStreamBlock
 pub mod HbfDecCascade
 pub mod HbfInt
 pub mod HbfIntCascade
 pub mod ResponseLength
+pub mod inner

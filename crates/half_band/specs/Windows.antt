@@ -30,10 +30,6 @@ pairs [] = []
 pairs (a ∷ []) = []
 pairs (a ∷ b ∷ w) = (a, b) ∷ pairs w
 
--- a window that takes pairs and makes an output of each
-unfoldable pub decimator : List Float → Section (List Float) (Float × Float) Float
-decimator c = record { next = λ w p. slid w (p.0 ∷ p.1 ∷ []); out = λ w p. Some (dec_value c (slid w (p.0 ∷ p.1 ∷ []))) }
-
 -- a window that takes samples and makes two outputs of each
 unfoldable pub interpolator : List Float → Section (List Float) Float (Float × Float)
 interpolator c = record { next = λ w x. slid w (x ∷ []); out = λ w x. Some (int_value c (slid w (x ∷ []))) }

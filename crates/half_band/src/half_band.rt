@@ -4,7 +4,8 @@ ghost use Rattle.std.specs.Float.{binary32};
 ghost use Rattle.std.specs.Float.Ieee.{add, mul};
 ghost use Rattle.theory.specs.Sections.{state, outs};
 ghost use Rattle.half_band.specs.HalfBand.{flat};
-ghost use Rattle.half_band.specs.Windows.{slid, folded, dec_value, int_value, pairs, decimator, interpolator};
+ghost use Rattle.half_band.specs.Windows.{slid, folded, dec_value, int_value, pairs, interpolator};
+ghost use Rattle.half_band.specs.inner.Decimator.{decimator};
 
 use crate::limits::{DEC_DELAYS, INT_DELAYS};
 use float::span::lay;

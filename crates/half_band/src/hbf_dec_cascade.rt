@@ -5,7 +5,8 @@ ghost use Rattle.theory.specs.Sections.{onto, state, outs};
 ghost use Rattle.refusal.specs.Outcome.{told_on, told_reset};
 ghost use Rattle.float.specs.F32.{zero32};
 ghost use Rattle.half_band.specs.HbfTaps.{stage_taps};
-ghost use Rattle.half_band.specs.Windows.{pairs, decimator, spliced};
+ghost use Rattle.half_band.specs.Windows.{pairs, spliced};
+ghost use Rattle.half_band.specs.inner.Decimator.{decimator};
 ghost use Rattle.half_band.specs.HbfStream.{stream, stream_of};
 ghost use Rattle.half_band.specs.HbfDecCascade.{cascade_of, told_cascade, dec_cascade_fresh, dec_cascade_opening, dec_cascade_reset, block_by, span_by, MeetsBy};
 

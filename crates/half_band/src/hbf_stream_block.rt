@@ -4,7 +4,7 @@ ghost use Rattle.std.specs.Prelude.{◌≡◌, cond, ◌+◌, ◌-◌, ◌%◌, 
 ghost use Rattle.theory.specs.Sections.{state, outs};
 ghost use Rattle.float.specs.F32.{zero32};
 ghost use Rattle.half_band.specs.HbfStream.{stream_of, hbf_stream};
-ghost use Rattle.half_band.specs.HbfStreamBlock.{stream_block_state, stream_block_outs, stream_block_made, stage_after, stage_outs};
+ghost use Rattle.half_band.specs.inner.HbfStreamBlock.{stream_block_state, stream_block_outs, stream_block_made, stage_after, stage_outs};
 
 use crate::hbf_dec_cascade::decimate_stage;
 use crate::hbf_taps::Db140;

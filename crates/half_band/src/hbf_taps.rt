@@ -1,7 +1,8 @@
 // The 140 dB half-band taps of the Rust, one table: 23 taps from 0 on, 10 from 23, 5 from 33, 4 from 38 and 3 from 42.
 ghost use Rattle.std.specs.Prelude.{◌≡◌, ◌+◌, ◌*◌, ◌<◌, ◌≤◌, ℕ, length};
-ghost use Rattle.half_band.specs.HbfTaps.{Table, FiveStages, hbf_taps, stage_taps, decimation, decimation_five, interpolation, interpolation_five};
-ghost use Rattle.half_band.specs.HbfTaps98.{hbf_taps98, decimation98, decimation98_five};
+ghost use Rattle.half_band.specs.HbfTaps.{Table, hbf_taps, stage_taps, decimation, interpolation};
+ghost use Rattle.half_band.specs.inner.FiveStages.{FiveStages, decimation_five, decimation98_five, interpolation_five};
+ghost use Rattle.half_band.specs.HbfTaps98.{hbf_taps98, decimation98};
 
 use crate::half_band::Taps;
 use crate::limits::{MOST_DEPTH, MOST_HALF_BAND_TAPS};

@@ -2,7 +2,8 @@
 // end, where the next stage finds them. So no stage moves its values, and a tape has places for the longest window and for the values of the first stage.
 ghost use Rattle.std.specs.Prelude.{◌≡◌, [], ◌++◌, ◌≤◌, ◌+◌, ◌-◌, ◌*◌, length, take, drop};
 ghost use Rattle.theory.specs.Sections.{onto, state, outs};
-ghost use Rattle.half_band.specs.Windows.{pairs, decimator};
+ghost use Rattle.half_band.specs.Windows.{pairs};
+ghost use Rattle.half_band.specs.inner.Decimator.{decimator};
 
 use crate::half_band::{Taps, dec_at};
 

@@ -22,9 +22,9 @@ use Rattle.q15.specs.Fixed.{cut, cut_count}
 use Rattle.q15.specs.FirDecimator.{summing}
 use Rattle.chain.specs.Chain.{Parts, chain}
 use Rattle.chain.specs.Cuts.{most_cuts}
-use Rattle.chain.specs.Batched.{Whole, Batched}
+use Rattle.chain.specs.inner.Batched.{Whole, Batched}
 use Rattle.line.specs.Line.{thinner_of, parts_of, counted_of, of_counted, cuts_at, line, valid, fed_line}
-use Rattle.line.specs.Together.{Begun, RanTo}
+use Rattle.line.specs.inner.Together.{Begun, RanTo}
 use Rattle.line.specs.declared.gauge_line.Line.{Line}
 use Rattle.line.proofs.Lawful.{Good, line_lawful}
 use Rattle.line.proofs.Left.{left, left_are, none_behind}

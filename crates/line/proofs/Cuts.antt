@@ -10,7 +10,8 @@ use lib.Dec.{eqb}
 use lib.IntN.{ℤ}
 use lib.ListN.{length}
 use mir.Syntax.{w16}
-use Rattle.theory.specs.Sections.{Section, onto, outs, each, and_then, next_by}
+use Rattle.theory.specs.Sections.{Section, onto, outs, each}
+use Rattle.theory.proofs.Sections.{and_then, next_by}
 use Rattle.theory.specs.Machines.{before, next_for}
 use Rattle.theory.specs.Feeds as F
 use Rattle.theory.specs.Tally.{held_sum}

@@ -10,7 +10,7 @@ use lib.ListN.{length, take, drop}
 use lib.Seq.{take-append_seam}
 use Rattle.theory.specs.Lists.{but_last}
 use Rattle.theory.specs.Feeds as F
-use Rattle.theory.specs.Kept as K
+use Rattle.theory.proofs.Kept as K
 use Rattle.theory.proofs.Machines.{all}
 use Rattle.theory.proofs.Feeds.{promised, line_good}
 use Rattle.theory.proofs.Kept.{kept}
@@ -18,7 +18,7 @@ use Rattle.refusal.specs.Outcome.{Outcome}
 use Rattle.refusal.specs.declared.Moved.{Moved}
 use Rattle.line.specs.Outputs.{Opening, Outputs}
 use Rattle.line.specs.Line.{line, valid, fed_line, feed_outcome, feed_span, opened, opened_by, fresh}
-use Rattle.line.specs.Together.{RanTo}
+use Rattle.line.specs.inner.Together.{RanTo}
 use Rattle.line.specs.Demand3.{History, none_yet, fed, line_of, taken_of, written_of, Kept, Defined, Demand3}
 use Rattle.line.specs.declared.gauge_line.Line.{Line}
 use Rattle.line.proofs.Lawful.{Good, line_lawful}

@@ -18,6 +18,7 @@ use Rattle.float.specs.PolyphaseResamp.{in_limits, in_line, is_on, output_of, pa
 use Rattle.float.proofs.PolyphaseOutput.{limits_say}
 use Rattle.float.proofs.DueOutputs.{emitted_keeps, emitted_all}
 use Rattle.float.specs.PolyphaseResamp as R
+use Rattle.float.specs.inner.Running as N
 use Rattle.float.specs.declared.settings.Setting.{Setting}
 use Rattle.float.specs.declared.polyphase_resamp.PolyphaseResampF32.{PolyphaseResampF32}
 use Rattle.line.specs.Line.{line}
@@ -88,6 +89,6 @@ module _ (l₀ : Line) (xs : List ℤ) (out₀ : List Float) (l : Line) (t : ℕ
 
 -- the same as the loops have it
 module _ {l₀ : Line} {xs : List ℤ} {out₀ out : List Float} {l : Line} {t w : ℕ} (mid : Midway line 64 Good line_lawful l₀ xs out₀ out l t w)
-    {q : Setting} (setting : q ≡ R.setting_of l.resampler) {e : Emitted} (due : e ≡ emitted_from q.straight q.phases q.phase_taps q.step l.resampler.delay l.resampler.prototype l.resampler.mu w out) where
+    {q : Setting} (setting : q ≡ N.setting_of l.resampler) {e : Emitted} (due : e ≡ emitted_from q.straight q.phases q.phase_taps q.step l.resampler.delay l.resampler.prototype l.resampler.mu w out) where
   pub emptied : Drained l₀ xs out₀ l t e
   emptied = drained l₀ xs out₀ l t w out mid e (rw setting at due)

@@ -17,7 +17,7 @@ use Rattle.half_band.proofs.HeldOnes.{line_few}
 use Rattle.float.proofs.PolyphaseOutput.{limits_say}
 use Rattle.float.proofs.PolyphaseRange.{on_in_limits, on_step}
 use Rattle.line.specs.Line.{line, valid, thinner_of, half_band_fine, depth_number, resampler_number, number_at, opened, opening_of, reset}
-use Rattle.line.specs.Together.{valid_at}
+use Rattle.line.specs.inner.Together.{valid_at}
 use Rattle.line.specs.Lent.{numbers_in}
 use Rattle.line.specs.declared.gauge_line.Line.{Line}
 use Rattle.std.proofs.lemmas.Bool.{and_parts, not-true}

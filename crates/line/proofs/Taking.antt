@@ -15,7 +15,7 @@ use Rattle.q15.specs.FirDecimator.{fir_sum_out}
 use Rattle.chain.specs.Chain.{Parts2, Parts3, from3}
 use Rattle.chain.specs.Cuts.{most_cuts}
 use Rattle.line.specs.Line.{thinner_of, parts_of, of_counted, sum_cut, line}
-use Rattle.line.specs.Together.{Takes}
+use Rattle.line.specs.inner.Together.{Takes}
 use Rattle.line.specs.declared.gauge_line.Line.{Line}
 
 module _ (l l' : Line) (x : ℤ) (moved : thinner_of l' ≡ next_by l.thinning (thinner_of l) x) where

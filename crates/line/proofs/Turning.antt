@@ -24,14 +24,15 @@ use Rattle.line.specs.Line.{thinner_of, parts_of}
 use Rattle.line.proofs.Lawful.{to_parts}
 use Rattle.line.proofs.Taking.{line_waits}
 use Rattle.std.specs.Prelude.{cond}
-use Rattle.float.specs.PolyphaseResamp.{Emitted, emitted_from, setting_of, in_line, is_on}
+use Rattle.float.specs.PolyphaseResamp.{Emitted, emitted_from, in_line, is_on}
+use Rattle.float.specs.inner.Running.{setting_of}
 use Rattle.float.specs.declared.settings.Setting.{Setting}
 use Rattle.chain.specs.declared.arrays.Arrays.{Arrays}
 use Rattle.chain.specs.declared.clock.Clock.{Clock}
 use Rattle.chain.specs.declared.fixed.Fixed.{Fixed}
 use Rattle.nonrecursive.specs.declared.thinning.Thinning.TheVariants as thinning
 use Rattle.line.specs.Line.{line, fed_line, valid}
-use Rattle.line.specs.Together.{Takes, RanTo, line_held, due_at}
+use Rattle.line.specs.inner.Together.{Takes, RanTo, line_held, due_at}
 use Rattle.line.specs.declared.gauge_line.Line.{Line}
 use Rattle.line.proofs.Lawful.{Good, line_lawful}
 use Rattle.line.proofs.Left.{left, left_are, left_long}

@@ -1,7 +1,7 @@
 pub mod Outputs
 pub mod Line
-pub mod Together
 pub mod Lent
 pub mod Demand3
 pub mod Pieces
 pub mod Placed
+pub mod inner

@@ -1,11 +1,9 @@
 -- The line of 01, section 6, put together from its numbers and its arrays; and as an opening or a reset has it whose caller keeps its arrays, lent to be written.
-use Rattle.std.specs.Prelude.{◌≡◌, ◌*◌, List, ℕ, ℤ, Float, take}
+use Rattle.std.specs.Prelude.{◌≡◌, List, ℕ, ℤ, Float}
 use Rattle.integer.specs.CicDecimator.{decimator_of}
 use Rattle.q15.specs.FirDecimator.{fir_state}
 use Rattle.half_band.specs.HbfStream.{stream_of}
 use Rattle.float.specs.PolyphaseResamp as R
-use Rattle.chain.specs.declared.settings.Settings.{Settings}
-use Rattle.line.specs.Outputs.{Opening}
 use Rattle.line.specs.declared.gauge_line.Line.{Line}
 use Rattle.line.specs.declared.lent.LineNumbers.{LineNumbers}
 use Rattle.line.specs.declared.places.Places.{Places}
@@ -35,10 +33,6 @@ line_together n integrators combs neighbours taps fir_delay delays held counts d
 abbrev pub line_on : LineNumbers → Places → Line
 line_on n p =
     line_together n p.integrators.now p.combs.now p.neighbours.now p.taps.now p.fir_delay.now p.delays.now p.held.now p.counts.now p.delay.now p.prototype.now
-
--- what such a line is opened with, of the taps and the prototype in front of their arrays
-abbrev pub own_opening : Settings → ℕ → Places → Opening
-own_opening s tap_count p = record { settings = s; taps = take tap_count p.taps.now; prototype = take (s.phases * s.phase_taps) p.prototype.now }
 
 -- the references are those that were lent, so what a call wrote stands where the caller keeps it
 pub record SamePlaces (before after : Places) : Type 0 where

@@ -3,9 +3,9 @@
 ghost use Rattle.std.specs.Prelude.{◌≡◌, true, false, [], ◌+◌, ◌<◌, length};
 ghost use Rattle.nonrecursive.specs.EitherKind as E;
 ghost use Rattle.nonrecursive.specs.declared.thinning.Thinning.TheVariants as thinning;
-ghost use Rattle.chain.specs.Lending.{Same};
+ghost use Rattle.chain.specs.Same.{Same};
 ghost use Rattle.line.specs.Line as L;
-ghost use Rattle.line.specs.Together as T;
+ghost use Rattle.line.specs.inner.Together as T;
 
 use crate::sample::sample_in;
 use crate::step::{due, sums_neighbours};

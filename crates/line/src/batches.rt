@@ -1,9 +1,9 @@
 // 01, section 6: "A feed steps until stopped", by batches: as long as enough samples are left, a block of them goes through each section before the next one. How
 // many samples and outputs a step has does not depend on the samples, so a batch is as long as leaves a place of the span before its last sum.
 ghost use Rattle.std.specs.Prelude.{◌≡◌, true, ◌≤◌};
-ghost use Rattle.chain.specs.Lending.{Same};
+ghost use Rattle.chain.specs.Same.{Same};
 ghost use Rattle.line.specs.Line as L;
-ghost use Rattle.line.specs.Together as T;
+ghost use Rattle.line.specs.inner.Together as T;
 
 use crate::validity::Checked;
 use chain::arrays::Arrays;

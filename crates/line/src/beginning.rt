@@ -7,6 +7,7 @@ ghost use Rattle.half_band.specs.HbfStream.{stream_of, stream_fresh};
 ghost use Rattle.float.specs.PolyphaseResamp as R;
 ghost use Rattle.line.specs.Line as L;
 ghost use Rattle.line.specs.Placed as P;
+ghost use Rattle.line.specs.inner.Numbers.{own_opening};
 
 use crate::lent::LineNumbers;
 use crate::opening::answer;
@@ -104,7 +105,7 @@ fn begin_resampler(
 fn begin(settings: Settings, tap_count: usize, n: &mut LineNumbers, lent: &mut Places<'_>)
     requires { tap_count ≤ most_taps }
     ensures same { P.SamePlaces lent.old lent.new }
-    ensures fresh { P.line_on n.new lent.new ≡ L.fresh (P.own_opening settings tap_count lent.old) }
+    ensures fresh { P.line_on n.new lent.new ≡ L.fresh (own_opening settings tap_count lent.old) }
 {
     let mut clock = Clock::default();
     begin_sums(lent.integrators, lent.combs, lent.neighbours);

@@ -4,6 +4,7 @@ ghost use Rattle.theory.specs.Feeds.{head_of};
 ghost use Rattle.refusal.specs.Outcome.{number_in, told_opened, told_on, told_reset, none_moved};
 ghost use Rattle.line.specs.Line as L;
 ghost use Rattle.line.specs.Lent as N;
+ghost use Rattle.line.specs.inner.Numbers.{with_clock};
 ghost use Rattle.line.specs.Placed.{line_together};
 ghost use Rattle.line.specs.Demand3.{Demand3};
 
@@ -112,7 +113,7 @@ impl Line {
 
     // The clock as a call left it.
     fn put_clock(&mut self, clock: Clock)
-        ensures { self.new ≡ N.with_clock clock self.old }
+        ensures { self.new ≡ with_clock clock self.old }
     {
         self.cic.sample_counter = clock.sample_counter;
         self.fir.wait = clock.wait;

@@ -2,7 +2,7 @@
 ghost use Rattle.std.specs.Prelude.{◌≡◌, length, drop};
 ghost use Rattle.theory.specs.Feeds.{head_of};
 ghost use Rattle.refusal.specs.Outcome.{told_on, none_moved};
-ghost use Rattle.chain.specs.Lending.{Same};
+ghost use Rattle.chain.specs.Same.{Same};
 ghost use Rattle.line.specs.Line as L;
 ghost use Rattle.line.specs.Lent as N;
 ghost use Rattle.line.specs.Demand3.{Demand3};

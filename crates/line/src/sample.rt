@@ -7,10 +7,11 @@ ghost use Rattle.half_band.specs.HbfStream.{stream_of, hbf_stream};
 ghost use Rattle.chain.specs.Chain as C;
 ghost use Rattle.line.specs.Line as L;
 ghost use Rattle.chain.specs.Cuts.{most_cuts};
-ghost use Rattle.chain.specs.Parts as P;
-ghost use Rattle.chain.specs.Lending as A;
-ghost use Rattle.chain.specs.Lending.{Same, ThinnerStays};
-ghost use Rattle.line.specs.Together as T;
+ghost use Rattle.chain.specs.inner.Parts as P;
+ghost use Rattle.chain.specs.inner.Lending as A;
+ghost use Rattle.chain.specs.Same.{Same};
+ghost use Rattle.chain.specs.inner.Lending.{ThinnerStays};
+ghost use Rattle.line.specs.inner.Together as T;
 
 use crate::validity::Checked;
 use chain::arrays::Arrays;

@@ -3,9 +3,9 @@ ghost use Rattle.std.specs.Prelude.{◌≡◌, true};
 ghost use Rattle.theory.specs.Feeds.{step};
 ghost use Rattle.nonrecursive.specs.EitherKind as E;
 ghost use Rattle.float.specs.PolyphaseResamp.{in_limits};
-ghost use Rattle.chain.specs.Lending.{Same};
+ghost use Rattle.chain.specs.Same.{Same};
 ghost use Rattle.line.specs.Line as L;
-ghost use Rattle.line.specs.Together as T;
+ghost use Rattle.line.specs.inner.Together as T;
 
 use crate::sample::sample_in;
 use crate::validity::Checked;
@@ -24,7 +24,7 @@ pub enum LineStep {
 }
 
 // "An output is due when the resampler is on and mu < 1."
-#[tactic(auto, unfolding(crate::specs::Together::due_at))]
+#[tactic(auto, unfolding(crate::specs::inner::Together::due_at))]
 pub(crate) fn due(f: Fixed, mu: f32) -> bool
     ensures { result ≡ T.due_at f mu }
 {

@@ -2,8 +2,8 @@
 ghost use Rattle.std.specs.Prelude.{◌≡◌, is_ok, IfOk, IfErr};
 ghost use Rattle.integer.specs.Gain.{gain_bits};
 ghost use Rattle.refusal.specs.Table.{number_of};
-ghost use Rattle.line.specs.Lent as N;
-ghost use Rattle.line.specs.Together as T;
+ghost use Rattle.line.specs.inner.Numbers.{fixed_in};
+ghost use Rattle.line.specs.inner.Together as T;
 
 use crate::lent::LineNumbers;
 use chain::fixed::Fixed;
@@ -23,10 +23,10 @@ pub(crate) struct Checked {
 impl LineNumbers {
     // What no feed changes. Refusal 15, by these numbers and counts of held samples. Inlined, since a call would cost a feed of one sample a sixth more.
     #[inline(always)]
-    #[tactic(auto, unfolding(crate::specs::Together::valid_at, integer::specs::Gain::scaling_bits))]
+    #[tactic(auto, unfolding(crate::specs::inner::Together::valid_at, integer::specs::Gain::scaling_bits))]
     pub(crate) fn checked(self, counts: &[usize; MOST_DEPTH]) -> Result<Checked, Refusal>
         ensures valid { is_ok result ≡ T.valid_at self counts.now }
-        ensures fixed { IfOk result (λ c. c.fixed ≡ N.fixed_in self) }
+        ensures fixed { IfOk result (λ c. c.fixed ≡ fixed_in self) }
         ensures number { IfErr result (λ row. number_of row ≡ 15) }
     {
         let s = self.settings;

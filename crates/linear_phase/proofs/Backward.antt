@@ -13,7 +13,8 @@ use lib.Ieee.{Float, nan}
 use Rattle.theory.specs.Lists.{listed}
 use Rattle.theory.proofs.Listed.{length_listed}
 use Rattle.q15.proofs.Filling.{listed_more, listed_ext}
-use Rattle.linear_phase.specs.Windows.{window_value, window_values, put_in_front, picked, window_start, OnTape}
+use Rattle.linear_phase.specs.Windows.{window_value}
+use Rattle.linear_phase.specs.inner.Lanes.{window_values, put_in_front, picked, window_start, OnTape}
 use Rattle.linear_phase.proofs.SideBySide.{output_at, values_long}
 use Rattle.linear_phase.proofs.Tapes.{taken_from}
 

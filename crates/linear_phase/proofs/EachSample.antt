@@ -13,7 +13,8 @@ use Rattle.theory.specs.Sections.{Section, outs, state}
 use Rattle.theory.proofs.Listed.{length_listed}
 use Rattle.half_band.specs.Windows.{slid}
 use Rattle.half_band.proofs.Moving.{length_slid}
-use Rattle.linear_phase.specs.Windows.{window_value, linear_phase}
+use Rattle.linear_phase.specs.Windows.{window_value}
+use Rattle.linear_phase.specs.inner.Lanes.{linear_phase}
 
 module _ (odd antisymmetric : Bool) (c d v : List Float) where
   abbrev f : Section (List Float) Float Float

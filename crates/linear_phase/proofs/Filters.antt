@@ -16,7 +16,8 @@ use Rattle.std.proofs.lemmas.List.{take-replicate}
 use Rattle.half_band.proofs.Moving.{length_slid}
 use Rattle.half_band.proofs.Stored as stored
 use Rattle.linear_phase.specs.LinearPhase.{reach, phase_filtered}
-use Rattle.linear_phase.specs.Windows.{window_value, linear_phase}
+use Rattle.linear_phase.specs.Windows.{window_value}
+use Rattle.linear_phase.specs.inner.Lanes.{linear_phase}
 use Rattle.linear_phase.specs.LinearPhaseFir.{phase_of, phase_taps, phase_delay, with_delay, phase_next, phase_out, phase_fir, phase_fresh, phase_refused, PhaseStreams}
 use Rattle.linear_phase.specs.declared.linear_phase_fir.LinearPhaseFir.{LinearPhaseFir}
 use Rattle.linear_phase.proofs.WholeList.{reaches, from_zeros, cuts}

@@ -10,7 +10,8 @@ use lib.Ieee.{Float}
 use Rattle.theory.specs.Lists.{listed}
 use Rattle.theory.proofs.Listed.{length_listed}
 use Rattle.q15.proofs.Filling.{listed_more, listed_ext, least_listed}
-use Rattle.linear_phase.specs.Windows.{window_value, window_values}
+use Rattle.linear_phase.specs.Windows.{window_value}
+use Rattle.linear_phase.specs.inner.Lanes.{window_values}
 
 -- w of n outputs, from the k-th on
 listed_part : {A : Type 0} (g : ℕ → A) (n k w : ℕ) → k + w ≤ n → listed w (λ j. g (k + j)) ≡ take w (drop k (listed n g))

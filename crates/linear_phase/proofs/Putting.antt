@@ -8,7 +8,7 @@ use lib.Seq.{length-take-le, take_at, take-add, take-take, take_all, take-append
 use lib.Ieee.{Float, nan}
 use Rattle.theory.specs.Lists.{listed}
 use Rattle.q15.proofs.Filling.{listed_take}
-use Rattle.linear_phase.specs.Windows.{put_in_front}
+use Rattle.linear_phase.specs.inner.Lanes.{put_in_front}
 use Rattle.linear_phase.proofs.SideBySide.{rest}
 
 -- all of a list in front of another

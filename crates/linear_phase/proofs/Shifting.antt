@@ -8,7 +8,7 @@ use lib.ListN.{length, take, drop, length-drop, take-append-drop, drop_of_length
 use lib.Seq.{length-take-le, take_at, take-add, take_all, drop_at, drop-drop}
 use lib.Ieee.{Float}
 use Rattle.half_band.proofs.Moving.{moved}
-use Rattle.linear_phase.specs.Windows.{put_in_front}
+use Rattle.linear_phase.specs.inner.Lanes.{put_in_front}
 use Rattle.linear_phase.proofs.SideBySide.{rest}
 use Rattle.linear_phase.proofs.Putting.{put_from}
 use Rattle.linear_phase.proofs.Groups.{two_parts}

@@ -15,7 +15,8 @@ use Rattle.theory.proofs.Listed.{length_listed}
 use Rattle.q15.proofs.Filling.{Filled, listed_ext}
 use Rattle.float.specs.F32.{zero32}
 use Rattle.linear_phase.specs.LinearPhase.{pair}
-use Rattle.linear_phase.specs.Windows.{window_acc, has_centre, window_value, window_sums, pairs_onto, pairs_added, no_sums, centres_added, window_values}
+use Rattle.linear_phase.specs.Windows.{window_acc, has_centre, window_value}
+use Rattle.linear_phase.specs.inner.Lanes.{window_sums, pairs_onto, pairs_added, no_sums, centres_added, window_values}
 
 -- the k-th of n
 listed_at : {B : Type 0} (z : B) (n : ℕ) (g : ℕ → B) (k : ℕ) → k < n → get_or (listed n g) k z ≡ g k

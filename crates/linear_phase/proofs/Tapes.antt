@@ -14,7 +14,8 @@ use Rattle.float.proofs.Laid.{delay_in_front, samples_behind, tape_last}
 use Rattle.half_band.specs.Windows.{slid}
 use Rattle.half_band.proofs.Blocks.{outs_length}
 use Rattle.half_band.proofs.Moving.{length_slid}
-use Rattle.linear_phase.specs.Windows.{window_value, window_values, linear_phase, OnTape, InRow}
+use Rattle.linear_phase.specs.Windows.{window_value}
+use Rattle.linear_phase.specs.inner.Lanes.{window_values, linear_phase, OnTape, InRow}
 use Rattle.linear_phase.proofs.SideBySide.{rest, values_long}
 use Rattle.linear_phase.proofs.Groups.{values_part, values_front}
 

@@ -21,7 +21,8 @@ use Rattle.half_band.proofs.Earlier.{earlier_same, last_of, length_last_of, slid
 use Rattle.q15.proofs.Filling.{listed_ext}
 use Rattle.half_band.proofs.WholeLists.{every_value}
 use Rattle.linear_phase.specs.LinearPhase.{reach, pair, phase_acc, phase_output, phase_filtered}
-use Rattle.linear_phase.specs.Windows.{window_acc, has_centre, window_value, linear_phase}
+use Rattle.linear_phase.specs.Windows.{window_acc, has_centre, window_value}
+use Rattle.linear_phase.specs.inner.Lanes.{linear_phase}
 use Rattle.linear_phase.specs.LinearPhaseFir.{block_outs}
 
 -- the state after u, and one sample more, is the window of the last samples

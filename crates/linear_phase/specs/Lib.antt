@@ -1,4 +1,4 @@
-pub mod Handed
 pub mod LinearPhase
 pub mod Windows
 pub mod LinearPhaseFir
+pub mod inner

@@ -2,9 +2,9 @@
 ghost use Rattle.std.specs.Prelude.{◌≡◌, true, [], ◌∷◌, ◌++◌, ◌≤◌, length, take, drop};
 ghost use Rattle.theory.specs.Sections.{state, outs};
 ghost use Rattle.half_band.specs.Windows.{slid};
-ghost use Rattle.linear_phase.specs.Handed as H;
+ghost use Rattle.linear_phase.specs.inner.Handed as H;
 ghost use Rattle.linear_phase.specs.LinearPhase as P;
-ghost use Rattle.linear_phase.specs.Windows as W;
+ghost use Rattle.linear_phase.specs.inner.Lanes as A;
 
 use crate::kinds::{Folded, Half, Kind};
 use crate::limits::{LINEAR_PHASE_DELAYS, MOST_LINEAR_PHASE_TAPS};
@@ -61,8 +61,8 @@ fn held<const M: usize, const ODD: bool, const MINUS: bool>(
     span: &mut [f32],
 )
     requires { (M ≡ length taps.now) × (1 ≤ M) × (M ≤ 5) × (length span.old ≡ length src.now) }
-    ensures delay { delay.new ≡ H.left_of (W.linear_phase ODD MINUS taps.now) (P.reach ODD (length taps.now)) delay.old src.now }
-    ensures span { span.new ≡ H.made_of (W.linear_phase ODD MINUS taps.now) (P.reach ODD (length taps.now)) delay.old src.now }
+    ensures delay { delay.new ≡ H.left_of (A.linear_phase ODD MINUS taps.now) (P.reach ODD (length taps.now)) delay.old src.now }
+    ensures span { span.new ≡ H.made_of (A.linear_phase ODD MINUS taps.now) (P.reach ODD (length taps.now)) delay.old src.now }
 {
     let kind = Kind {
         odd: ODD,
@@ -85,8 +85,8 @@ fn held_five<const ODD: bool, const MINUS: bool>(
     span: &mut [f32],
 )
     requires { (length taps.now ≡ 5) × (length span.old ≡ length src.now) }
-    ensures delay { delay.new ≡ H.left_of (W.linear_phase ODD MINUS taps.now) (P.reach ODD (length taps.now)) delay.old src.now }
-    ensures span { span.new ≡ H.made_of (W.linear_phase ODD MINUS taps.now) (P.reach ODD (length taps.now)) delay.old src.now }
+    ensures delay { delay.new ≡ H.left_of (A.linear_phase ODD MINUS taps.now) (P.reach ODD (length taps.now)) delay.old src.now }
+    ensures span { span.new ≡ H.made_of (A.linear_phase ODD MINUS taps.now) (P.reach ODD (length taps.now)) delay.old src.now }
 {
     held::<5, ODD, MINUS>(taps, delay, src, span);
 }
@@ -99,8 +99,8 @@ fn filter_kind<const ODD: bool, const MINUS: bool>(
     span: &mut [f32],
 )
     requires { (1 ≤ length taps.now) × (length taps.now ≤ 5) × (length span.old ≡ length src.now) }
-    ensures delay { delay.new ≡ H.left_of (W.linear_phase ODD MINUS taps.now) (P.reach ODD (length taps.now)) delay.old src.now }
-    ensures span { span.new ≡ H.made_of (W.linear_phase ODD MINUS taps.now) (P.reach ODD (length taps.now)) delay.old src.now }
+    ensures delay { delay.new ≡ H.left_of (A.linear_phase ODD MINUS taps.now) (P.reach ODD (length taps.now)) delay.old src.now }
+    ensures span { span.new ≡ H.made_of (A.linear_phase ODD MINUS taps.now) (P.reach ODD (length taps.now)) delay.old src.now }
 {
     match taps.len() {
         1 => held::<1, ODD, MINUS>(taps, delay, src, span),

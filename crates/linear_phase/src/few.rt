@@ -1,6 +1,6 @@
 // Outputs of a few samples in a row, at windows on a tape: by a group of exactly as many, of which the compiler knows the size, or one by one.
 ghost use Rattle.std.specs.Prelude.{◌≡◌, ◌+◌, ◌≤◌, ◌<◌, length, take};
-ghost use Rattle.linear_phase.specs.Handed as H;
+ghost use Rattle.linear_phase.specs.inner.Handed as H;
 
 use crate::kinds::Folded;
 use crate::lanes::{outputs_at, put_group};

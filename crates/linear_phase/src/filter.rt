@@ -1,8 +1,8 @@
 // A block of samples through a delay of the last ones, the oldest first.
 ghost use Rattle.std.specs.Prelude.{◌≡◌, true, false, ◌++◌, ◌+◌, ◌-◌, ◌*◌, ◌≤◌, ◌<◌, min, length, take, drop, unwrap_or, option_copied};
 ghost use Rattle.theory.specs.Sections.{state, outs};
-ghost use Rattle.linear_phase.specs.Handed as H;
-ghost use Rattle.linear_phase.specs.Windows as W;
+ghost use Rattle.linear_phase.specs.inner.Handed as H;
+ghost use Rattle.linear_phase.specs.inner.Lanes as A;
 
 use crate::few::few_outputs;
 use crate::kinds::Folded;
@@ -17,7 +17,7 @@ const TAPE: usize = 2 * LINEAR_PHASE_DELAYS + LANES;
 // The last samples are the next delay; where there are fewer than it has places, they stand on the tape behind it.
 fn last_in(delay: &mut [f32], tape: &[f32], samples: &[f32])
     requires room { 2 * length delay.old ≤ length tape.now }
-    requires on_tape { W.InRow tape.now delay.old samples.now }
+    requires on_tape { A.InRow tape.now delay.old samples.now }
     ensures { delay.new ≡ drop (length samples.now) (delay.old ++ samples.now) }
 {
     let n = samples.len();

@@ -1,7 +1,7 @@
 // Outputs of samples in a row, so many sums side by side that the machine adds several at once; each sum keeps its own order.
 ghost use Rattle.std.specs.Prelude.{◌≡◌, false, ◌++◌, ◌+◌, ◌≤◌, min, length, take, drop, unwrap_or, option_copied};
-ghost use Rattle.linear_phase.specs.Handed as H;
-ghost use Rattle.linear_phase.specs.Windows as W;
+ghost use Rattle.linear_phase.specs.inner.Handed as H;
+ghost use Rattle.linear_phase.specs.inner.Lanes as A;
 
 use crate::few::more_outputs;
 use crate::kinds::{Folded, pair};
@@ -15,7 +15,7 @@ const MORE: usize = 28;
 // One pair more for each sum: (new[j] ± old[j]) × tap. Here and below the number reads the other lists: of what stands behind `iter_mut` in a zip a proof knows the lengths alone.
 fn add_pairs(acc: &mut [f32], old: &[f32], new: &[f32], tap: f32, minus: bool)
     requires { (length acc.old ≤ length old.now) × (length acc.old ≤ length new.now) }
-    ensures { acc.new ≡ W.pairs_added minus tap old.now new.now acc.old }
+    ensures { acc.new ≡ A.pairs_added minus tap old.now new.now acc.old }
 {
     for (j, sum) in acc.iter_mut().enumerate() {
         *sum += pair(minus, new[j], old[j]) * tap;
@@ -25,7 +25,7 @@ fn add_pairs(acc: &mut [f32], old: &[f32], new: &[f32], tap: f32, minus: bool)
 // The centre samples, one for each sum.
 fn add_centres(acc: &mut [f32], centres: &[f32])
     requires { length acc.old ≤ length centres.now }
-    ensures { acc.new ≡ W.centres_added centres.now acc.old }
+    ensures { acc.new ≡ A.centres_added centres.now acc.old }
 {
     for (j, sum) in acc.iter_mut().enumerate() {
         *sum += centres[j];
@@ -34,8 +34,8 @@ fn add_centres(acc: &mut [f32], centres: &[f32])
 
 // The sums of pairs at the windows that begin at the first places of the line, as many as there are zeros to begin with, t ascending.
 fn sums_at(acc: &mut [f32], line: &[f32], fir: Folded<'_>)
-    requires { (fir.long + length acc.old ≤ length line.now) × (acc.old ≡ W.no_sums (length acc.old)) }
-    ensures { acc.new ≡ W.window_sums fir.entry.kind.antisymmetric fir.entry.taps.now fir.entry.long line.now (length acc.old) (length fir.entry.taps.now) }
+    requires { (fir.long + length acc.old ≤ length line.now) × (acc.old ≡ A.no_sums (length acc.old)) }
+    ensures { acc.new ≡ A.window_sums fir.entry.kind.antisymmetric fir.entry.taps.now fir.entry.long line.now (length acc.old) (length fir.entry.taps.now) }
 {
     let long = fir.long;
     let minus = fir.kind.antisymmetric;
@@ -47,7 +47,7 @@ fn sums_at(acc: &mut [f32], line: &[f32], fir: Folded<'_>)
 // The outputs at these windows; the centre is added last. How many there are is known where the array of them is made: so one body serves groups of any size, and the compiler keeps each in
 // registers.
 pub(crate) fn outputs_at(acc: &mut [f32], line: &[f32], fir: Folded<'_>)
-    requires { (fir.long + length acc.old ≤ length line.now) × (acc.old ≡ W.no_sums (length acc.old)) }
+    requires { (fir.long + length acc.old ≤ length line.now) × (acc.old ≡ A.no_sums (length acc.old)) }
     ensures { acc.new ≡ H.values_of fir.entry line.now (length acc.old) }
 {
     sums_at(acc, line, fir);
@@ -70,7 +70,7 @@ pub(crate) fn group_at(line: &[f32], from: usize, fir: Folded<'_>) -> [f32; LANE
 // All of a group in front of a span. Place by place: with copy_from_slice, three outputs of a filter take 24 instructions more.
 pub(crate) fn put_group(span: &mut [f32], y: &[f32])
     requires { length y.now ≤ length span.old }
-    ensures { span.new ≡ W.put_in_front y.now span.old }
+    ensures { span.new ≡ A.put_in_front y.now span.old }
 {
     for (j, x) in y.iter().enumerate() {
         span[j] = *x;
@@ -80,15 +80,15 @@ pub(crate) fn put_group(span: &mut [f32], y: &[f32])
 // The same of a whole group.
 pub(crate) fn put_all(span: &mut [f32], y: [f32; LANES])
     requires { 16 ≤ length span.old }
-    ensures { span.new ≡ W.put_in_front y span.old }
+    ensures { span.new ≡ A.put_in_front y span.old }
 {
     put_group(span, &y);
 }
 
 // One of two lines.
-#[tactic(auto, unfolding(crate::specs::Windows::picked))]
+#[tactic(auto, unfolding(crate::specs::inner::Lanes::picked))]
 fn picked<'a>(first: bool, a: &'a [f32], b: &'a [f32]) -> &'a [f32]
-    ensures { result.now ≡ W.picked first a.now b.now }
+    ensures { result.now ≡ A.picked first a.now b.now }
 {
     if first { a } else { b }
 }
@@ -101,10 +101,10 @@ pub(crate) fn samples_of<'a>(src: Option<&'a [f32]>, span: &'a [f32]) -> &'a [f3
 }
 
 // Where the window of output `at` begins: on the tape, which has the delay in front, or among the samples.
-#[tactic(auto, unfolding(crate::specs::Windows::window_start))]
+#[tactic(auto, unfolding(crate::specs::inner::Lanes::window_start))]
 fn window_start(front: bool, at: usize, long: usize) -> usize
     requires { front ≡ false → long ≤ at }
-    ensures { result ≡ W.window_start front at long }
+    ensures { result ≡ A.window_start front at long }
 {
     if front { at } else { at - long }
 }
@@ -123,7 +123,7 @@ pub(crate) fn outputs_back<'a>(
     requires ahead { let samples = unwrap_or (option_copied src) span.old in
         let n = min (length span.old) 32 in
         take n (drop fir.long tape.now) ≡ take n samples }
-    requires on_tape { W.OnTape fir.long tape.now (unwrap_or (option_copied src) span.old) (length span.old) }
+    requires on_tape { A.OnTape fir.long tape.now (unwrap_or (option_copied src) span.old) (length span.old) }
     ensures { let z = take fir.entry.long tape.now ++ unwrap_or (option_copied src.entry) span.old in
         span.new ≡ H.values_of fir.entry z (length span.old) }
 {

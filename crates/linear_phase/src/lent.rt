@@ -1,7 +1,7 @@
 // Samples through a filter inside its limits, whose taps and delay are lent: the roads that they take, by how many they are.
 ghost use Rattle.std.specs.Prelude.{◌≡◌, length, take, unwrap_or, option_copied};
 ghost use Rattle.theory.specs.Sections.{state, outs};
-ghost use Rattle.linear_phase.specs.Handed as H;
+ghost use Rattle.linear_phase.specs.inner.Handed as H;
 ghost use Rattle.linear_phase.specs.LinearPhase.{reach};
 ghost use Rattle.linear_phase.specs.LinearPhaseFir as P;
 

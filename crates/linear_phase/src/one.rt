@@ -1,7 +1,7 @@
 // One sample through a delay of the last samples, the oldest first.
 ghost use Rattle.std.specs.Prelude.{◌≡◌, [], ◌∷◌, ◌++◌, ◌≤◌, length};
 ghost use Rattle.half_band.specs.Windows.{slid};
-ghost use Rattle.linear_phase.specs.Handed as H;
+ghost use Rattle.linear_phase.specs.inner.Handed as H;
 ghost use Rattle.linear_phase.specs.Windows as W;
 
 use crate::kinds::{Folded, pair};

@@ -2,9 +2,9 @@
 // compiler knows the window, and makes several at once.
 ghost use Rattle.std.specs.Prelude.{◌≡◌, true, ◌++◌, ◌+◌, ◌≤◌, length, take, drop};
 ghost use Rattle.theory.specs.Sections.{state, outs};
-ghost use Rattle.linear_phase.specs.Handed as H;
+ghost use Rattle.linear_phase.specs.inner.Handed as H;
 ghost use Rattle.linear_phase.specs.LinearPhase as P;
-ghost use Rattle.linear_phase.specs.Windows as W;
+ghost use Rattle.linear_phase.specs.inner.Lanes as A;
 
 use crate::few::{group_of, singles};
 use crate::kinds::{Folded, Half, Kind};
@@ -49,8 +49,8 @@ fn straight<const M: usize, const LONG: usize, const ODD: bool, const MINUS: boo
 )
     requires known { (M ≡ length taps.now) × (LONG ≡ P.reach ODD (length taps.now)) × (1 ≤ M) × (M ≤ 5) × (LONG ≤ 10) }
     requires lent { (length span.old ≡ length src.now) × (LONG ≤ length src.now) }
-    ensures delay { delay.new ≡ H.left_of (W.linear_phase ODD MINUS taps.now) (P.reach ODD (length taps.now)) delay.old src.now }
-    ensures span { span.new ≡ H.made_of (W.linear_phase ODD MINUS taps.now) (P.reach ODD (length taps.now)) delay.old src.now }
+    ensures delay { delay.new ≡ H.left_of (A.linear_phase ODD MINUS taps.now) (P.reach ODD (length taps.now)) delay.old src.now }
+    ensures span { span.new ≡ H.made_of (A.linear_phase ODD MINUS taps.now) (P.reach ODD (length taps.now)) delay.old src.now }
 {
     let own = taken::<M>(taps);
     let kind = Kind {

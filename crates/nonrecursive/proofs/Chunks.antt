@@ -17,7 +17,7 @@ use Rattle.theory.specs.Wrap.{wrap}
 use Rattle.theory.specs.Sections.{state, outs}
 use Rattle.integer.proofs.Within.{stages_within, factor_within}
 use Rattle.nonrecursive.specs.NonrecursiveDecimator.{halvings, power_of_two, nonrecursive_of, valid_at, nonrecursive}
-use Rattle.nonrecursive.specs.Tape.{Lined, pairs, lined}
+use Rattle.nonrecursive.specs.inner.Tape.{Lined, pairs, lined}
 use Rattle.nonrecursive.proofs.Halvings.{power_is, few_halvings, halvings_none, halvings_half}
 use Rattle.nonrecursive.proofs.NonrecursiveStreaming.{Sound, sound, valid_parts}
 use Rattle.nonrecursive.proofs.StageByStage.{pairs_long, pairs_count, thinner, frames, place_after}

@@ -11,7 +11,8 @@ use lib.ListN.{length, take, drop, length-append, length-drop, take-append-drop}
 use lib.Seq.{length-take-le, take-add, take-append_seam, drop-append_seam, drop-drop}
 use Rattle.theory.specs.Sections.{Section, state, outs}
 use Rattle.theory.specs.Machines.{Machine, alone}
-use Rattle.theory.specs.Feeds.{Fed, took_then, less, feed}
+use Rattle.theory.specs.Feeds.{Fed, took_then, feed}
+use Rattle.theory.proofs.Feeds.{less}
 use Rattle.theory.proofs.Sections.{state_append, outs_append, state_keeps}
 use Rattle.theory.proofs.FeedLoop.{join}
 use Rattle.theory.proofs.FeedRules.{feed_full, feed_end}

@@ -10,7 +10,7 @@ use lib.Seq.{take-suc, take-suc-set, take_all, drop-cons, drop-set-lt, drop-drop
 use mir.Syntax.{w32}
 use Rattle.theory.specs.Wrap.{wrap}
 use Rattle.nonrecursive.specs.NonrecursiveDecimator.{summed}
-use Rattle.nonrecursive.specs.Tape.{pairs}
+use Rattle.nonrecursive.specs.inner.Tape.{pairs}
 use Rattle.nonrecursive.proofs.StageByStage.{summed_long}
 
 pub laid_more :

@@ -17,7 +17,7 @@ use Rattle.theory.specs.Feeds.{Fed, took, both, stopped, Stepped, head_of, takin
 use Rattle.theory.proofs.Machines.{Lawful, lawful_alone}
 use Rattle.theory.proofs.Feeds.{step_not}
 use Rattle.theory.proofs.FeedLoop.{Midway, after_took, after_both, after_stopped}
-use Rattle.nonrecursive.specs.Tape.{put}
+use Rattle.nonrecursive.specs.inner.Tape.{put}
 
 module _ {S : Type 0} (f : Section S ℤ ℤ) where
   abbrev m : Machine S ℤ ℤ

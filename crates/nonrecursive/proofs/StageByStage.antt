@@ -18,7 +18,7 @@ use Rattle.integer.specs.Stages.{Passed, kept, sum32}
 use Rattle.integer.proofs.Row.{long_kept, behind, same_fronts}
 use Rattle.nonrecursive.specs.NonrecursiveDecimator.{summed, Thinned, thinned, next_place}
 use Rattle.nonrecursive.specs.NonrecursiveDecimator as D
-use Rattle.nonrecursive.specs.Tape.{pairs, lined}
+use Rattle.nonrecursive.specs.inner.Tape.{pairs, lined}
 use Rattle.nonrecursive.proofs.NonrecursiveStreaming.{place_next}
 
 module _ (N : ℕ) where

@@ -12,7 +12,7 @@ use lib.IntN.{ℤ}
 use lib.ListN.{length, take, drop, length-drop, take-append-drop}
 use lib.Seq.{length-take-le, take-append-add, drop-append-add}
 use Rattle.nonrecursive.specs.NonrecursiveDecimator.{halvings, power_of_two}
-use Rattle.nonrecursive.specs.Tape.{Lined, pairs, lined}
+use Rattle.nonrecursive.specs.inner.Tape.{Lined, pairs, lined}
 use Rattle.nonrecursive.proofs.Halvings.{halvings_none, halvings_half, power_below, power_odd, power_even}
 use Rattle.nonrecursive.proofs.StageByStage.{pairs_long}
 use Rattle.nonrecursive.proofs.ThinSteps.{part_is, put_is}

@@ -1,4 +1,4 @@
 pub mod Nonrecursive
 pub mod NonrecursiveDecimator
-pub mod Tape
 pub mod EitherKind
+pub mod inner

@@ -5,7 +5,7 @@ ghost use Rattle.theory.specs.Wrap.{wrap};
 ghost use Rattle.theory.specs.Sections.{onto, state, outs};
 ghost use Rattle.refusal.specs.Outcome.{none_moved, told_on};
 ghost use Rattle.nonrecursive.specs.NonrecursiveDecimator as D;
-ghost use Rattle.nonrecursive.specs.Tape.{pairs, lined, put};
+ghost use Rattle.nonrecursive.specs.inner.Tape.{pairs, lined, put};
 
 use crate::first::halve_first;
 use crate::nonrecursive_decimator::{

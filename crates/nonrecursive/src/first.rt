@@ -2,7 +2,7 @@
 ghost use Rattle.std.specs.Prelude.{◌≡◌, map, ◌*◌, ◌≤◌, length};
 ghost use Rattle.std.specs.Int.{w32};
 ghost use Rattle.theory.specs.Wrap.{wrap};
-ghost use Rattle.nonrecursive.specs.Tape.{pairs};
+ghost use Rattle.nonrecursive.specs.inner.Tape.{pairs};
 
 use crate::nonrecursive_decimator::sum_neighbours;
 

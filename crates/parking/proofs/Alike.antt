@@ -8,8 +8,8 @@ use Prim.Native.Nat.{ℕ, zero, suc, ◌+◌}
 use lib.ListN.{length}
 use Rattle.theory.specs.Sections.{Section, onto}
 use Rattle.theory.specs.Machines.{Machine, before, next_for, now_for}
-use Rattle.theory.specs.Feeds.{Fed, wrote_then, took_then, less, steps, feed}
-use Rattle.theory.proofs.Feeds.{steps_due, steps_none, steps_take}
+use Rattle.theory.specs.Feeds.{Fed, wrote_then, took_then, steps, feed}
+use Rattle.theory.proofs.Feeds.{less, steps_due, steps_none, steps_take}
 
 pub record AlikeSection {S A B : Type 0} (f : Section S A B) (Fine : S → Type 0) (Same : S → S → Type 0) : Type 0 where
   pub next : (s t : S) (a : A) → Fine s → Same s t → Same (f.next s a) (f.next t a)

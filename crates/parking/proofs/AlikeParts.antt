@@ -32,10 +32,10 @@ use Rattle.q15.proofs.FirSteps.{valid_on, line_valid}
 use Rattle.half_band.specs.HbfTaps.{stage_taps, decimation}
 use Rattle.half_band.specs.HbfStream.{Half, through, stream, hbf_stream}
 use Rattle.half_band.specs.declared.hbf_stream.HbfStream.{HbfStream}
-use Rattle.half_band.specs.HbfTaps.{decimation_five}
+use Rattle.half_band.specs.inner.FiveStages.{decimation_five}
 use Rattle.half_band.proofs.Stages.{Sized, stage, stages_from, out_through, stages_through}
 use Rattle.half_band.proofs.Streaming.{depth_next, sized_next}
-use Rattle.theory.specs.Cascades.{cascade_next, cascade_out}
+use Rattle.theory.proofs.Cascades.{cascade_next, cascade_out}
 use Rattle.float.specs.F32.{one32}
 use Rattle.float.specs.PolyphaseResamp.{shifted_in, consumed, passed, output_of, is_on, in_line}
 use Rattle.float.specs.declared.polyphase_resamp.PolyphaseResampF32.{PolyphaseResampF32}

@@ -24,10 +24,10 @@ use Rattle.sheet.specs.Sheet.{le16, bytes16}
 use Rattle.sheet.specs.Laid.{laid}
 use Rattle.sheet.proofs.Laying.{laid_front}
 use Rattle.parking.specs.Parked.{Settings, half_band_bytes, neighbour_count}
-use Rattle.words.specs.Fields.{Reads, i16_bytes, i32_bytes, f32_bytes, joined, f32_at, values_at, floats_at, All, IsFloat}
+use Rattle.words.specs.Fields.{i16_bytes, i32_bytes, f32_bytes, joined, f32_at, values_at, floats_at, All, IsFloat}
 use Rattle.parking.specs.Entries.{cic_bytes, neighbours_bytes, tap_bytes, delay_bytes, window_of, stage_bytes, stages_bytes, prototype_bytes, resampler_bytes, cic_from, place_from, neighbours_from, fir_from, counts_from, held_from, delays_from, resampler_from, stages_written}
 use Rattle.words.proofs.Fields.{all_take, all_drop, all_get_d, joined_length, values_back, floats_are}
-use Rattle.words.specs.Reading.{word_at, reads_i16, reads_i32, reads_f32}
+use Rattle.words.specs.inner.Reading.{Reads, word_at, reads_i16, reads_i32, reads_f32}
 use Rattle.parking.proofs.Whole.{Used, used_fresh, CicWhole, ThinWholeBy, FirWhole}
 use Rattle.parking.proofs.WholeFloats.{HalfUsed, ResamplerWhole, window_most}
 

@@ -15,7 +15,7 @@ use Rattle.sheet.proofs.Writing.{directory_is}
 use Rattle.words.proofs.Loops.{laid_whole}
 use Rattle.parking.specs.Parked.{Settings, settings_bytes, sizes, thin_sizes, flat, lengths_of, parked}
 use Rattle.parking.specs.Entries.{tap_bytes, delay_bytes, stages_bytes, prototype_bytes, resampler_bytes, neighbours_bytes, entries_by}
-use Rattle.parking.specs.Told.{Fine, settings_by, count_by, sizes_by, all_sizes, parts, first_by, first_bytes, last_by, last_bytes}
+use Rattle.parking.specs.inner.Told.{Fine, settings_by, count_by, sizes_by, all_sizes, parts, first_by, first_bytes, last_by, last_bytes}
 use Rattle.parking.proofs.WholeSheet.{lengths_of_lem, thin_lengths_of, depth_flat, thin_flat}
 use Rattle.parking.proofs.ParkedLine.{sheet_long, thin_long, sizes_most, thin_most}
 

@@ -15,8 +15,9 @@ use Rattle.words.specs.Fields.{IsFloat}
 use Rattle.line.specs.Line.{valid}
 use Rattle.line.specs.declared.gauge_line.Line.{Line}
 use Rattle.parking.specs.Entries.{fir_on, resampler_on, settings_in, tap_bytes, delay_bytes, prototype_bytes, resampler_bytes, entries_of, thin_entries, entries_by, line_entries}
-use Rattle.parking.specs.Kept.{line_by, line_kept, fir_numbers, resampler_numbers, numbers_on}
-use Rattle.parking.specs.Told.{on, parts, settings_by, Lengths, Fine}
+use Rattle.parking.specs.Kept.{line_by, line_kept}
+use Rattle.parking.specs.inner.Numbers.{fir_numbers, resampler_numbers, numbers_on}
+use Rattle.parking.specs.inner.Told.{on, parts, settings_by, Lengths, Fine}
 use Rattle.parking.specs.declared.kept.KeptLine.{KeptLine}
 use Rattle.parking.proofs.ParkedLine.{limits_of}
 

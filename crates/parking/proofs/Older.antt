@@ -31,11 +31,11 @@ use Rattle.parking.specs.Parked.{Panel, at6, at7, at9, panel, Settings, settings
 use Rattle.parking.specs.Entries.{fir_on, resampler_on, settings_in, tap_bytes, delay_bytes, entries_of, thin_entries, entries_by, line_entries, entry_of, line_from, written, fine}
 use Rattle.parking.specs.Parking.{parked_line, park_number, park_answer, park_span, taken_up, taken_up_number}
 use Rattle.parking.specs.Between.{sheet_in}
-use Rattle.parking.specs.Told.{Lengths, on}
-use Rattle.parking.specs.Limits.{ArrayLengths}
+use Rattle.parking.specs.inner.Told.{Lengths, on}
+use Rattle.parking.specs.Lengths.{ArrayLengths}
 use Rattle.parking.specs.Older.{held_by, ForOlder, formerly, StillTaken}
 use Rattle.parking.proofs.Panels.{Fits, settings_back, Small, sum_of_lengths, seven_shaped, eight_misshapen, past_limit, misshapen, still_taken, wider_taken, parked_marked, older_refuses, marked_parked, unmarked_same}
-use Rattle.words.specs.Reading.{bits_below}
+use Rattle.words.specs.inner.Reading.{bits_below}
 use Rattle.parking.proofs.WholeSheet.{lengths_of_lem, thin_lengths_of}
 use Rattle.parking.proofs.ParkedLine.{limits_of, sizes_most, thin_most}
 use Rattle.parking.proofs.Taken.{on_numbers, straight_most, sheet_in_lem}

@@ -26,7 +26,8 @@ use Rattle.sheet.proofs.Laying.{pairs_length}
 use Rattle.parking.specs.Parked.{Settings, panel, sizes, thin_sizes, flat, parked}
 use Rattle.parking.specs.Entries.{fir_on, resampler_on, settings_in, entries_of, thin_entries}
 use Rattle.parking.specs.Parking.{parked_line, park_number, park_answer, park_span, sheet_answer, sheet_span}
-use Rattle.parking.specs.Limits.{InLimits, ArrayLengths}
+use Rattle.parking.specs.inner.Limits.{InLimits}
+use Rattle.parking.specs.Lengths.{ArrayLengths}
 use Rattle.parking.proofs.Panels.{sum_of_lengths}
 use Rattle.parking.proofs.Thinned.{few_neighbours}
 use Rattle.parking.proofs.Whole.{thin_numbers}

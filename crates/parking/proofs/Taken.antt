@@ -37,10 +37,10 @@ use Rattle.parking.specs.Parked.{Panel, Settings, settings_bytes, settings_of, h
 use Rattle.words.specs.Fields.{is_float, floats_at, joined, i16_bytes}
 use Rattle.parking.specs.Entries.{fir_on, resampler_on, settings_in, tap_bytes, delay_bytes, stages_bytes, prototype_bytes, resampler_bytes, entries_of, thin_entries, entries_by, line_entries, entry_of, line_with, line_from, half_band_from, fir_written, resampler_written, stages_written, written, fine}
 use Rattle.parking.specs.Parking.{parked_line, park_number, park_answer, park_span, taken_up, taken_up_number}
-use Rattle.parking.specs.Limits.{InLimits}
+use Rattle.parking.specs.inner.Limits.{InLimits}
 use Rattle.parking.specs.Between.{Typed, sheet_in, History, none_yet, fed, parked as parked_then, unparked, line_after, AsNeverParked}
 use Rattle.parking.proofs.Panels.{Fits, settings_back, Small, entries_back, taken_up_lem, seven_shaped, eight_shaped, sum_of_lengths}
-use Rattle.words.specs.Reading.{bits_below, word_at}
+use Rattle.words.specs.inner.Reading.{bits_below, word_at}
 use Rattle.parking.proofs.Thinned.{few_neighbours}
 use Rattle.parking.proofs.Whole.{ThinWholeBy, ThinNumbers, thin_numbers, FirWhole}
 use Rattle.parking.proofs.WholeFloats.{ResamplerWhole}

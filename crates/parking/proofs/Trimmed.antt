@@ -36,7 +36,7 @@ use Rattle.q15.proofs.FirSteps.{valid_on, line_valid}
 use Rattle.half_band.specs.HbfTaps.{stage_taps, decimation}
 use Rattle.half_band.specs.HbfStream.{Half, stage_in, with_stage, hbf_stream, stream_fresh}
 use Rattle.half_band.specs.declared.hbf_stream.HbfStream.{HbfStream}
-use Rattle.half_band.specs.HbfTaps.{decimation_five}
+use Rattle.half_band.specs.inner.FiveStages.{decimation_five}
 use Rattle.half_band.proofs.Stages.{Sized, stages_from, found, elsewhere}
 use Rattle.half_band.proofs.HeldOnes.{refused_says, not_refused, line_not_refused, line_refused_says}
 use Rattle.float.specs.F32.{zero32}

@@ -18,7 +18,7 @@ use Rattle.half_band.specs.Windows.{slid, dec_value}
 use Rattle.half_band.specs.HbfStream.{Half, half, stage_in, with_stage, through, stream, hbf_stream}
 use Rattle.half_band.specs.declared.hbf_stream.HbfStream.{HbfStream}
 use Rattle.half_band.proofs.Stages.{Sized, sized_with, sized_through}
-use Rattle.half_band.specs.HbfTaps.{decimation_five}
+use Rattle.half_band.specs.inner.FiveStages.{decimation_five}
 use Rattle.half_band.proofs.Streaming.{depth_next}
 use Rattle.float.specs.F32.{zero32}
 use Rattle.float.specs.PolyphaseResamp.{shifted_in, consumed, passed}

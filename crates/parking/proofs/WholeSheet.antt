@@ -11,7 +11,8 @@ use Rattle.half_band.specs.declared.hbf_stream.HbfStream.{HbfStream}
 use Rattle.float.specs.declared.polyphase_resamp.PolyphaseResampF32.{PolyphaseResampF32}
 use Rattle.parking.specs.Parked.{settings_bytes, sizes, thin_sizes, neighbour_count, flat, lengths_of, half_band_bytes}
 use Rattle.parking.specs.Entries.{settings_in, cic_bytes, tap_bytes, delay_bytes, stages_bytes, prototype_bytes, resampler_bytes, entries_of, neighbours_bytes, thin_entries}
-use Rattle.parking.specs.Limits.{InLimits, ArrayLengths}
+use Rattle.parking.specs.inner.Limits.{InLimits}
+use Rattle.parking.specs.Lengths.{ArrayLengths}
 use Rattle.parking.proofs.StageLengths.{stages_long, cells_most}
 use Rattle.parking.proofs.EntryLengths.{cic_long, fir_long, resampler_long, delay_long, cells_long, neighbours_long}
 use Rattle.parking.proofs.Thinned.{few_neighbours}

@@ -8,7 +8,7 @@ use Rattle.line.specs.Line.{feed_outcome, feed_span}
 use Rattle.line.specs.Demand3.{History, none_yet, fed}
 use Rattle.line.specs.declared.gauge_line.Line.{Line}
 use Rattle.words.specs.Fields.{All, IsFloat}
-use Rattle.parking.specs.Limits.{ArrayLengths}
+use Rattle.parking.specs.Lengths.{ArrayLengths}
 
 -- a record has its types: arrays of their lengths, integers and floats in their widths
 pub record LineTyped (l : Line) : Type 0 where

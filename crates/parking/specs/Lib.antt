@@ -1,9 +1,9 @@
-pub mod Parked
-pub mod Entries
-pub mod Parking
-pub mod Between
-pub mod Older
-pub mod Told
-pub mod Limits
 pub mod Alike
+pub mod Between
+pub mod Entries
 pub mod Kept
+pub mod Lengths
+pub mod Older
+pub mod Parked
+pub mod Parking
+pub mod inner

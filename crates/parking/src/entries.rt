@@ -6,7 +6,7 @@ ghost use Rattle.words.specs.Fields.{joined};
 ghost use Rattle.parking.specs.Entries as E;
 ghost use Rattle.parking.specs.Kept.{line_kept};
 ghost use Rattle.parking.specs.Parked as P;
-ghost use Rattle.parking.specs.Told.{numbers_of, first_bytes, first_size, last_bytes, last_size};
+ghost use Rattle.parking.specs.inner.Told.{numbers_of, first_bytes, first_size, last_bytes, last_size};
 
 use crate::fine_line::FineLine;
 use crate::put::put_all;
@@ -31,7 +31,14 @@ pub(crate) fn put_settings(span: &mut [u8], q: &ParkedSettings)
     ensures { span.new ≡ P.settings_bytes (numbers_of q.now) }
 {
     let numbers = [
-        q.stages, q.r, q.taps, q.factor, q.depth, q.phases, q.phase_taps, q.straight,
+        q.stages,
+        q.r,
+        q.taps,
+        q.factor,
+        q.depth,
+        q.phases,
+        q.phase_taps,
+        q.straight,
     ];
     let (front, behind) = span.split_at_mut(16);
     let (step, cuts) = behind.split_at_mut(4);

@@ -3,8 +3,9 @@ ghost use Rattle.std.specs.Prelude.{◌≡◌, ◌<◌, true, false, length, IfO
 ghost use Rattle.refusal.specs.Table.{number_of};
 ghost use Rattle.line.specs.Line.{valid};
 ghost use Rattle.words.specs.Fields.{IsFloat};
-ghost use Rattle.parking.specs.Kept.{line_by, line_kept, fir_numbers, resampler_numbers, numbers_on};
-ghost use Rattle.parking.specs.Told.{Fine, Lengths};
+ghost use Rattle.parking.specs.Kept.{line_by, line_kept};
+ghost use Rattle.parking.specs.inner.Numbers.{fir_numbers, resampler_numbers, numbers_on};
+ghost use Rattle.parking.specs.inner.Told.{Fine, Lengths};
 
 use crate::kept::KeptLine;
 use float::settings::{MOST_CELLS, MOST_PHASE_TAPS};
@@ -22,7 +23,7 @@ pub(crate) struct FineLine<'a> {
 }
 
 // "A part that is off is parked as zeros, settings too": the FIR's numbers, since of its arrays no entry has a place then.
-#[tactic(auto, unfolding(crate::specs::Kept::fir_numbers))]
+#[tactic(auto, unfolding(crate::specs::inner::Numbers::fir_numbers))]
 fn fir_parked(n: LineNumbers) -> LineNumbers
     ensures { result ≡ fir_numbers n }
 {
@@ -40,7 +41,7 @@ fn fir_parked(n: LineNumbers) -> LineNumbers
 }
 
 // And the resampler's.
-#[tactic(auto, unfolding(crate::specs::Kept::resampler_numbers))]
+#[tactic(auto, unfolding(crate::specs::inner::Numbers::resampler_numbers))]
 fn resampler_parked(n: LineNumbers) -> LineNumbers
     ensures { result ≡ resampler_numbers n }
 {

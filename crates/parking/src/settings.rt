@@ -2,10 +2,10 @@
 ghost use Rattle.std.specs.Prelude.{◌≡◌, ◌<◌, ◌≤◌, sum};
 ghost use Rattle.nonrecursive.specs.NonrecursiveDecimator as D;
 ghost use Rattle.parking.specs.Entries as E;
-ghost use Rattle.parking.specs.Limits.{InWords};
+ghost use Rattle.parking.specs.inner.Limits.{InWords};
 ghost use Rattle.parking.specs.Parked as P;
 ghost use Rattle.parking.specs.Kept.{line_by};
-ghost use Rattle.parking.specs.Told.{numbers_of, count_by, settings_by, all_sizes};
+ghost use Rattle.parking.specs.inner.Told.{numbers_of, count_by, settings_by, all_sizes};
 ghost use Rattle.parking.specs.declared.kept.KeptLine.{KeptLine};
 
 use half_band::MOST_DEPTH;

@@ -7,7 +7,7 @@ ghost use Rattle.parking.specs.Kept.{line_kept};
 ghost use Rattle.parking.specs.Older.{ForOlder};
 ghost use Rattle.parking.specs.Parked as P;
 ghost use Rattle.parking.specs.Parking as K;
-ghost use Rattle.parking.specs.Told.{all_sizes, numbers_of, parts, settings_by};
+ghost use Rattle.parking.specs.inner.Told.{all_sizes, numbers_of, parts, settings_by};
 
 use crate::entries::{put_fir, put_first, put_half_band, put_last, put_resampler, put_settings};
 use crate::fine_line::FineLine;

@@ -13,10 +13,10 @@ use lib.ListN.{length, replicate, length-replicate}
 use Rattle.theory.specs.Sections.{Section, each}
 use Rattle.theory.specs.Machines.{Machine, next_for, now_for, before, viewed}
 use Rattle.theory.specs.Tally.{tallied}
-use Rattle.theory.specs.Feeds.{Fed, took_then, less, steps, feed}
-use Rattle.theory.proofs.Feeds.{steps_due, steps_none, steps_take}
+use Rattle.theory.specs.Feeds.{Fed, took_then, steps, feed}
+use Rattle.theory.proofs.Feeds.{less, steps_due, steps_none, steps_take}
 use Rattle.theory.proofs.Counting.{came, CountsDown}
-use Rattle.plan.specs.Ticking.{at_left, arrived, ticking, slowed}
+use Rattle.plan.specs.inner.Ticking.{at_left, arrived, ticking, slowed}
 use Rattle.plan.specs.declared.counting.Clock.{Clock}
 
 -- the clock counts for the machine

@@ -22,7 +22,7 @@ use Rattle.line.proofs.Openings.{makes, one_list}
 use Rattle.line.proofs.Cuts.{cuts_held}
 use Rattle.line.proofs.Demanded.{modelled, outcome_is, span_is, ok, valid_fresh, valid_at_lem, same_line}
 use Rattle.plan.specs.SameFeeds.{of_kind, SameFeeds}
-use Rattle.plan.specs.Ticking.{count_feed}
+use Rattle.plan.specs.inner.Ticking.{count_feed}
 use Rattle.plan.specs.declared.counting.Clock.{Clock}
 use Rattle.plan.proofs.LineClock.{clock_of, Runs, line_counts, fed_counts}
 use Rattle.plan.proofs.Start.{fresh_runs}

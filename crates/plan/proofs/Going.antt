@@ -9,11 +9,11 @@ use Prim.Native.Nat.{ℕ, zero, suc, ◌+◌, ◌-◌, ◌≤◌, ◌<◌}
 use native.Mathlib.Omega.{arith}
 use borrow.Author.Tests.{lt-leb}
 use lib.ListN.{length, replicate}
-use Rattle.theory.specs.Feeds.{Fed, idle, wrote_then, took_then, less, feed, taking, follow}
-use Rattle.theory.proofs.Feeds.{step_not}
+use Rattle.theory.specs.Feeds.{Fed, idle, wrote_then, took_then, feed, taking, follow}
+use Rattle.theory.proofs.Feeds.{less, step_not}
 use Rattle.theory.proofs.FeedLoop.{feed_follow}
 use Rattle.theory.proofs.FeedRules.{feed_full, feed_due, feed_end}
-use Rattle.plan.specs.Ticking.{at_left, at_once, written_at_once, arrived, ticking, count_feed, Runs, CountedTo}
+use Rattle.plan.specs.inner.Ticking.{at_left, at_once, written_at_once, arrived, ticking, count_feed, Runs, CountedTo}
 use Rattle.plan.specs.declared.counting.Clock.{Clock}
 use Rattle.plan.specs.declared.counting.Pace.{Pace}
 

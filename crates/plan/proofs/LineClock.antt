@@ -36,7 +36,7 @@ use Rattle.line.specs.declared.gauge_line.Line.{Line}
 use Rattle.line.proofs.Lawful.{Good, line_lawful}
 use Rattle.line.proofs.Demanded.{outcome_is}
 use Rattle.plan.specs.Plan.{feed_counts}
-use Rattle.plan.specs.Ticking.{pace_by, due_at, behind_output, behind_value, at_once, ticking, slowed, count_feed, count_feeds}
+use Rattle.plan.specs.inner.Ticking.{pace_by, due_at, behind_output, behind_value, at_once, ticking, slowed, count_feed, count_feeds}
 use Rattle.plan.specs.declared.counting.Clock.{Clock}
 use Rattle.plan.specs.declared.counting.Pace.{Pace}
 use Rattle.theory.proofs.Counting.{came}

@@ -4,7 +4,7 @@ use mathlib.Core.List.{List, ◌++◌, map}
 use Prim.Native.Nat.{ℕ}
 use lib.ListN.{length, take, drop}
 use Rattle.refusal.specs.declared.Moved.{Moved}
-use Rattle.plan.specs.Ticking.{count_feeds}
+use Rattle.plan.specs.inner.Ticking.{count_feeds}
 use Rattle.plan.specs.declared.counting.Clock.{Clock}
 
 module _ (get : Moved → ℕ) (c₀ : Clock) (pieces spans : List ℕ) where

@@ -27,11 +27,11 @@ use Rattle.std.proofs.lemmas.Bool.{and_parts}
 use Rattle.line.proofs.Openings.{Accepted}
 use Rattle.line.proofs.Demanded.{ok, start, valid_fresh}
 use Rattle.plan.specs.Plan.{feed_counts, PlanKept, lengths_fine, lists_fine, plan_number}
-use Rattle.plan.specs.Ticking.{pace_by, slowed, resampler_clock, start_clock, count_feeds}
-use Rattle.plan.specs.Ticking as K
+use Rattle.plan.specs.inner.Ticking.{pace_by, slowed, resampler_clock, start_clock, count_feeds}
+use Rattle.plan.specs.inner.Ticking as K
 use Rattle.plan.specs.declared.counting.Clock.{Clock}
 use Rattle.chain.proofs.Sections.{by_cond, or_one_lem, FirGood, fir_left, fir_period}
-use Rattle.chain.specs.Counting.{or_one, stages_left}
+use Rattle.chain.specs.inner.Counting.{or_one, stages_left}
 use Rattle.plan.proofs.LineClock.{clock5, clock_of, Runs, feeds_counted}
 
 -- ---- the settings that an opening takes

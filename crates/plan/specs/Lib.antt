@@ -1,3 +1,3 @@
 pub mod Plan
-pub mod Ticking
 pub mod SameFeeds
+pub mod inner

@@ -2,8 +2,8 @@
 // samples until the next value reaches the resampler, and then so many from each to the next. The samples between two values are counted at once.
 ghost use Rattle.std.specs.Prelude.{◌≡◌, cond, ◌+◌, ◌*◌, ◌^◌, ◌≤◌, None, Some};
 ghost use Rattle.q15.specs.FirDecimator.{most_taps};
-ghost use Rattle.chain.specs.Counting.{or_one};
-ghost use Rattle.plan.specs.Ticking as K;
+ghost use Rattle.chain.specs.inner.Counting.{or_one};
+ghost use Rattle.plan.specs.inner.Ticking as K;
 
 use chain::room::or_one;
 use line::Settings;
@@ -76,7 +76,7 @@ impl Clock {
     }
 
     // The clock behind the output that is due, if one is: "An output is due when the resampler is on and mu < 1."
-    #[tactic(auto, unfolding(crate::specs::Ticking::ticking))]
+    #[tactic(auto, unfolding(crate::specs::inner::Ticking::ticking))]
     fn behind_due(self) -> Option<Clock>
         ensures { result ≡ cond (K.ticking.due self) (Some (K.ticking.after self)) None }
     {

@@ -4,7 +4,7 @@ ghost use Rattle.refusal.specs.Outcome.{number_in};
 ghost use Rattle.refusal.specs.declared.Moved.{Moved};
 ghost use Rattle.line.specs.Outputs as O;
 ghost use Rattle.plan.specs.Plan as P;
-ghost use Rattle.plan.specs.Ticking as K;
+ghost use Rattle.plan.specs.inner.Ticking as K;
 
 use crate::counting::Clock;
 use crate::lists::lists_fine;

@@ -26,7 +26,7 @@ use Rattle.theory.proofs.Decimation.{fir_fires}
 use Rattle.q15.specs.Fixed.{cut, is_cut, cut_one, cut_count, at}
 use Rattle.q15.specs.PolyphaseDecimate.{window_sum, filtered, decimated_count}
 use Rattle.q15.specs.FirDecimator.{most_taps, fir_state, stored, moved, fir_next, fir_out, fir_sum_out, cut_in, summing, fir, made_value, made_cut}
-use Rattle.q15.specs.FirBlock.{most_fir_block, block_fits, fir_block_state, fir_block_outs, fir_block_cuts, Ran, stored_run}
+use Rattle.q15.specs.inner.FirBlock.{most_fir_block, block_fits, fir_block_state, fir_block_outs, fir_block_cuts, Ran, stored_run}
 use Rattle.q15.specs.declared.fixed.Cut.{Cut}
 use Rattle.q15.specs.declared.fir_decimator.FirDecimator.{FirDecimator}
 use Rattle.q15.specs.declared.block.FirBlock.{FirBlock}

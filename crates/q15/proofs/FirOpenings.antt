@@ -10,7 +10,8 @@ use lib.IntN.{ℤ}
 use lib.ListN.{length, take}
 use lib.Seq.{length-take-le}
 use Rattle.refusal.specs.Outcome.{Opened}
-use Rattle.q15.specs.FirDecimator.{fir_zeros, most_taps, settings_number, settings_number_in_line, fir_valid, fir_valid_in_line, valid, valid_in_line, settings_of, fresh, fresh_in_line, opened_by, fir_opened, fir_reset, Streams}
+use Rattle.q15.specs.FirDecimator.{fir_zeros, most_taps, settings_number, settings_number_in_line, fir_valid, fir_valid_in_line, valid, valid_in_line, fresh, fresh_in_line, opened_by, fir_opened, fir_reset, Streams}
+use Rattle.q15.specs.inner.FirBlock.{settings_of}
 use Rattle.q15.specs.declared.fir_decimator.FirDecimator.{FirDecimator}
 use Rattle.q15.specs.declared.fir_settings.FirSettings.{FirSettings}
 use Rattle.q15.proofs.Rounding.{rounded}

@@ -10,7 +10,6 @@ use Rattle.q15.specs.Fixed.{is_cut}
 use Rattle.q15.specs.Block.{fir_number}
 use Rattle.q15.specs.PolyphaseDecimate.{window_sum, fir_sums, filtered, decimated}
 use Rattle.q15.specs.Rounding.{Rounded}
-use Rattle.q15.specs.declared.fir_settings.FirSettings.{FirSettings}
 use Rattle.q15.specs.declared.fir_decimator.FirDecimator.{FirDecimator}
 use Rattle.q15.specs.declared.fixed.Cut.{Cut}
 
@@ -88,10 +87,6 @@ fir_valid T D w = cond (eqb (settings_number T D) 0) (not (bad_wait T D w)) fals
 -- row 15 in the line, where no taps means off and "a part that is off is not checked"
 unfoldable pub fir_valid_in_line : ℕ → ℕ → ℕ → Bool
 fir_valid_in_line T D w = cond (eqb T 0) true (fir_valid T D w)
-
--- what a state was opened with
-abbrev pub settings_of : FirDecimator → FirSettings
-settings_of s = record { tap_count = s.tap_count; factor = s.factor }
 
 abbrev pub valid : FirDecimator → Bool
 valid s = fir_valid s.tap_count s.factor s.wait

@@ -4,7 +4,7 @@ pub mod Block
 pub mod PolyphaseDecimate
 pub mod Rounding
 pub mod FirDecimator
-pub mod FirBlock
 pub mod PolyphaseInterpolate
 pub mod ResampleLinear
 pub mod Readings
+pub mod inner

@@ -7,7 +7,7 @@ ghost use Rattle.theory.specs.Lists.{listed};
 ghost use Rattle.q15.specs.Fixed.{cut_count};
 ghost use Rattle.q15.specs.PolyphaseDecimate.{window_sum, filtered};
 ghost use Rattle.q15.specs.FirDecimator.{most_taps, fir_state, moved};
-ghost use Rattle.q15.specs.FirBlock.{most_fir_block, block_fits, fir_block_state, fir_block_outs, fir_block_cuts, Ran, OnTape, stored_run};
+ghost use Rattle.q15.specs.inner.FirBlock.{most_fir_block, block_fits, fir_block_state, fir_block_outs, fir_block_cuts, Ran, OnTape, stored_run};
 
 use crate::block::{FirBlock, NONE_WRITTEN};
 use crate::fir_decimator::{fir_at, move_down};
@@ -22,7 +22,7 @@ pub const MOST_FIR_BLOCK: usize = 128;
 const TAPE: usize = MOST_TAPS + MOST_FIR_BLOCK;
 
 // Whether the tape takes n samples, and there is a place for each.
-#[tactic(auto, unfolding(crate::specs::FirBlock::block_fits))]
+#[tactic(auto, unfolding(crate::specs::inner::FirBlock::block_fits))]
 fn block_fits(n: usize, places: usize) -> bool
     ensures { result ≡ block_fits n places }
 {

@@ -5,7 +5,8 @@ ghost use Rattle.refusal.specs.Outcome.{told_opened, told_reset};
 ghost use Rattle.q15.specs.Fixed.{is_cut};
 ghost use Rattle.q15.specs.PolyphaseDecimate.{window_sum, filtered};
 ghost use Rattle.q15.specs.FirDecimator.{most_taps, fir_state, fir_zeros, stored, moved, fir_next, fir_out, fir_sum_out, cut_in, made_value, made_cut};
-ghost use Rattle.q15.specs.FirDecimator.{settings_of, fresh, fir_opened, fir_reset, fir_step, told_step, Streams};
+ghost use Rattle.q15.specs.FirDecimator.{fresh, fir_opened, fir_reset, fir_step, told_step, Streams};
+ghost use Rattle.q15.specs.inner.FirBlock.{settings_of};
 
 use crate::fir_settings::{FirSettings, MOST_TAPS};
 use crate::fir_sum::fir_sum;

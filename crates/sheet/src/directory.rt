@@ -2,7 +2,7 @@
 ghost use Rattle.std.specs.Prelude.{◌≡◌, ◌&&◌, ◌+◌, ◌*◌, ◌≤◌, ◌<◌, leb, length};
 ghost use Rattle.refusal.specs.Outcome.{number_in};
 ghost use Rattle.sheet.specs.Sheet as S;
-ghost use Rattle.sheet.specs.Passed.{may_follow, where_full};
+ghost use Rattle.sheet.specs.inner.Passed.{may_follow, where_full};
 
 use crate::fields::{le16_at, le32_at};
 use refusal::Refusal;
@@ -30,7 +30,7 @@ struct Passed {
 
 impl Passed {
     // Whether an entry may stand behind those passed.
-    #[tactic(auto, unfolding(crate::specs::Passed::may_follow))]
+    #[tactic(auto, unfolding(crate::specs::inner::Passed::may_follow))]
     fn may_follow(self, first: bool, entry: Place) -> bool
         ensures { result ≡ may_follow first entry.offset entry.size self.last self.full self.end }
     {
@@ -44,7 +44,7 @@ impl Passed {
     }
 
     // Another entry passed.
-    #[tactic(auto, unfolding(crate::specs::Passed::where_full))]
+    #[tactic(auto, unfolding(crate::specs::inner::Passed::where_full))]
     fn and(self, entry: Place) -> Passed
         requires { entry.offset + entry.size < 18446744073709551616 }
         ensures last { result.last ≡ entry.offset }

@@ -22,7 +22,7 @@ use Rattle.line.specs.declared.gauge_line.Line.{Line}
 use Rattle.nonrecursive.specs.declared.thinning.Thinning.{Thinning}
 use Rattle.nonrecursive.specs.declared.thinning.Thinning.TheVariants as thinning
 use Rattle.half_band.specs.declared.hbf_stream.HbfStream.{HbfStream}
-use Rattle.parking.specs.Told.{count_by, sizes_by}
+use Rattle.parking.specs.inner.Told.{count_by, sizes_by}
 use Rattle.sheet.specs.Sheet.{present, le16, le32, count_of, sheet_number, offset, size, part_at}
 use Rattle.sheet.proofs.Laying.{laid_none}
 use Rattle.words.specs.Fields.{is_float, floats_at, values_at, All}

@@ -25,14 +25,21 @@ use Rattle.words.specs.Fields.{is_float}
 use Rattle.parking.specs.Parked.{Settings, half_band_bytes, neighbour_count, panel, settings_of, sizes, thin_sizes, same, lengths_of, entries_of, shaped, take_up_number}
 use Rattle.parking.specs.Entries.{cic_from, place_from, half_band_from, resampler_from, fir_written, resampler_written, written, fine, line_with, line_from}
 use Rattle.parking.specs.Parking.{taken_up, taken_up_number}
-use Rattle.parking.specs.Told.{count_by}
-use Rattle.parking.specs.Limits.{InLimits}
+use Rattle.parking.specs.inner.Told.{count_by}
+use Rattle.parking.specs.inner.Limits.{InLimits}
 use Rattle.nonrecursive.specs.declared.thinning.Thinning.{Thinning}
 use Rattle.nonrecursive.specs.declared.thinning.Thinning.TheVariants as thinning
-use Rattle.taking_up.specs.ByKind.{Parts, Long, first_by, rest_by, long_by, line_by, opened_in_by, opened_by, parts_in}
-use Rattle.taking_up.specs.Taking.{in_limits, line_of, thin_line_of, written_of, floats_written, line_fine, fine_in, long_as, thin_long_as, refused_line, opened_in, opened_from, thin_opened_from, entry_in, thin_entry_in}
+use Rattle.taking_up.specs.inner.ByKind.{Parts, Long, first_by, rest_by, long_by, line_by, opened_in_by, opened_by, parts_in}
+use Rattle.taking_up.specs.inner.Taking.{in_limits, line_of, thin_line_of, written_of, floats_written, line_fine, fine_in, long_as, thin_long_as, refused_line, opened_in, opened_from, thin_opened_from}
 use Rattle.parking.proofs.Whole.{thin_numbers}
 use Rattle.parking.proofs.WholeLine.{half_depth, resampler_taps}
+
+-- entry k of a sheet of seven, and of eight
+abbrev pub entry_in : List ℕ → ℕ → List ℕ
+entry_in b k = entry present b 7 k
+
+abbrev pub thin_entry_in : List ℕ → ℕ → List ℕ
+thin_entry_in b k = entry present b 8 k
 
 -- ---- limits
 

@@ -17,14 +17,14 @@ use Rattle.float.specs.declared.polyphase_resamp.PolyphaseResampF32.{PolyphaseRe
 use Rattle.line.specs.Line as L
 use Rattle.line.specs.Placed.{line_together}
 use Rattle.line.specs.Lent.{numbers_in}
-use Rattle.line.specs.Together.{valid_at}
+use Rattle.line.specs.inner.Together.{valid_at}
 use Rattle.line.specs.declared.gauge_line.Line.{Line}
 use Rattle.line.specs.declared.lent.LineNumbers.{LineNumbers}
 use Rattle.line.proofs.Numbers.{valid_apart}
 use Rattle.parking.specs.Parked.{Settings}
 use Rattle.parking.specs.Entries.{fir_from, half_band_from, resampler_from}
-use Rattle.taking_up.specs.ByKind.{Parts, line_by}
-use Rattle.taking_up.specs.Taking.{line_of, thin_line_of, line_fine, written_of}
+use Rattle.taking_up.specs.inner.ByKind.{Parts, line_by}
+use Rattle.taking_up.specs.inner.Taking.{line_of, thin_line_of, line_fine, written_of}
 
 -- the numbers of a line of zeros
 abbrev pub none : LineNumbers

@@ -1,4 +1,3 @@
-pub mod Taking
-pub mod ByKind
 pub mod TakenBack
 pub mod AsParked
+pub mod inner

@@ -1,9 +1,9 @@
 // The entries of a parked sheet, by name.
 ghost use Rattle.std.specs.Prelude.{◌≡◌, IfOk, IfErr};
 ghost use Rattle.sheet.specs.Sheet as S;
-ghost use Rattle.parking.specs.Told.{count_by};
+ghost use Rattle.parking.specs.inner.Told.{count_by};
 ghost use Rattle.refusal.specs.Table.{number_of};
-ghost use Rattle.taking_up.specs.ByKind.{kind_in, told, parts_in};
+ghost use Rattle.taking_up.specs.inner.ByKind.{kind_in, told, parts_in};
 
 use nonrecursive::Thinning;
 use refusal::Refusal;

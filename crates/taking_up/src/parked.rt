@@ -7,12 +7,12 @@ ghost use Rattle.q15.specs.FirDecimator.{fir_state};
 ghost use Rattle.half_band.specs.HbfStream.{stream_of};
 ghost use Rattle.float.specs.PolyphaseResamp as R;
 ghost use Rattle.line.specs.Placed.{SamePlaces, line_on};
-ghost use Rattle.line.specs.Together.{valid_at};
+ghost use Rattle.line.specs.inner.Together.{valid_at};
 ghost use Rattle.parking.specs.Entries as E;
-ghost use Rattle.parking.specs.Limits.{InLimits};
-ghost use Rattle.parking.specs.Told.{numbers_of};
-ghost use Rattle.taking_up.specs.ByKind.{Long, kind_in, told, line_by};
-ghost use Rattle.taking_up.specs.Taking as T;
+ghost use Rattle.parking.specs.inner.Limits.{InLimits};
+ghost use Rattle.parking.specs.inner.Told.{numbers_of};
+ghost use Rattle.taking_up.specs.inner.ByKind.{Long, kind_in, told, line_by};
+ghost use Rattle.taking_up.specs.inner.Taking as T;
 
 use crate::clearing::{clear_fir, clear_half_band, clear_resampler};
 use crate::entries::Entries;
@@ -38,7 +38,7 @@ pub(crate) struct Parked<'a> {
 
 impl<'a> Parked<'a> {
     // Section 1 of either kind, and its counter or its place.
-    #[tactic(auto, unfolding(crate::specs::Taking::line_of, crate::specs::Taking::thin_line_of))]
+    #[tactic(auto, unfolding(crate::specs::inner::Taking::line_of, crate::specs::inner::Taking::thin_line_of))]
     fn read_first(
         self,
         integrators: &mut [i32; MOST_STAGES],
@@ -156,7 +156,7 @@ impl<'a> Parked<'a> {
     }
 
     // Whether the floats of the entries are words that parking writes.
-    #[tactic(auto, unfolding(crate::specs::Taking::floats_written))]
+    #[tactic(auto, unfolding(crate::specs::inner::Taking::floats_written))]
     fn floats_written(self) -> bool
         ensures { let e = told self.entry.e in result ≡ T.floats_written (numbers_of self.entry.q) e.half_band e.cells e.resampler }
     {
@@ -166,7 +166,7 @@ impl<'a> Parked<'a> {
     }
 
     // Whether the line that was read, of these numbers and counts of held samples, is one that parking writes. Refusal 15.
-    #[tactic(auto, unfolding(crate::specs::Taking::written_of))]
+    #[tactic(auto, unfolding(crate::specs::inner::Taking::written_of))]
     pub(crate) fn is_fine(self, n: LineNumbers, counts: &[usize; MOST_DEPTH]) -> bool
         ensures { let e = told self.entry.e in result ≡ (valid_at n counts.now && T.written_of (numbers_of self.entry.q) e.delay e.half_band e.cells e.resampler) }
     {

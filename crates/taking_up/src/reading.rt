@@ -5,10 +5,10 @@ ghost use Rattle.nonrecursive.specs.NonrecursiveDecimator.{most_neighbours};
 ghost use Rattle.sheet.specs.Laid.{laid};
 ghost use Rattle.words.specs.Fields.{values_at};
 ghost use Rattle.parking.specs.Entries as E;
-ghost use Rattle.parking.specs.Limits.{InWords};
+ghost use Rattle.parking.specs.inner.Limits.{InWords};
 ghost use Rattle.parking.specs.Parked as P;
-ghost use Rattle.taking_up.specs.Taking as T;
-ghost use Rattle.parking.specs.Told.{numbers_of};
+ghost use Rattle.taking_up.specs.inner.Taking as T;
+ghost use Rattle.parking.specs.inner.Told.{numbers_of};
 
 use crate::clearing::clear_sums;
 use crate::rows::get_all;
@@ -42,7 +42,7 @@ pub(crate) fn settings_from(e: &[u8]) -> ParkedSettings
 }
 
 // Whether the numbers are in 01's limits.
-#[tactic(auto, unfolding(crate::specs::Taking::in_limits))]
+#[tactic(auto, unfolding(crate::specs::inner::Taking::in_limits))]
 pub(crate) fn in_limits(q: ParkedSettings) -> bool
     ensures { result ≡ T.in_limits (numbers_of q) }
 {

@@ -1,8 +1,8 @@
 // What a sheet states of a line, before it is tested: the settings, and the entries that are to be as long as these make them.
 ghost use Rattle.std.specs.Prelude.{◌≡◌, length};
-ghost use Rattle.parking.specs.Limits.{InWords};
-ghost use Rattle.parking.specs.Told.{numbers_of};
-ghost use Rattle.taking_up.specs.ByKind.{kind_in, told, first_by, rest_by, long_by};
+ghost use Rattle.parking.specs.inner.Limits.{InWords};
+ghost use Rattle.parking.specs.inner.Told.{numbers_of};
+ghost use Rattle.taking_up.specs.inner.ByKind.{kind_in, told, first_by, rest_by, long_by};
 
 use crate::entries::Entries;
 use parking::settings::{ParkedSettings, half_band_bytes, halvings};

@@ -7,10 +7,10 @@ ghost use Rattle.sheet.specs.Sheet as S;
 ghost use Rattle.taking_up.specs.AsParked.{AsParked};
 ghost use Rattle.taking_up.specs.TakenBack.{TakenBack};
 ghost use Rattle.parking.specs.Older.{StillTaken};
-ghost use Rattle.taking_up.specs.ByKind.{Long, kind_in, told, told_read, opened_in_by, opened_by};
+ghost use Rattle.taking_up.specs.inner.ByKind.{Long, kind_in, told, told_read, opened_in_by, opened_by};
 ghost use Rattle.parking.specs.Parked as P;
 ghost use Rattle.parking.specs.Parking as K;
-ghost use Rattle.parking.specs.Told.{numbers_of};
+ghost use Rattle.parking.specs.inner.Told.{numbers_of};
 
 use crate::clearing::clear;
 use crate::entries::Entries;

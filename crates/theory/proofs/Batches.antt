@@ -12,9 +12,9 @@ use lib.Seq.{length-take-le, take_at, take-take, drop_at, drop-drop, drop-cons}
 use Rattle.theory.specs.Lists.{but_last}
 use Rattle.theory.specs.Sections.{Section, onto, state, outs}
 use Rattle.theory.specs.Machines.{Machine, alone, next_for, now_for, before}
-use Rattle.theory.specs.Feeds.{Fed, taking, idle, wrote_then, took_then, less, follow, feed}
+use Rattle.theory.specs.Feeds.{Fed, taking, idle, wrote_then, took_then, follow, feed}
 use Rattle.theory.proofs.Machines.{Lawful, all_alone, lawful_alone}
-use Rattle.theory.proofs.Feeds.{step_not, Right, feed_right}
+use Rattle.theory.proofs.Feeds.{less, step_not, Right, feed_right}
 use Rattle.theory.proofs.FeedLoop.{join, join_zero, feed_follow, Midway}
 use Rattle.theory.proofs.FeedRules.{feed_full, feed_due, feed_end, feed_short}
 

@@ -8,7 +8,8 @@ use Prim.Native.Nat.{ℕ, zero, suc, ◌+◌, ◌≤◌}
 use native.Mathlib.Omega.{arith}
 use lib.ListN.{length}
 use Rattle.theory.specs.Machines.{Machine, viewed}
-use Rattle.theory.specs.Feeds.{Fed, wrote_then, took_then, less, feed}
+use Rattle.theory.specs.Feeds.{Fed, wrote_then, took_then, feed}
+use Rattle.theory.proofs.Feeds.{less}
 use Rattle.theory.specs.Tally.{tallied}
 use Rattle.theory.proofs.Machines.{Seen}
 use Rattle.theory.proofs.FeedRules.{feed_full, feed_due, feed_end}

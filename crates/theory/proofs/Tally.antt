@@ -8,11 +8,11 @@ use native.Mathlib.Nat.{add_assoc}
 use lib.ListN.{length, take}
 use Rattle.theory.specs.Sections.{Section, state}
 use Rattle.theory.specs.Machines.{Machine}
-use Rattle.theory.specs.Feeds.{less, steps, feed, History, opened, fed, line_of, taken_of}
+use Rattle.theory.specs.Feeds.{steps, feed, History, opened, fed, line_of, taken_of}
 use Rattle.theory.specs.Tally.{held_sum, tallied}
 use Rattle.theory.proofs.Sections.{state_append}
 use Rattle.theory.proofs.Machines.{dry, dry_true, dry_false, all, Lawful, all_seen}
-use Rattle.theory.proofs.Feeds.{steps_due, steps_none, steps_take}
+use Rattle.theory.proofs.Feeds.{less, steps_due, steps_none, steps_take}
 
 pub held_none : (most c : ℕ) → held_sum most c 0 ≡ c
 held_none most c = omega arith

@@ -12,8 +12,8 @@ use lib.Seq.{drop_at, drop-drop}
 use Rattle.sheet.specs.Sheet.{le32}
 use Rattle.sheet.proofs.RoundTrip.{found_at}
 use Rattle.sheet.proofs.RoundTrip.{every_all}
-use Rattle.words.specs.Reading.{bits_below}
-use Rattle.words.specs.Fields.{Reads, f32_bytes, joined, values_at, is_float, floats_at, All, IsFloat}
+use Rattle.words.specs.inner.Reading.{Reads, bits_below}
+use Rattle.words.specs.Fields.{f32_bytes, joined, values_at, is_float, floats_at, All, IsFloat}
 
 -- ---- what holds of every element
 

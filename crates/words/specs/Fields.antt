@@ -1,5 +1,5 @@
 -- 02, request 6: the fields of an entry. Numbers and floats stand in it one behind the other, each as the little-endian bytes of its bits; "Floats go by their bits".
-use Rattle.std.specs.Prelude.{◌≡◌, Bool, List, [], ◌∷◌, ◌++◌, length, drop, ℕ, zero, suc, ◌+◌, ◌*◌, T, eqb, ℤ, Float}
+use Rattle.std.specs.Prelude.{Bool, List, [], ◌∷◌, ◌++◌, ℕ, zero, suc, ◌+◌, ◌*◌, T, eqb, ℤ, Float}
 use Rattle.std.specs.Float.{binary32}
 use Rattle.std.specs.Float.Ieee.{fits, to_bits, of_bits}
 use Rattle.std.specs.Int.{w16, w32}
@@ -52,8 +52,3 @@ All P (x ∷ xs) = P x × All P xs
 -- a value that an f32 has
 abbrev pub IsFloat : Float → Type 0
 IsFloat x = T (fits binary32 x)
-
--- a width: w bytes a value, and where a value of P was laid, it is read
-pub record Reads {A : Type 0} (bytes : A → List ℕ) (read : List ℕ → ℕ → A) (w : ℕ) (P : A → Type 0) : Type 0 where
-  pub long : (x : A) → length (bytes x) ≡ w
-  pub reads : (b : List ℕ) (at : ℕ) (x : A) (rest : List ℕ) → P x → drop at b ≡ bytes x ++ rest → read b at ≡ x

@@ -2,8 +2,8 @@
 ghost use Rattle.std.specs.Prelude.{◌≡◌, ℕ, List, FitsSigned};
 ghost use Rattle.std.specs.Int.{w16, w32};
 ghost use Rattle.sheet.specs.Laid.{laid_in};
-ghost use Rattle.words.specs.Fields.{Reads, IsFloat, i16_bytes, i32_bytes, f32_bytes, i16_at, i32_at, f32_at};
-ghost use Rattle.words.specs.Reading.{reads_i16, reads_i32, reads_f32};
+ghost use Rattle.words.specs.Fields.{IsFloat, i16_bytes, i32_bytes, f32_bytes, i16_at, i32_at, f32_at};
+ghost use Rattle.words.specs.inner.Reading.{Reads, reads_i16, reads_i32, reads_f32};
 
 use crate::floats::{bits_of_f32, f32_of_bits};
 use sheet::fields::{le16_at, le32_at};

@@ -5,7 +5,8 @@ use lib.Seq.{take_all, drop-append-add}
 use borrow.Rule.Slice.PartMut.{post_of}
 use Rattle.theory.specs.Sections.{state, outs}
 use Rattle.theory.proofs.Sections.{outs_append}
-use Rattle.half_band.specs.Windows.{pairs, decimator}
+use Rattle.half_band.specs.Windows.{pairs}
+use Rattle.half_band.specs.inner.Decimator.{decimator}
 use Rattle.half_band.proofs.Blocks.{two_parts}
 use Rattle.half_band.proofs.PairsAlong.{state_along, filled, pairs_append}
 use Rattle.half_band.proofs.half_band.decimate.Goals as goal

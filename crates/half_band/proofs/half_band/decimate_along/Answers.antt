@@ -1,7 +1,8 @@
 -- A turn's window lies two places further on the line: it is the one before with pair i in it (`moved_on`).
 use Rattle.std.proofs.Common.{◌≡◌, ℕ, ◌+◌, ◌-◌, ◌*◌, ◌≤◌, List, Option, Some, length, get_or, take, drop, sym, ap, ◌∙◌, arith, Float, length-drop}
 use lib.Ieee.{nan}
-use Rattle.half_band.specs.Windows.{dec_value, pairs, decimator}
+use Rattle.half_band.specs.Windows.{dec_value, pairs}
+use Rattle.half_band.specs.inner.Decimator.{decimator}
 use Rattle.half_band.proofs.Blocks.{emitted_one, emitted_all}
 use Rattle.half_band.proofs.PairsAlong.{moved_on}
 use Rattle.half_band.proofs.WholeLists.{length_pairs}

@@ -1,7 +1,8 @@
 -- Window and values stand in a row on the line (`OnLine`).
 use Rattle.std.proofs.Common.{◌≡◌, ℕ, ◌+◌, ◌-◌, ◌*◌, ◌≤◌, ◌++◌, length, take, drop, ap, ◌∙◌, arith}
 use Rattle.theory.specs.Sections.{outs}
-use Rattle.half_band.specs.Windows.{pairs, decimator}
+use Rattle.half_band.specs.Windows.{pairs}
+use Rattle.half_band.specs.inner.Decimator.{decimator}
 use Rattle.half_band.proofs.OnLine.{window_left, made}
 use Rattle.half_band.proofs.half_band.decimate_first.Goals as goal
 

@@ -1,7 +1,8 @@
 -- Window, lead and values are the line (`row_window`, `row_made`).
 use Rattle.std.proofs.Common.{◌≡◌, ℕ, ◌+◌, ◌-◌, ◌*◌, ◌/◌, ◌%◌, List, [], ◌++◌, length, take, drop, sym, ap, ap₂, ◌∙◌, arith, length-append, Float}
 use Rattle.theory.specs.Sections.{onto, outs}
-use Rattle.half_band.specs.Windows.{pairs, decimator}
+use Rattle.half_band.specs.Windows.{pairs}
+use Rattle.half_band.specs.inner.Decimator.{decimator}
 use Rattle.half_band.proofs.InPlace.{made, row_window, row_made}
 use Rattle.half_band.proofs.in_place.decimate_row.Goals as goal
 

@@ -2,7 +2,7 @@
 use Rattle.std.proofs.Common.{arith}
 use Rattle.theory.proofs.FeedLoop.{start}
 use Rattle.line.specs.Line.{line}
-use Rattle.line.specs.Together.{line_held}
+use Rattle.line.specs.inner.Together.{line_held}
 use Rattle.line.proofs.Lawful.{Good, line_lawful}
 use Rattle.line.proofs.Turning.{drained}
 use Rattle.line.proofs.alone.write_rest.Goals as goal

@@ -1,9 +1,9 @@
 -- The loop of `feed_batches` keeps `Midway` of the line put together from its locals, and each turn takes samples.
 use Rattle.std.proofs.Common.{◌-◌, length}
 use Rattle.theory.proofs.FeedLoop.{Midway}
-use Rattle.chain.specs.Lending.{Same}
+use Rattle.chain.specs.Same.{Same}
 use Rattle.line.specs.Line.{line}
-use Rattle.line.specs.Together.{line_held}
+use Rattle.line.specs.inner.Together.{line_held}
 use Rattle.line.proofs.Lawful.{Good, line_lawful}
 use Rattle.line.proofs.batches.feed_batches.Given as goal
 

@@ -6,7 +6,7 @@ use Rattle.half_band.specs.HbfStream.{stream_of}
 use Rattle.float.specs.F32.{zero32}
 use Rattle.float.specs.PolyphaseResamp.{state_of}
 use Rattle.chain.specs.declared.clock.Clock.{Clock}
-use Rattle.line.specs.Placed.{own_opening}
+use Rattle.line.specs.inner.Numbers.{own_opening}
 use Rattle.line.proofs.Starting.{line_fresh}
 use Rattle.line.proofs.beginning.begin.Goals as goal
 

@@ -8,7 +8,7 @@ use Rattle.refusal.specs.Outcome.{Outcome}
 use Rattle.float.specs.PolyphaseResamp.{in_line, is_on}
 use Rattle.line.specs.Line.{line, valid, step_outcome}
 use Rattle.line.specs.Lent.{line_in}
-use Rattle.line.specs.Together.{due_at}
+use Rattle.line.specs.inner.Together.{due_at}
 use Rattle.line.specs.declared.gauge_line.Line.{Line}
 use Rattle.line.proofs.Numbers.{tested, due_limits}
 use Rattle.line.proofs.lent.step_lent.Goals as goal

@@ -3,7 +3,7 @@ use Rattle.std.specs.Prelude.{None, Some}
 use Rattle.std.proofs.Common.{◌≡◌, true, refl, sym, ◌∙◌, rules, w32, to_z, of_z}
 use Rattle.float.specs.PolyphaseResamp.{in_line, is_on, output_of, passed}
 use Rattle.line.specs.Line.{line}
-use Rattle.line.specs.Together.{due_at}
+use Rattle.line.specs.inner.Together.{due_at}
 use Rattle.line.proofs.OneStep.{wrote_due, took_sample, none_left}
 use Rattle.line.proofs.step.step_on.Goals as goal
 

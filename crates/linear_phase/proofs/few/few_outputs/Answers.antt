@@ -1,7 +1,7 @@
 -- `linear_phase::few::few_outputs` meets its contract: a span of no places has no outputs.
 use Rattle.std.proofs.Common.{ℕ, sym, ap, ◌∙◌}
 use Rattle.std.proofs.lemmas.List.{nil_from_length}
-use Rattle.linear_phase.specs.Windows.{window_values}
+use Rattle.linear_phase.specs.inner.Lanes.{window_values}
 use Rattle.linear_phase.proofs.few.few_outputs.Goals as goal
 
 pub returns-in-0 : goal.returns-in-0

@@ -2,7 +2,7 @@
 use Rattle.std.proofs.Common.{length, take, sym, ap, ◌∙◌, arith, length-take-le}
 use lib.ListN.{length-replicate}
 use Rattle.float.specs.F32.{zero32}
-use Rattle.linear_phase.specs.Windows.{window_values}
+use Rattle.linear_phase.specs.inner.Lanes.{window_values}
 use Rattle.linear_phase.proofs.SideBySide.{values_long, zero_sums}
 use Rattle.linear_phase.proofs.Putting.{put_exact}
 use Rattle.linear_phase.proofs.Groups.{values_front}

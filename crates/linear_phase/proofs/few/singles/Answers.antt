@@ -2,7 +2,8 @@
 use Rattle.std.proofs.Common.{ℕ, suc, ◌+◌, List, length, take, drop, refl, ap, ◌∙◌, add-one, arith}
 use lib.Ieee.{Float}
 use Rattle.q15.proofs.Filling.{next_filled, all_filled}
-use Rattle.linear_phase.specs.Windows.{window_value, window_values}
+use Rattle.linear_phase.specs.Windows.{window_value}
+use Rattle.linear_phase.specs.inner.Lanes.{window_values}
 use Rattle.linear_phase.proofs.SideBySide.{rest, all_changed}
 use Rattle.linear_phase.proofs.few.singles.Goals as goal
 

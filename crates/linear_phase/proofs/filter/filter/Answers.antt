@@ -1,7 +1,7 @@
 -- `linear_phase::filter::filter` meets its contract: delay and first samples stand on the tape, so the last of all are the next delay, and the outputs are those at the windows.
 use Rattle.std.proofs.Common.{◌≡◌, ℕ, ◌+◌, ◌≤◌, min, List, ◌++◌, length, take, sym, ap, ◌∙◌, arith, length-take-le}
 use lib.Ieee.{Float}
-use Rattle.linear_phase.specs.Windows.{InRow}
+use Rattle.linear_phase.specs.inner.Lanes.{InRow}
 use Rattle.linear_phase.proofs.Putting.{laid_less}
 use Rattle.linear_phase.proofs.Tapes.{in_row, renamed, next_of, outs_of}
 use Rattle.linear_phase.proofs.filter.filter.Goals as goal

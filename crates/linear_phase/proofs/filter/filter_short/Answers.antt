@@ -2,7 +2,7 @@
 use Rattle.std.proofs.Common.{◌≡◌, ℕ, ◌+◌, ◌-◌, ◌≤◌, min, List, ◌++◌, length, take, drop, sym, ap, ap₂, ◌∙◌, arith, length-take-le}
 use lib.Ieee.{Float}
 use Rattle.float.proofs.Laid.{samples_behind}
-use Rattle.linear_phase.specs.Windows.{InRow}
+use Rattle.linear_phase.specs.inner.Lanes.{InRow}
 use Rattle.linear_phase.proofs.Tapes.{in_row, renamed, next_of, outs_of, many_last}
 use Rattle.linear_phase.proofs.filter.filter_short.Goals as goal
 

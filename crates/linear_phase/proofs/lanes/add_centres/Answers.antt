@@ -2,7 +2,7 @@
 use Rattle.std.proofs.Common.{ℕ, length, get_or, refl, ap, arith}
 use lib.Ieee.{Float, nan, binary32, add}
 use Rattle.q15.proofs.Filling.{next_filled, all_filled}
-use Rattle.linear_phase.specs.Windows.{centres_added}
+use Rattle.linear_phase.specs.inner.Lanes.{centres_added}
 use Rattle.linear_phase.proofs.SideBySide.{not_yet, all_changed}
 use Rattle.linear_phase.proofs.lanes.add_centres.Goals as goal
 

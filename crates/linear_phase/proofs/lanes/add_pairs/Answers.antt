@@ -3,7 +3,7 @@ use Rattle.std.proofs.Common.{ℕ, length, get_or, refl, ap₂, arith}
 use lib.Ieee.{Float, nan, binary32, add, mul}
 use Rattle.q15.proofs.Filling.{next_filled, all_filled}
 use Rattle.linear_phase.specs.LinearPhase.{pair}
-use Rattle.linear_phase.specs.Windows.{pairs_onto}
+use Rattle.linear_phase.specs.inner.Lanes.{pairs_onto}
 use Rattle.linear_phase.proofs.SideBySide.{not_yet, all_changed}
 use Rattle.linear_phase.proofs.lanes.add_pairs.Goals as goal
 

@@ -1,7 +1,7 @@
 -- `linear_phase::lanes::outputs_at` meets its contract: the sums of all pairs, and the centres behind them where there are any.
 use Rattle.std.proofs.Common.{List, length, drop, sym, ap, ◌∙◌}
 use lib.Ieee.{Float}
-use Rattle.linear_phase.specs.Windows.{centres_added}
+use Rattle.linear_phase.specs.inner.Lanes.{centres_added}
 use Rattle.linear_phase.proofs.SideBySide.{values_plain, values_centred, rest}
 use Rattle.linear_phase.proofs.lanes.outputs_at.Goals as goal
 

@@ -3,7 +3,7 @@ use Rattle.std.proofs.Common.{◌≡◌, ℕ, min, ◌++◌, length, get_or, dro
 use lib.Ieee.{Float, nan}
 use Rattle.theory.specs.Lists.{listed}
 use Rattle.q15.proofs.Filling.{next_filled, all_filled}
-use Rattle.linear_phase.specs.Windows.{put_in_front}
+use Rattle.linear_phase.specs.inner.Lanes.{put_in_front}
 use Rattle.linear_phase.proofs.lanes.put_group.Goals as goal
 
 pub loop-j-preserved : goal.loop-j-preserved

@@ -1,7 +1,7 @@
 -- `linear_phase::lanes::sums_at` meets its contract: a turn adds the next pair to each sum (`sums_next`).
 use Rattle.std.proofs.Common.{◌-◌, List, length, get_or, drop, sym, ap, ap₂, ◌∙◌, arith}
 use lib.Ieee.{Float, nan}
-use Rattle.linear_phase.specs.Windows.{pairs_added}
+use Rattle.linear_phase.specs.inner.Lanes.{pairs_added}
 use Rattle.linear_phase.proofs.SideBySide.{sums_none, sums_next, rest}
 use Rattle.linear_phase.proofs.lanes.sums_at.Goals as goal
 

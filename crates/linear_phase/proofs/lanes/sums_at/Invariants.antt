@@ -1,6 +1,6 @@
 -- Each sum is that of the first t pairs at its window (`sums_next`).
 use Rattle.std.proofs.Common.{◌≡◌, length}
-use Rattle.linear_phase.specs.Windows.{window_sums}
+use Rattle.linear_phase.specs.inner.Lanes.{window_sums}
 use Rattle.linear_phase.proofs.lanes.sums_at.Given as goal
 
 abbrev pub invariant-loop-t : goal.invariant-loop-t

@@ -5,7 +5,7 @@ use lib.Ieee.{Float}
 use Rattle.theory.specs.Sections.{state, outs}
 use Rattle.float.specs.F32.{zero32}
 use Rattle.linear_phase.specs.LinearPhase.{reach}
-use Rattle.linear_phase.specs.Windows.{linear_phase, window_values}
+use Rattle.linear_phase.specs.inner.Lanes.{linear_phase, window_values}
 use Rattle.linear_phase.specs.declared.kinds.Kind.{Kind}
 use Rattle.linear_phase.proofs.WholeList.{reaches}
 use Rattle.linear_phase.proofs.SideBySide.{rest}

@@ -4,8 +4,9 @@ use Rattle.std.proofs.lemmas.Result.{err_from_is_err_and}
 use Rattle.sheet.specs.Sheet.{present}
 use Rattle.parking.specs.Parked.{panel, parked}
 use Rattle.line.specs.declared.gauge_line.Line.{Line}
-use Rattle.parking.specs.Kept.{line_by, line_kept, numbers_on}
-use Rattle.parking.specs.Told.{parts}
+use Rattle.parking.specs.Kept.{line_by, line_kept}
+use Rattle.parking.specs.inner.Numbers.{numbers_on}
+use Rattle.parking.specs.inner.Told.{parts}
 use Rattle.parking.specs.declared.kept.KeptLine.{KeptLine}
 use Rattle.parking.specs.Parking.{parked_line}
 use Rattle.parking.proofs.OffParts.{parts_on, lengths_on}

@@ -1,7 +1,7 @@
 -- The directory and the entries behind it are the sheet.
 use Rattle.std.proofs.Common.{◌≡◌, ◌∙◌, ap, arith}
 use Rattle.sheet.specs.Sheet as S
-use Rattle.parking.specs.Told.{count_by, all_sizes}
+use Rattle.parking.specs.inner.Told.{count_by, all_sizes}
 use Rattle.parking.specs.Kept.{line_kept}
 use Rattle.parking.proofs.LineSheet.{sizes_are, sum_few, sum_is, room_by, behind_long, directory_put, line_put}
 use Rattle.parking.proofs.writing.put_line.Goals as goal

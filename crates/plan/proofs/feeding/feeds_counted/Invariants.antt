@@ -1,7 +1,7 @@
 -- `feeds_counted` keeps that each list holds the counts of the calls so far, and behind them what it held.
 use Rattle.std.proofs.Common.{ℕ}
 use Rattle.refusal.specs.declared.Moved.{Moved}
-use Rattle.plan.specs.Ticking.{Runs}
+use Rattle.plan.specs.inner.Ticking.{Runs}
 use Rattle.plan.proofs.Listing.{Listing}
 use Rattle.plan.proofs.feeding.feeds_counted.Given as goal
 

@@ -3,7 +3,7 @@ use Rattle.std.proofs.Common.{◌≡◌, ℕ, ◌+◌, ◌-◌, ℤ, List, ◌++
 use lib.ListN.{length-drop}
 use lib.Seq.{take_all}
 use Rattle.q15.specs.FirDecimator.{moved}
-use Rattle.q15.specs.FirBlock.{stored_run}
+use Rattle.q15.specs.inner.FirBlock.{stored_run}
 use Rattle.q15.proofs.fir_block.after_last.Goals as goal
 
 pub returns : goal.returns

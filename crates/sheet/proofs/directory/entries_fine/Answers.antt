@@ -1,6 +1,6 @@
 -- The pass keeps what each pair of entries is asked, so that the first entry that may not stand behind those passed is one that the definition refuses.
 use Rattle.std.proofs.Common.{◌+◌, sym}
-use Rattle.sheet.specs.Passed.{where_full}
+use Rattle.sheet.specs.inner.Passed.{where_full}
 use Rattle.sheet.proofs.Passing.{Kept, at_start, at_end, out_of_data, cannot_follow, goes_on}
 use Rattle.sheet.proofs.directory.entries_fine.Goals as goal
 use Rattle.sheet.proofs.directory.entries_fine.Goals.{then-not-in_data-via-then-not-in_data, then-not-in_data-via-else-not-in_data+then-not-may_follow}

@@ -1,8 +1,8 @@
 -- By the tests on the way: the lengths.
 use Rattle.std.proofs.Common.{◌∙◌, sym}
-use Rattle.parking.specs.Told.{numbers_of}
-use Rattle.taking_up.specs.ByKind.{kind_in, told}
-use Rattle.taking_up.specs.Taking.{refused_line}
+use Rattle.parking.specs.inner.Told.{numbers_of}
+use Rattle.taking_up.specs.inner.ByKind.{kind_in, told}
+use Rattle.taking_up.specs.inner.Taking.{refused_line}
 use Rattle.taking_up.proofs.Opened.{long_fits, short_by, other_by, long_opened}
 use Rattle.taking_up.proofs.taking.open_entries.Goals as goal
 

@@ -2,9 +2,9 @@
 use Rattle.std.proofs.Common.{ap, ◌∙◌}
 use Rattle.refusal.specs.Outcome.{Opened}
 use Rattle.line.specs.declared.gauge_line.Line.{Line}
-use Rattle.parking.specs.Told.{numbers_of}
-use Rattle.taking_up.specs.ByKind.{kind_in, told}
-use Rattle.taking_up.specs.Taking.{refused_line}
+use Rattle.parking.specs.inner.Told.{numbers_of}
+use Rattle.taking_up.specs.inner.ByKind.{kind_in, told}
+use Rattle.taking_up.specs.inner.Taking.{refused_line}
 use Rattle.taking_up.proofs.Opened.{limits_told, outside_by, unfit_by, fine_by}
 use Rattle.taking_up.proofs.Read.{fine_read}
 use Rattle.taking_up.proofs.taking.open_parts.Goals as goal

@@ -1,8 +1,8 @@
 -- The sheet's own count says the kind.
 use Rattle.std.proofs.Common.{◌∙◌, ap}
 use Rattle.std.proofs.lemmas.Result.{err_from_is_err_and}
-use Rattle.taking_up.specs.ByKind.{kind_in, opened_by}
-use Rattle.taking_up.specs.Taking.{refused_line}
+use Rattle.taking_up.specs.inner.ByKind.{kind_in, opened_by}
+use Rattle.taking_up.specs.inner.Taking.{refused_line}
 use Rattle.taking_up.proofs.Opened.{taken_by, taken_by_none, taken_err}
 use Rattle.taking_up.proofs.taking.open_sheet.Goals as goal
 

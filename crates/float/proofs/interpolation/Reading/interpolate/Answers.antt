@@ -3,7 +3,7 @@ use Rattle.std.proofs.Common.{ℕ, ◌≡◌, ◌<◌, ◌≤◌, Bool, List, le
 use lib.Ieee.{Float, binary32, of_int, sub, mul}
 use Rattle.float.specs.F32.{one32, blend}
 use Rattle.float.specs.PolyphaseOutput.{phase_sum, cut_unit, place, first_place}
-use Rattle.float.specs.PolyphaseResamp.{Inside}
+use Rattle.float.specs.inner.Running.{Inside}
 use Rattle.float.proofs.Place.{UpTo, place_up_to, below_all_whole, whole_up_to}
 use Rattle.float.proofs.PolyphaseOutput.{Limits, inside, phase_inside, sum_front, exact, first_below, first_up_to, whole_straight, whole_before, whole_last}
 use Rattle.float.proofs.interpolation.Reading.interpolate.Goals as goal

@@ -1,6 +1,6 @@
 -- Each turn of `Clock::feed` has its law in `Going`: an output that is due, a value that comes, and the two ends.
 use Rattle.std.proofs.Common.{sym, ◌∙◌}
-use Rattle.plan.specs.Ticking.{ticking}
+use Rattle.plan.specs.inner.Ticking.{ticking}
 use Rattle.plan.proofs.Going.{is_due, none_due, going_due, going_value, done_full, done_rest}
 use Rattle.plan.proofs.counting.Clock.feed.Goals as goal
 

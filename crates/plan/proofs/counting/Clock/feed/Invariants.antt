@@ -1,6 +1,6 @@
 -- `Clock::feed` keeps `Going`: what it has taken and written so far is what the machine that ticks has, and the clock is where that machine is.
 use Rattle.std.proofs.Common.{◌+◌, ◌-◌}
-use Rattle.plan.specs.Ticking.{Runs}
+use Rattle.plan.specs.inner.Ticking.{Runs}
 use Rattle.plan.proofs.Going.{Going}
 use Rattle.plan.proofs.counting.Clock.feed.Given as goal
 

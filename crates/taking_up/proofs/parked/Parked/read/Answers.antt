@@ -1,6 +1,6 @@
 -- The line of the parts that were read.
-use Rattle.parking.specs.Told.{numbers_of}
-use Rattle.taking_up.specs.ByKind.{kind_in, told}
+use Rattle.parking.specs.inner.Told.{numbers_of}
+use Rattle.taking_up.specs.inner.ByKind.{kind_in, told}
 use Rattle.taking_up.proofs.Read.{line_read}
 use Rattle.taking_up.proofs.parked.Parked.read.Goals as goal
 

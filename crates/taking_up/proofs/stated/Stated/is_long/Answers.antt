@@ -1,7 +1,7 @@
 -- What only one kind has, and then what both have.
 use Rattle.std.proofs.Common.{◌∙◌, sym}
-use Rattle.parking.specs.Told.{numbers_of}
-use Rattle.taking_up.specs.ByKind.{kind_in, told}
+use Rattle.parking.specs.inner.Told.{numbers_of}
+use Rattle.taking_up.specs.inner.ByKind.{kind_in, told}
 use Rattle.taking_up.proofs.Opened.{long_is}
 use Rattle.taking_up.proofs.stated.Stated.is_long.Goals as goal
 

@@ -2,7 +2,8 @@
 use Rattle.std.specs.Prelude.{List, ℕ, Float, take, drop, ◌++◌}
 use Rattle.theory.specs.Sections.{Section, state, outs}
 use Rattle.linear_phase.specs.LinearPhase.{reach}
-use Rattle.linear_phase.specs.Windows.{linear_phase, window_value, window_values}
+use Rattle.linear_phase.specs.Windows.{window_value}
+use Rattle.linear_phase.specs.inner.Lanes.{linear_phase, window_values}
 use Rattle.linear_phase.specs.LinearPhaseFir.{phase_of}
 use Rattle.linear_phase.specs.declared.kinds.Folded.{Folded}
 use Rattle.linear_phase.specs.declared.kinds.Half.{Half}

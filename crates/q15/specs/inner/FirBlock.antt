@@ -6,6 +6,7 @@ use Rattle.q15.specs.Fixed.{cut_count}
 use Rattle.q15.specs.FirDecimator.{most_taps, stored, summing, fir}
 use Rattle.q15.specs.declared.fir_decimator.FirDecimator.{FirDecimator}
 use Rattle.q15.specs.declared.block.FirBlock.{FirBlock}
+use Rattle.q15.specs.declared.fir_settings.FirSettings.{FirSettings}
 
 -- the most samples of a block
 abbrev pub most_fir_block : ℕ
@@ -41,3 +42,7 @@ OnTape T D w = (T ≤ most_taps) × (1 ≤ D) × (D ≤ T) × (1 ≤ w) × (w �
 abbrev pub stored_run : ℕ → ℕ → List ℤ → List ℤ → List ℤ
 stored_run T w [] d = d
 stored_run T w (x ∷ xs) d = stored_run T (w - 1) xs (stored T w x d)
+
+-- what a state was opened with
+abbrev pub settings_of : FirDecimator → FirSettings
+settings_of s = record { tap_count = s.tap_count; factor = s.factor }

@@ -6,14 +6,19 @@ use native.Mathlib.Nat.{add-zero}
 use native.Mathlib.Omega.{arith}
 use lib.Ieee.{Float, binary32, to_bits, of_bits}
 use lib.Ieee.Bits.{of_bits-to_bits, to_bits-lt}
-use lib.ListN.{get_or, drop}
+use lib.ListN.{length, get_or, drop}
 use lib.Seq.{get_or-drop}
 use mir.Syntax.{w16, w32}
 use mir.Val.{SFits, to_z, of_z}
 use mir.Facts.{to_z-of_z, Fits-of_z}
 use Rattle.sheet.specs.Sheet.{le16, bytes16}
 use Rattle.sheet.proofs.RoundTrip.{found_at}
-use Rattle.words.specs.Fields.{Reads, i16_bytes, i32_bytes, f32_bytes, i16_at, i32_at, f32_at, IsFloat}
+use Rattle.words.specs.Fields.{i16_bytes, i32_bytes, f32_bytes, i16_at, i32_at, f32_at, IsFloat}
+
+-- a width: w bytes a value, and where a value of P was laid, it is read
+pub record Reads {A : Type 0} (bytes : A → List ℕ) (read : List ℕ → ℕ → A) (w : ℕ) (P : A → Type 0) : Type 0 where
+  pub long : (x : A) → length (bytes x) ≡ w
+  pub reads : (b : List ℕ) (at : ℕ) (x : A) (rest : List ℕ) → P x → drop at b ≡ bytes x ++ rest → read b at ≡ x
 
 pub word_at : (b : List ℕ) (p v : ℕ) (rest : List ℕ) → drop p b ≡ bytes16 v ++ rest → v < 65536 → le16 b p ≡ v
 unfolding le16

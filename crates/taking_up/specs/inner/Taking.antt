@@ -5,7 +5,6 @@ use Rattle.nonrecursive.specs.NonrecursiveDecimator.{most_neighbours}
 use Rattle.nonrecursive.specs.declared.thinning.Thinning.TheVariants as thinning
 use Rattle.q15.specs.FirDecimator.{most_taps}
 use Rattle.line.specs.Line as L
-use Rattle.sheet.specs.Sheet.{present, entry}
 use Rattle.line.specs.declared.gauge_line.Line.{Line}
 use Rattle.words.specs.Fields.{is_float, floats_at}
 use Rattle.parking.specs.Parked.{Settings, settings_of, sizes, thin_sizes, same}
@@ -95,10 +94,3 @@ thin_opened_from settings cic taps delay half_band cells resampler last =
     (thin_opened_of (settings_of settings) taps delay half_band cells resampler last)
     (refused_line 21))
     (refused_line 21)
-
--- entry k of a sheet of seven, and of eight
-abbrev pub entry_in : List ℕ → ℕ → List ℕ
-entry_in b k = entry present b 7 k
-
-abbrev pub thin_entry_in : List ℕ → ℕ → List ℕ
-thin_entry_in b k = entry present b 8 k

@@ -6,7 +6,8 @@ use Rattle.line.specs.declared.gauge_line.Line.{Line}
 use Rattle.parking.specs.Parked.{Settings, sizes, thin_sizes, half_band_bytes, neighbour_count}
 use Rattle.parking.specs.Entries.{fir_on, resampler_on, cic_bytes, neighbours_bytes, settings_in, entries_by}
 use Rattle.words.specs.Fields.{IsFloat}
-use Rattle.parking.specs.Limits.{InLimits, ArrayLengths}
+use Rattle.parking.specs.inner.Limits.{InLimits}
+use Rattle.parking.specs.Lengths.{ArrayLengths}
 use Rattle.parking.specs.declared.settings.ParkedSettings.{ParkedSettings}
 
 abbrev pub numbers_of : ParkedSettings → Settings

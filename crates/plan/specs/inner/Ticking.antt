@@ -7,7 +7,7 @@ use Rattle.theory.specs.Machines.{Machine}
 use Rattle.theory.specs.Feeds as F
 use Rattle.refusal.specs.declared.Moved.{Moved}
 use Rattle.float.specs.F32.{one32}
-use Rattle.chain.specs.Counting.{or_one}
+use Rattle.chain.specs.inner.Counting.{or_one}
 use Rattle.chain.specs.declared.settings.Settings.{Settings}
 use Rattle.plan.specs.declared.counting.Clock.{Clock}
 use Rattle.plan.specs.declared.counting.Pace.{Pace}

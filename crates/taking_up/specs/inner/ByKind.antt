@@ -12,7 +12,7 @@ use Rattle.line.specs.declared.lent.LineNumbers.{LineNumbers}
 use Rattle.line.specs.declared.places.Places.{Places}
 use Rattle.sheet.specs.Sheet.{present, entry}
 use Rattle.parking.specs.Parked.{Settings, half_band_bytes, neighbour_count}
-use Rattle.taking_up.specs.Taking.{line_of, thin_line_of, long_as, thin_long_as, opened_in, opened_from, thin_opened_from}
+use Rattle.taking_up.specs.inner.Taking.{line_of, thin_line_of, long_as, thin_long_as, opened_in, opened_from, thin_opened_from}
 use Rattle.taking_up.specs.declared.entries.Entries.{Entries}
 
 pub record Parts : Type 0 where

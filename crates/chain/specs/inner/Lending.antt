@@ -5,7 +5,7 @@ use Rattle.half_band.specs.declared.hbf_stream.HbfStream.{HbfStream}
 use Rattle.q15.specs.declared.fir_decimator.FirDecimator.{FirDecimator}
 use Rattle.float.specs.declared.polyphase_resamp.PolyphaseResampF32.{PolyphaseResampF32}
 use Rattle.chain.specs.Chain.{PartsLevels, Parts3, Parts2, Parts}
-use Rattle.chain.specs.Parts as P
+use Rattle.chain.specs.inner.Parts as P
 use Rattle.chain.specs.declared.clock.Clock.{Clock}
 use Rattle.chain.specs.declared.fixed.Fixed.{Fixed}
 use Rattle.chain.specs.declared.arrays.Arrays.{Arrays}
@@ -35,19 +35,6 @@ from_cut_in f c lent = (tt, from_fir_in f c lent)
 
 abbrev pub parts_in : Fixed → Clock → Arrays → Parts
 parts_in f c lent = (thinner_in f c.sample_counter lent, from_cut_in f c lent)
-
--- the references are those that were lent, so what a call wrote stands where the caller keeps it; what is lent to be read is the same
-pub record Same (before after : Arrays) : Type 0 where
-  pub integrators : after.integrators.ghost_name ≡ before.integrators.ghost_name
-  pub combs : after.combs.ghost_name ≡ before.combs.ghost_name
-  pub neighbours : after.neighbours.ghost_name ≡ before.neighbours.ghost_name
-  pub taps : after.taps.now ≡ before.taps.now
-  pub fir_delay : after.fir_delay.ghost_name ≡ before.fir_delay.ghost_name
-  pub delays : after.delays.ghost_name ≡ before.delays.ghost_name
-  pub held : after.held.ghost_name ≡ before.held.ghost_name
-  pub counts : after.counts.ghost_name ≡ before.counts.ghost_name
-  pub delay : after.delay.ghost_name ≡ before.delay.ghost_name
-  pub prototype : after.prototype.now ≡ before.prototype.now
 
 -- the arrays of section 1 are as they were
 pub record ThinnerStays (before after : Arrays) : Type 0 where

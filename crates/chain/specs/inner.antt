@@ -1,0 +1,4 @@
+pub mod Batched
+pub mod Counting
+pub mod Lending
+pub mod Parts

@@ -1,0 +1,3 @@
+pub mod Decimator
+pub mod FiveStages
+pub mod HbfStreamBlock
