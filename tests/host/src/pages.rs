@@ -79,9 +79,14 @@ fn every_file_of_specs_is_named() {
             format!("`{name}.antt`"),
             format!("/{name}.antt`"),
             format!("`{own}/{name}`"),
+            format!("`{own}/inner/{name}`"),
         ];
         let named = forms.iter().any(|form| said.contains(form));
-        assert!(named || name == "Lib", "no page names {}", file.display());
+        assert!(
+            named || name == "Lib" || name == "inner",
+            "no page names {}",
+            file.display()
+        );
         count += 1;
     }
     assert!(count > 0);
@@ -91,7 +96,7 @@ fn every_file_of_specs_is_named() {
 fn specs() -> Vec<PathBuf> {
     let folders = files("crates", "")
         .into_iter()
-        .map(|folder| folder.join("specs"));
+        .flat_map(|folder| [folder.join("specs"), folder.join("specs/inner")]);
     let folders = folders.filter(|folder| root().join(folder).is_dir());
     folders
         .flat_map(|folder| files(&folder.to_string_lossy(), ".antt"))

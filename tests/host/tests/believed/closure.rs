@@ -76,22 +76,85 @@ pub fn closure(top: &Path, mut waiting: Vec<Module>) -> BTreeSet<Module> {
     all
 }
 
-/// All files of specs/ but the lists of modules.
-pub fn all_specs(top: &Path) -> BTreeSet<String> {
+/// The files of a folder of every crate but the lists of modules, as CRATE/FILE with `front` before FILE.
+fn stems(top: &Path, folder: &str, front: &str) -> BTreeSet<String> {
     let crates = fs::read_dir(top.join("crates"))
         .expect("crates/ is there")
         .flatten();
     let mut all = BTreeSet::new();
     for layer in crates {
         let name = layer.file_name().to_string_lossy().to_string();
-        let stems = files(&layer.path().join("specs"), "antt")
+        let stems = files(&layer.path().join(folder), "antt")
             .into_iter()
             .map(|file| stem(&file));
         all.extend(
             stems
-                .filter(|stem| stem != "Lib")
-                .map(|stem| format!("{name}/{stem}")),
+                .filter(|stem| stem != "Lib" && stem != "inner")
+                .map(|stem| format!("{name}/{front}{stem}")),
         );
     }
     all
+}
+
+/// All files of specs/ but those of specs/inner/.
+pub fn outer_specs(top: &Path) -> BTreeSet<String> {
+    stems(top, "specs", "")
+}
+
+/// All files of specs/inner/.
+pub fn inner_specs(top: &Path) -> BTreeSet<String> {
+    stems(top, "specs/inner", "inner/")
+}
+
+/// What of specs/inner/ a file of specs/ outside it rests on, by its `use` lines.
+fn inner_in_specs(top: &Path) -> Vec<String> {
+    let mut found = Vec::new();
+    for name in outer_specs(top) {
+        let text = specs(top, &name);
+        let used = text.lines().filter_map(use_of);
+        found.extend(
+            used.filter(|each| each.module.contains(".specs.inner."))
+                .map(|each| format!("{name} rests on {}", each.module)),
+        );
+    }
+    found
+}
+
+/// The functions of a source that C calls.
+fn exported(source: &str) -> Vec<&str> {
+    let names = source
+        .lines()
+        .filter_map(|line| line.strip_prefix("pub extern \"C\" fn "));
+    names.filter_map(|rest| rest.split('(').next()).collect()
+}
+
+/// What of specs/inner/ a contract of a function that C calls cites.
+fn inner_in_exports(top: &Path) -> Vec<String> {
+    let mut found = Vec::new();
+    for file in files(&top.join("crates/gauge_line/src"), "rt") {
+        let source = read(&file).replace("pub extern \"C\" fn ", "pub fn ");
+        for call in exported(&read(&file)) {
+            let inner = cited(&source, call)
+                .into_iter()
+                .filter_map(|each| match each {
+                    Module::Specs(name) if name.contains("/inner/") => Some(name),
+                    _ => None,
+                });
+            found.extend(inner.map(|name| format!("{call} cites {name}")));
+        }
+    }
+    found
+}
+
+/// Where something that is believed needs specs/inner/.
+pub fn inner_believed(top: &Path) -> Vec<String> {
+    let mut found = inner_in_specs(top);
+    found.extend(inner_in_exports(top));
+    found
+}
+
+#[test]
+fn exported_functions_are_found() {
+    let source = "pub extern \"C\" fn a(\n    x: usize,\n) -> usize\n{\n}\nfn b() {}\npub extern \"C\" fn c()\n{\n}\n";
+    assert_eq!(exported(source), ["a", "c"]);
 }

@@ -1,13 +1,14 @@
 //! docs/believed.md is closed: what the line's contracts rest on, by the `use` lines of specs/, is
-//! what its tables name, and the other files of specs/ stand in its last table. What the outputs and
-//! the refusals of openings rest on is named definition by definition.
+//! what its tables name, and the other files of specs/ stand in its last two tables, those of
+//! specs/inner/ in the last. What the outputs and the refusals of openings rest on is named definition
+//! by definition. Nothing that is believed needs specs/inner/.
 mod closure;
 mod page;
 mod reach;
 mod tree;
 mod uses;
 
-use closure::{all_specs, begin, closure};
+use closure::{begin, closure, inner_believed, inner_specs, outer_specs};
 use page::{differing, first_names, pairs};
 use reach::reached;
 use std::collections::BTreeSet;
@@ -42,7 +43,7 @@ fn wrong_files(top: &Path, page: &str) -> Vec<String> {
             Module::Kit(name) => kit.insert(name),
         };
     }
-    let beside: BTreeSet<String> = all_specs(top).difference(&specs).cloned().collect();
+    let beside: BTreeSet<String> = outer_specs(top).difference(&specs).cloned().collect();
     let mut all = differing("specs", &specs, &first_names(page, "The line"));
     all.extend(differing(
         "declaration",
@@ -59,6 +60,11 @@ fn wrong_files(top: &Path, page: &str) -> Vec<String> {
         "beside",
         &beside,
         &first_names(page, "Beside the line"),
+    ));
+    all.extend(differing(
+        "inside",
+        &inner_specs(top),
+        &first_names(page, "Inside the library"),
     ));
     all
 }
@@ -88,13 +94,20 @@ fn the_tables_of_definitions_are_closed() {
 }
 
 #[test]
+fn nothing_believed_needs_inner() {
+    let wrongs = inner_believed(&top());
+    assert!(wrongs.is_empty(), "{}", wrongs.join("\n"));
+}
+
+#[test]
 fn a_missing_row_is_found() {
     let page = page();
     for name in [
         "`theory/Wrap`",
         "`chain/src/settings.rt`",
         "`Rattle.std.specs.Float`",
-        "`theory/Kept`",
+        "`sheet/Sheet`",
+        "`plan/inner/Ticking`",
     ] {
         let is_row = |line: &&str| !line.starts_with(&format!("| {name} |"));
         let without: Vec<&str> = page.lines().filter(is_row).collect();

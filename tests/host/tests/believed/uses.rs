@@ -36,7 +36,7 @@ pub fn use_of(line: &str) -> Option<Use> {
 /// What a module is.
 #[derive(Clone, Debug, PartialEq, Eq, PartialOrd, Ord)]
 pub enum Module {
-    /// crates/CRATE/specs/FILE.antt, as CRATE/FILE
+    /// crates/CRATE/specs/FILE.antt, as CRATE/FILE, or CRATE/inner/FILE
     Specs(String),
     /// crates/CRATE/proofs/FILE.antt, as CRATE/proofs/FILE: what a contract of a private function needs besides specs/
     Proofs(String),
@@ -63,7 +63,7 @@ pub fn module(path: &str) -> Module {
         .split_once(".specs.")
         .unwrap_or_else(|| panic!("{path} is not of specs/"));
     let Some(declared) = place.strip_prefix("declared.") else {
-        return Module::Specs(format!("{layer}/{place}"));
+        return Module::Specs(format!("{layer}/{}", place.replace('.', "/")));
     };
     let declared = declared.trim_end_matches(".TheVariants");
     let (file, name) = declared.rsplit_once('.').unwrap_or(("lib", declared));
