@@ -10,7 +10,7 @@ use Rattle.theory.proofs.Listed.{ascending, ascending_append, ascending_listed}
 use Rattle.integer.specs.Limits.{stages_ok, factor_ok}
 use Rattle.integer.specs.Stages.{Passed, integrated, combed}
 use Rattle.integer.specs.MovingSums.{Signal, signal_of, delay, moving_sum, fold, stuffed, stuffed_sums}
-use Rattle.integer.specs.CicInterpolator.{interpolator_of, fresh, valid_at, valid, Filled, filled, ahead, raised, next, outs, state, taken_of, Streams}
+use Rattle.integer.specs.CicInterpolator.{interpolator_of, fresh, valid_at, valid, Filled, filled, ahead, raised, next, outs, state, taken_by_blocks, Streams}
 use Rattle.integer.specs.declared.cic_interpolator.CicInterpolator.{CicInterpolator}
 use Rattle.integer.proofs.Hogenauer.{prefix, diff, fold_commutes, prefix_delay}
 use Rattle.integer.proofs.Stuffing.{stuffing, stuffed_at, stuffed_off}
@@ -125,7 +125,7 @@ streams N r ok_n ok_r =
     record {
       unrefused = λ w. still_valid (fresh N r) w ∙ rw (ok_n, ok_r);
       sums_made = interpolates N r (stages_within N ok_n).1 (factor_within r ok_r).0;
-      blocks_unrefused = λ h. ap valid (joined (fresh N r) h).0 ∙ still_valid (fresh N r) (taken_of (fresh N r) h) ∙ rw (ok_n, ok_r);
+      blocks_unrefused = λ h. ap valid (joined (fresh N r) h).0 ∙ still_valid (fresh N r) (taken_by_blocks (fresh N r) h) ∙ rw (ok_n, ok_r);
       blocks_state = λ h. (joined (fresh N r) h).0;
-      blocks_made = λ h all. (joined (fresh N r) h).1 ∙ interpolates N r (stages_within N ok_n).1 (factor_within r ok_r).0 (taken_of (fresh N r) h) all;
+      blocks_made = λ h all. (joined (fresh N r) h).1 ∙ interpolates N r (stages_within N ok_n).1 (factor_within r ok_r).0 (taken_by_blocks (fresh N r) h) all;
     }

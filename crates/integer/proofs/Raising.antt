@@ -6,13 +6,13 @@ use lib.IntN.{+ℤ_idr}
 use Rattle.std.specs.List.{slice_get}
 use Rattle.std.specs.Option.{is_some, option_copied, option_map_or}
 use Rattle.std.proofs.lemmas.Option.{slice_get-get_or, slice_get_past, slice_get_read}
-use Rattle.theory.specs.Feeds.{History, opened, fed}
+use Rattle.theory.specs.Feeds.{Feedings, opened, fed}
 use Rattle.theory.specs.Wrap.{wrap}
 use Rattle.theory.proofs.Wrap.{wrap_wrap}
 use Rattle.refusal.specs.Outcome.{Outcome}
 use Rattle.refusal.specs.declared.Moved.{Moved}
 use Rattle.integer.specs.Stages.{row, integrated, combed, sum32}
-use Rattle.integer.specs.CicInterpolator.{interpolator_of, valid, Filled, filled, ahead, raised, next, outs, state, block_taken, block, block_outs, block_span, state_of, taken_of, written_of}
+use Rattle.integer.specs.CicInterpolator.{interpolator_of, valid, Filled, filled, ahead, raised, next, outs, state, block_taken, block, block_outs, block_span, state_of, taken_by_blocks, written_by_blocks}
 use Rattle.integer.specs.declared.cic_interpolator.CicInterpolator.{CicInterpolator}
 use Rattle.integer.proofs.Row.{long_kept}
 use Rattle.integer.proofs.Filling.{filled_behind, front_kept}
@@ -198,12 +198,12 @@ one_block s w places = go (valid s) (leb s.r places)
     go false c = (refl, refl)
 
 -- and so does every history of blocks
-pub joined : (d : CicInterpolator) (h : History ℤ) → (state_of d h ≡ state d (taken_of d h)) × (written_of d h ≡ outs d (taken_of d h))
+pub joined : (d : CicInterpolator) (h : Feedings ℤ) → (state_of d h ≡ state d (taken_by_blocks d h)) × (written_by_blocks d h ≡ outs d (taken_by_blocks d h))
 joined d opened = (refl, refl)
 joined d (fed h w places) =
     let before = joined d h in
     let t = take (block (state_of d h) w places).value.taken w in
     let b = one_block (state_of d h) w places in (
-      b.0 ∙ ap (λ s. state s t) before.0 ∙ sym (state_joined d (taken_of d h) t),
-      ap (λ l. written_of d h ++ l) (b.1 ∙ ap (λ s. outs s t) before.0) ∙ ap (λ l. l ++ outs (state d (taken_of d h)) t) before.1 ∙ sym (outs_joined d (taken_of d h) t),
+      b.0 ∙ ap (λ s. state s t) before.0 ∙ sym (state_joined d (taken_by_blocks d h) t),
+      ap (λ l. written_by_blocks d h ++ l) (b.1 ∙ ap (λ s. outs s t) before.0) ∙ ap (λ l. l ++ outs (state d (taken_by_blocks d h)) t) before.1 ∙ sym (outs_joined d (taken_by_blocks d h) t),
     )

@@ -3,7 +3,7 @@ use Rattle.std.specs.Prelude.{◌≡◌, ℕ, ◌+◌, ◌^◌, Bool, true, cond
 use Rattle.theory.specs.Floor.{floor_div}
 use Rattle.theory.specs.Sections.{Section, state, outs}
 use Rattle.theory.specs.Machines.{Machine, alone}
-use Rattle.theory.specs.Feeds.{Fed, feed, History, Promised}
+use Rattle.theory.specs.Feeds.{Fed, feed, Feedings, Promised}
 use Rattle.refusal.specs.Outcome.{Outcome}
 use Rattle.refusal.specs.declared.Moved.{Moved}
 use Rattle.integer.specs.Limits.{most_stages, stages_ok, factor_ok}
@@ -109,4 +109,4 @@ pub record Streams (N r : ℕ) (d : CicDecimator) : Type 0 where
   pub sums_made : (w : List ℤ) → outs decimator d w ≡ sums N r w
   pub scaled_made : (w : List ℤ) → outs scaled_decimator d w ≡ scaled_sums N r w
   -- and so they are for every way of cutting the list into blocks
-  pub blocks : (h : History ℤ) (w : List ℤ) (places : ℕ) → Promised machine d (λ s. valid s ≡ true) (sums N r) h w places
+  pub blocks : (h : Feedings ℤ) (w : List ℤ) (places : ℕ) → Promised machine d (λ s. valid s ≡ true) (sums N r) h w places

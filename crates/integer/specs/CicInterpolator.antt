@@ -1,7 +1,7 @@
 -- 01, section 7, `CicInterpolator`: "one sample gives r outputs, the N-fold length-r moving sum, modulo 2^32, of inputs each followed by r−1 zeros".
 use Rattle.std.specs.Prelude.{◌≡◌, ℕ, zero, suc, ◌*◌, ◌/◌, min, Bool, true, cond, ◌&&◌, List, [], ◌∷◌, ◌++◌, length, take, drop, replicate, ℤ, pos, FitsSigned, nat_le, slice_index_or}
 use Rattle.std.specs.Int.{w32}
-use Rattle.theory.specs.Feeds.{History, opened, fed}
+use Rattle.theory.specs.Feeds.{Feedings, opened, fed}
 use Rattle.refusal.specs.Outcome.{Outcome}
 use Rattle.refusal.specs.declared.Moved.{Moved}
 use Rattle.integer.specs.Limits.{most_stages, stages_ok, factor_ok}
@@ -88,17 +88,17 @@ block_span d w span = block_outs d w (length span) ++ drop (block d w (length sp
 
 -- blocks one after the other: the state that the last one left, the samples taken and the outputs written, each joined in order
 module _ (d : CicInterpolator) where
-  abbrev pub state_of : History ℤ → CicInterpolator
+  abbrev pub state_of : Feedings ℤ → CicInterpolator
   state_of opened = d
   state_of (fed h w places) = (block (state_of h) w places).state
 
-  abbrev pub taken_of : History ℤ → List ℤ
-  taken_of opened = []
-  taken_of (fed h w places) = taken_of h ++ take (block (state_of h) w places).value.taken w
+  abbrev pub taken_by_blocks : Feedings ℤ → List ℤ
+  taken_by_blocks opened = []
+  taken_by_blocks (fed h w places) = taken_by_blocks h ++ take (block (state_of h) w places).value.taken w
 
-  abbrev pub written_of : History ℤ → List ℤ
-  written_of opened = []
-  written_of (fed h w places) = written_of h ++ block_outs (state_of h) w places
+  abbrev pub written_by_blocks : Feedings ℤ → List ℤ
+  written_by_blocks opened = []
+  written_by_blocks (fed h w places) = written_by_blocks h ++ block_outs (state_of h) w places
 
 -- What an interpolator d of N stages and factor r keeps over every list of i32 samples
 pub record Streams (N r : ℕ) (d : CicInterpolator) : Type 0 where
@@ -108,6 +108,6 @@ pub record Streams (N r : ℕ) (d : CicInterpolator) : Type 0 where
   pub sums_made : (w : List ℤ) → ((k : ℕ) → FitsSigned w32 (slice_index_or w k (pos 0))) → outs d w ≡ stuffed_sums N r w
   -- and so they are for every way of cutting the list into blocks and spans: no block is refused for its state, the state is what the samples taken leave
   -- one by one, and the outputs joined are those of the samples joined
-  pub blocks_unrefused : (h : History ℤ) → valid (state_of d h) ≡ true
-  pub blocks_state : (h : History ℤ) → state_of d h ≡ state d (taken_of d h)
-  pub blocks_made : (h : History ℤ) → ((k : ℕ) → FitsSigned w32 (slice_index_or (taken_of d h) k (pos 0))) → written_of d h ≡ stuffed_sums N r (taken_of d h)
+  pub blocks_unrefused : (h : Feedings ℤ) → valid (state_of d h) ≡ true
+  pub blocks_state : (h : Feedings ℤ) → state_of d h ≡ state d (taken_by_blocks d h)
+  pub blocks_made : (h : Feedings ℤ) → ((k : ℕ) → FitsSigned w32 (slice_index_or (taken_by_blocks d h) k (pos 0))) → written_by_blocks d h ≡ stuffed_sums N r (taken_by_blocks d h)

@@ -107,10 +107,10 @@ module _ (o : Opening) (ok : Accepted o) where
       by true l = refl
       by false l = refl
 
-  pub cuts_held : (h : F.History ℤ) → (F.line_of line (fresh o) h).cuts ≡ held_cuts o (F.taken_of line (fresh o) h)
+  pub cuts_held : (h : F.Feedings ℤ) → (F.state_after line (fresh o) h).cuts ≡ held_cuts o (F.taken_by_feeds line (fresh o) h)
   unfolding fresh held_cuts
   cuts_held h =
       let t = history_told most_cuts front weight line front_of (λ l. l.cuts) tallies (fresh o) h in
-      let n : ℕ = cuts_of o (F.taken_of line (fresh o) h) in
+      let n : ℕ = cuts_of o (F.taken_by_feeds line (fresh o) h) in
       let q : 0 + min n 4294967295 ≡ min n 4294967295 = omega arith in
-      t.counted ∙ ap (held_sum most_cuts 0) (fresh_cuts (F.taken_of line (fresh o) h)) ∙ q
+      t.counted ∙ ap (held_sum most_cuts 0) (fresh_cuts (F.taken_by_feeds line (fresh o) h)) ∙ q

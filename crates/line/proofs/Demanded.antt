@@ -26,7 +26,7 @@ use Rattle.line.proofs.Cuts.{cuts_held}
 use Rattle.line.proofs.Openings.{Accepted, accepted, fresh_valid, makes, one_list}
 
 -- the same feeds, as the machine's theory has them
-abbrev pub modelled : History → F.History ℤ
+abbrev pub modelled : History → F.Feedings ℤ
 modelled none_yet = F.opened
 modelled (fed h xs span) = F.fed (modelled h) xs (length span)
 
@@ -55,26 +55,26 @@ module _ (o : Opening) (zero : (opened o).number ≡ 0) where
   pub valid_fresh : valid (fresh o) ≡ true
   valid_fresh = fresh_valid o ok
 
-  pub valid_at_lem : (h : F.History ℤ) → valid (F.line_of line (fresh o) h) ≡ true
+  pub valid_at_lem : (h : F.Feedings ℤ) → valid (F.state_after line (fresh o) h) ≡ true
   valid_at_lem = line_good line 64 Good line_lawful (fresh o) valid_fresh
 
-  pub same_line : (h : History) → line_of o h ≡ F.line_of line (fresh o) (modelled h)
+  pub same_line : (h : History) → line_of o h ≡ F.state_after line (fresh o) (modelled h)
   same_line none_yet = start
   same_line (fed h xs span) =
       ap (λ (l : Line). (feed_outcome l xs (length span)).state) (same_line h)
-      ∙ ap (λ (r : Outcome Moved Line). r.state) (outcome_is (F.line_of line (fresh o) (modelled h)) xs (length span) (valid_at_lem (modelled h)))
+      ∙ ap (λ (r : Outcome Moved Line). r.state) (outcome_is (F.state_after line (fresh o) (modelled h)) xs (length span) (valid_at_lem (modelled h)))
 
-  same_taken : (h : History) → taken_of o h ≡ F.taken_of line (fresh o) (modelled h)
+  same_taken : (h : History) → taken_of o h ≡ F.taken_by_feeds line (fresh o) (modelled h)
   same_taken none_yet = refl
   same_taken (fed h xs span) =
       ap₂ {C = List ℤ} (λ (w : List ℤ) (n : ℕ). w ++ take n xs) (same_taken h)
       (ap (λ (l : Line). (feed_outcome l xs (length span)).value.taken) (same_line h)
-      ∙ ap (λ (r : Outcome Moved Line). r.value.taken) (outcome_is (F.line_of line (fresh o) (modelled h)) xs (length span) (valid_at_lem (modelled h))))
+      ∙ ap (λ (r : Outcome Moved Line). r.value.taken) (outcome_is (F.state_after line (fresh o) (modelled h)) xs (length span) (valid_at_lem (modelled h))))
 
-  same_written : (h : History) → written_of o h ≡ F.written_of line (fresh o) (modelled h)
+  same_written : (h : History) → written_of o h ≡ F.written_by_feeds line (fresh o) (modelled h)
   same_written none_yet = refl
   same_written (fed h xs span) =
-      let l = F.line_of line (fresh o) (modelled h) in
+      let l = F.state_after line (fresh o) (modelled h) in
       let f = F.feed line l xs (length span) in
       let v = valid_at_lem (modelled h) in
       ap₂ {C = List Float} (λ (y z : List Float). y ++ z) (same_written h)
@@ -86,18 +86,18 @@ module _ (o : Opening) (zero : (opened o).number ≡ 0) where
   defined = record { some = λ w. (all line 64 (fresh o) w, makes o ok w); one = λ w a b. one_list o w a b }
 
   -- what the theorem on feeds promises, of the outputs that 01 defines
-  module _ (h : F.History ℤ) (xs : List ℤ) (before : List Float) where
+  module _ (h : F.Feedings ℤ) (xs : List ℤ) (before : List Float) where
     abbrev done : F.Fed Line Float
-    done = F.feed line (F.line_of line (fresh o) h) xs (length before)
+    done = F.feed line (F.state_after line (fresh o) h) xs (length before)
 
     model : K.Kept line (fresh o) (all line 64 (fresh o)) h xs before (spanned done before) done.taken (length done.written) done.line
     model = kept line (fresh o) (all line 64 (fresh o)) h Good xs before (promised line 64 Good line_lawful (fresh o) valid_fresh h xs (length before)) done refl
 
     abbrev samples : List ℤ
-    samples = F.taken_of line (fresh o) h ++ take done.taken xs
+    samples = F.taken_by_feeds line (fresh o) h ++ take done.taken xs
 
     abbrev outputs : List Float
-    outputs = F.written_of line (fresh o) h ++ take (length done.written) (spanned done before)
+    outputs = F.written_by_feeds line (fresh o) h ++ take (length done.written) (spanned done before)
 
     model_kept : Kept o xs before (spanned done before) (answered done) samples outputs
     model_kept =
@@ -120,7 +120,7 @@ pub demanded :
     → told ≡ feed_outcome l xs (length before) → after ≡ feed_span l xs before → Demand3 l xs before after told
 unfolding Demand3
 demanded l xs before after told et ea o h zero e =
-    let k = F.line_of line (fresh o) (modelled h) in
+    let k = F.state_after line (fresh o) (modelled h) in
     let at : l ≡ k = sym e ∙ same_line o zero h in
     let v : valid k ≡ true = valid_at_lem o zero (modelled h) in
     let t : told ≡ answered (F.feed line k xs (length before)) = et ∙ ap (λ (z : Line). feed_outcome z xs (length before)) at ∙ outcome_is k xs (length before) v in

@@ -5,7 +5,7 @@ use Rattle.std.specs.Int.{w32}
 use Rattle.theory.specs.Wrap.{wrap}
 use Rattle.theory.specs.Sections.{Section, state, outs}
 use Rattle.theory.specs.Machines.{Machine, alone}
-use Rattle.theory.specs.Feeds.{Fed, feed, History, Promised}
+use Rattle.theory.specs.Feeds.{Fed, feed, Feedings, Promised}
 use Rattle.refusal.specs.Outcome.{Outcome, Opened}
 use Rattle.refusal.specs.declared.Moved.{Moved}
 use Rattle.integer.specs.Limits.{stages_ok, factor_ok}
@@ -145,6 +145,6 @@ pub record Streams (N r : ℕ) (d : NonrecursiveDecimator) : Type 0 where
   pub sums_made : (w : List ℤ) → outs nonrecursive d w ≡ sums N r w
   pub scaled_made : (w : List ℤ) → outs scaled_nonrecursive d w ≡ scaled_sums N r w
   -- and so they are for every way of cutting the list into blocks
-  pub blocks : (h : History ℤ) (w : List ℤ) (places : ℕ) → Promised machine d (λ s. valid s ≡ true) (sums N r) h w places
+  pub blocks : (h : Feedings ℤ) (w : List ℤ) (places : ℕ) → Promised machine d (λ s. valid s ≡ true) (sums N r) h w places
   -- "From fresh states it gives, sample after sample, what the CIC decimator gives, every wrapped value included"
   pub as_cic : (w : List ℤ) (x : ℤ) → nonrecursive.out (state nonrecursive d w) x ≡ (C.decimator).out (state C.decimator (C.fresh N r) w) x

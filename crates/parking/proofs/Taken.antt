@@ -38,7 +38,7 @@ use Rattle.words.specs.Fields.{is_float, floats_at, joined, i16_bytes}
 use Rattle.parking.specs.Entries.{fir_on, resampler_on, settings_in, tap_bytes, delay_bytes, stages_bytes, prototype_bytes, resampler_bytes, entries_of, thin_entries, entries_by, line_entries, entry_of, line_with, line_from, half_band_from, fir_written, resampler_written, stages_written, written, fine}
 use Rattle.parking.specs.Parking.{parked_line, park_number, park_answer, park_span, taken_up, taken_up_number}
 use Rattle.parking.specs.inner.Limits.{InLimits}
-use Rattle.parking.specs.Between.{Typed, sheet_in, History, none_yet, fed, parked as parked_then, unparked, line_after, AsNeverParked}
+use Rattle.parking.specs.Between.{Typed, sheet_in, PanelHistory, none_yet, fed, parked as parked_then, unparked, line_after, AsNeverParked}
 use Rattle.parking.proofs.Panels.{Fits, settings_back, Small, entries_back, taken_up_lem, seven_shaped, eight_shaped, sum_of_lengths}
 use Rattle.words.specs.inner.Reading.{bits_below, word_at}
 use Rattle.parking.proofs.Thinned.{few_neighbours}
@@ -387,20 +387,20 @@ module _ (v : Panel) (limit : most_taps ≤ v.most_taps) (both : v.thinning ≡ 
   stays h span true e = ap (λ (r : Opened Line). r.state) (back_from h span (eqb-true (park_number v (D.line_of o h) (length span)) 0 e))
   stays h span false e = refl
 
-  same_lines : (h : History) → line_after v o h ≡ D.line_of o (unparked h)
+  same_lines : (h : PanelHistory) → line_after v o h ≡ D.line_of o (unparked h)
   same_lines none_yet = refl
   same_lines (fed h xs span) = ap (λ (k : Line). (feed_outcome k xs (length span)).state) (same_lines h)
   same_lines (parked_then h span) =
       ap (λ (k : Line). cond (eqb (park_number v k (length span)) 0) (taken_up v (sheet_in v k span)).state k) (same_lines h)
       ∙ stays (unparked h) span (eqb (park_number v (D.line_of o (unparked h)) (length span)) 0) refl
 
-  pub taken_from : (h : History) (span : List ℕ) → park_number v (line_after v o h) (length span) ≡ 0 → taken_up v (sheet_in v (line_after v o h) span) ≡ record { number = 0; state = D.line_of o (unparked h) }
+  pub taken_from : (h : PanelHistory) (span : List ℕ) → park_number v (line_after v o h) (length span) ≡ 0 → taken_up v (sheet_in v (line_after v o h) span) ≡ record { number = 0; state = D.line_of o (unparked h) }
   taken_from h span e =
       let s = same_lines h in
       ap (λ (k : Line). taken_up v (sheet_in v k span)) s ∙ back_from (unparked h) span (ap (λ (k : Line). park_number v k (length span)) (sym s) ∙ e)
 
   -- `AsNeverParked` of specs/Between, on which docs/parking.md and row 136 of docs/TRACE.md rest
-  pub as_never_parked : (h : History) → AsNeverParked v o h
+  pub as_never_parked : (h : PanelHistory) → AsNeverParked v o h
   as_never_parked h =
       let e = same_lines h in
       let g = sound_at o zero_number ty (unparked h) in

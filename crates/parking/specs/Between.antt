@@ -22,26 +22,26 @@ sheet_in v l span = take (park_answer v l (length span)).value (park_span v l sp
 
 -- the feeds since the opening and the parkings between them, any number anywhere, the latest outermost; each feed with its samples and its span, each parking with
 -- its span
-pub data History : Type 0 where
-  none_yet : History
-  fed : History → List ℤ → List Float → History
-  parked : History → List ℕ → History
+pub data PanelHistory : Type 0 where
+  none_yet : PanelHistory
+  fed : PanelHistory → List ℤ → List Float → PanelHistory
+  parked : PanelHistory → List ℕ → PanelHistory
 
 -- the same feeds, with no parking between them
-abbrev pub unparked : History → D.History
+abbrev pub unparked : PanelHistory → D.History
 unparked none_yet = D.none_yet
 unparked (fed h xs span) = D.fed (unparked h) xs span
 unparked (parked h span) = unparked h
 
 -- the line after them: a parked one is taken up from the front of its span; one that is refused its parking stays
 module _ (v : Panel) (o : Opening) where
-  abbrev pub line_after : History → Line
+  abbrev pub line_after : PanelHistory → Line
   line_after none_yet = (opened o).state
   line_after (fed h xs span) = (feed_outcome (line_after h) xs (length span)).state
   line_after (parked h span) = cond (eqb (park_number v (line_after h) (length span)) 0) (taken_up v (sheet_in v (line_after h) span)).state (line_after h)
 
 -- after the history h, of a line that panel v parks and takes up, against one never parked
-pub record AsNeverParked (v : Panel) (o : Opening) (h : History) : Type 0 where
+pub record AsNeverParked (v : Panel) (o : Opening) (h : PanelHistory) : Type 0 where
   -- it may be parked into every span that has room for its sheet
   pub parks : (span : List ℕ) → length (parked_line v (line_after v o h)) ≤ length span → park_number v (line_after v o h) (length span) ≡ 0
   -- what was parked is taken up, and parked again gives the same bytes

@@ -16,7 +16,7 @@ use Rattle.float.proofs.PolyphaseOutput.{limits_say}
 use Rattle.theory.specs.Lists.{listed}
 use Rattle.theory.proofs.Listed.{length_listed}
 use Rattle.std.proofs.lemmas.Bool.{and_parts}
-use Rattle.phase_rows.specs.PhaseRows.{place, by_phase, InRows, Reordered, Rearranges, lengths_fit}
+use Rattle.phase_rows.specs.PhaseRows.{place_by_tap, by_phase, InRows, Reordered, Rearranges, lengths_fit}
 
 -- ---- lists by index
 get_d_listed : {A : Type 0} (n : ℕ) (g : ℕ → A) (i : ℕ) (d : A) → i < n → get_or (listed n g) i d ≡ g i
@@ -42,20 +42,20 @@ listed_of {A} n g l d e h = ap {B = List A} (λ (k : ℕ). listed k g) (sym e) �
 
 -- ---- places
 module _ (P T : ℕ) where
-  pub inside : (i : ℕ) → i < P * T → place P T i < P * T
+  pub inside : (i : ℕ) → i < P * T → place_by_tap P T i < P * T
   inside i h = go P T h
     where
-      go : (P T : ℕ) → i < P * T → place P T i < P * T
+      go : (P T : ℕ) → i < P * T → place_by_tap P T i < P * T
       go P zero h = absurd (omega (arith, mul-zero P))
       go P (suc T) h =
           let t : i % suc T < suc T = mod-lt i (omega arith) in
           let p : i / suc T < P = (div-lt_iff_lt-mul {k = suc T} {x = i} {y = P} (omega arith)).1 h in
-          subst (λ (n : ℕ). place P (suc T) i < n) (mul_comm (suc T) P) (digits_lt t p)
+          subst (λ (n : ℕ). place_by_tap P (suc T) i < n) (mul_comm (suc T) P) (digits_lt t p)
 
-  there_and_back : (i : ℕ) → i < P * T → place T P (place P T i) ≡ i
+  there_and_back : (i : ℕ) → i < P * T → place_by_tap T P (place_by_tap P T i) ≡ i
   there_and_back i h = go P T h
     where
-      go : (P T : ℕ) → i < P * T → place T P (place P T i) ≡ i
+      go : (P T : ℕ) → i < P * T → place_by_tap T P (place_by_tap P T i) ≡ i
       go P zero h = absurd (omega (arith, mul-zero P))
       go P (suc T) h =
           let p : i / suc T < P = (div-lt_iff_lt-mul {k = suc T} {x = i} {y = P} (omega arith)).1 h in
@@ -68,7 +68,7 @@ below P T i h = subst (λ (n : ℕ). i < n) (mul_comm P T) h
 turned_rows : (P T : ℕ) (h : List Float) → InRows P T h (by_phase P T h)
 unfolding by_phase
 turned_rows P T h p t hp ht =
-    get_d_listed (P * T) (λ i. get_or h (place P T i) nan) (p * T + t) nan (digits_lt hp ht)
+    get_d_listed (P * T) (λ i. get_or h (place_by_tap P T i) nan) (p * T + t) nan (digits_lt hp ht)
     ∙ ap₂ {C = Float} (λ (a b : ℕ). get_or h (a * P + b) nan) (digits_mod p ht) (digits_div p ht)
 
 turned_back : (P T : ℕ) (h : List Float) → length h ≡ P * T → by_phase T P (by_phase P T h) ≡ h
@@ -76,7 +76,7 @@ unfolding by_phase
 turned_back P T h e =
     listed_of (T * P) _ h nan (e ∙ mul_comm P T)
     (λ j q.
-    get_d_listed (P * T) (λ i. get_or h (place P T i) nan) (place T P j) nan (below T P (place T P j) (inside T P j q))
+    get_d_listed (P * T) (λ i. get_or h (place_by_tap P T i) nan) (place_by_tap T P j) nan (below T P (place_by_tap T P j) (inside T P j q))
     ∙ ap (λ (k : ℕ). get_or h k nan) (there_and_back T P j q))
 
 turned_order : (P T : ℕ) (h : List Float) → length h ≡ P * T → Reordered h (by_phase P T h)
@@ -86,8 +86,8 @@ turned_order P T h e =
     let of_h : (i : ℕ) → i < P * T → i < length h = λ i q. subst (λ (n : ℕ). i < n) (sym e) q in
     record {
       same_length = length_listed (P * T) _ ∙ sym e;
-      from = place P T;
-      to = place T P;
+      from = place_by_tap P T;
+      to = place_by_tap T P;
       from_inside = λ i q. of_h _ (inside P T i (in_h i q));
       to_inside = λ i q. of_h _ (below T P _ (inside T P i (below P T i (in_h i q))));
       to_from = λ i q. there_and_back P T i (in_h i q);

@@ -7,12 +7,12 @@ use Rattle.refusal.specs.Outcome.{Answer}
 use Rattle.float.specs.PolyphaseResamp.{in_limits}
 
 -- where what belongs at place i = p × T + t comes from: t × P + p
-abbrev pub place : ℕ → ℕ → ℕ → ℕ
-place P T i = (i % T) * P + i / T
+abbrev pub place_by_tap : ℕ → ℕ → ℕ → ℕ
+place_by_tap P T i = (i % T) * P + i / T
 
 -- "from t × P + p to p × T + t"
 unfoldable pub by_phase : ℕ → ℕ → List Float → List Float
-by_phase P T h = listed (P * T) (λ i. get_or h (place P T i) nan)
+by_phase P T h = listed (P * T) (λ i. get_or h (place_by_tap P T i) nan)
 
 -- "and its inverse", from p × T + t to t × P + p: the same with P and T exchanged
 abbrev pub by_tap : ℕ → ℕ → List Float → List Float

@@ -52,27 +52,27 @@ module _ (o : Opening) (k : Thinning) (e : (opened o).number ≡ 0) (e' : (opene
   p = of_kind k o
 
   -- the two lines after the feeds h
-  abbrev one : F.History ℤ → Line
-  one h = F.line_of line (fresh o) h
+  abbrev one : F.Feedings ℤ → Line
+  one h = F.state_after line (fresh o) h
 
-  abbrev other : F.History ℤ → Line
-  other h = F.line_of line (fresh p) h
+  abbrev other : F.Feedings ℤ → Line
+  other h = F.state_after line (fresh p) h
 
-  runs_one : (h : F.History ℤ) → Runs (one h)
+  runs_one : (h : F.Feedings ℤ) → Runs (one h)
   runs_one F.opened = fresh_runs o e
   runs_one (F.fed h xs n) = runs_on (one h) xs n (runs_one h)
 
-  runs_other : (h : F.History ℤ) → Runs (other h)
+  runs_other : (h : F.Feedings ℤ) → Runs (other h)
   runs_other F.opened = fresh_runs p e'
   runs_other (F.fed h xs n) = runs_on (other h) xs n (runs_other h)
 
   -- they have taken and written as many
-  record Level (h : F.History ℤ) : Type 0 where
+  record Level (h : F.Feedings ℤ) : Type 0 where
     clock : clock_of (one h) ≡ clock_of (other h)
-    taken : F.taken_of line (fresh o) h ≡ F.taken_of line (fresh p) h
-    long : length (F.written_of line (fresh o) h) ≡ length (F.written_of line (fresh p) h)
+    taken : F.taken_by_feeds line (fresh o) h ≡ F.taken_by_feeds line (fresh p) h
+    long : length (F.written_by_feeds line (fresh o) h) ≡ length (F.written_by_feeds line (fresh p) h)
 
-  alike : (h : F.History ℤ) → Level h
+  alike : (h : F.Feedings ℤ) → Level h
   unfolding fresh resampler_fresh
   alike F.opened = record { clock = refl; taken = refl; long = refl }
   alike (F.fed h xs n) =
@@ -82,9 +82,9 @@ module _ (o : Opening) (k : Thinning) (e : (opened o).number ≡ 0) (e' : (opene
         clock = f.clock;
         taken = ap₂ {C = List ℤ} (λ (w : List ℤ) (j : ℕ). w ++ take j xs) a.taken f.taken;
         long =
-            length-append (F.written_of line (fresh o) h) (F.feed line (one h) xs n).written
+            length-append (F.written_by_feeds line (fresh o) h) (F.feed line (one h) xs n).written
             ∙ ap₂ {C = ℕ} (λ (i j : ℕ). i + j) a.long f.written
-            ∙ sym (length-append (F.written_of line (fresh p) h) (F.feed line (other h) xs n).written);
+            ∙ sym (length-append (F.written_by_feeds line (fresh p) h) (F.feed line (other h) xs n).written);
       }
 
   -- 01 defines the same outputs for both
@@ -96,21 +96,21 @@ module _ (o : Opening) (k : Thinning) (e : (opened o).number ≡ 0) (e' : (opene
   unfolding Outputs levels
   all_same w = one_list o w _ _ (makes o (ok o e) w) (defined_same (levels o w) _ o.settings.phases (makes p (ok p e') w))
 
-  written_same : (h : F.History ℤ) → F.written_of line (fresh o) h ≡ F.written_of line (fresh p) h
+  written_same : (h : F.Feedings ℤ) → F.written_by_feeds line (fresh o) h ≡ F.written_by_feeds line (fresh p) h
   written_same F.opened = refl
   written_same (F.fed h xs n) =
       let a = alike (F.fed h xs n) in
-      let w = F.taken_of line (fresh o) (F.fed h xs n) in
+      let w = F.taken_by_feeds line (fresh o) (F.fed h xs n) in
       (promised line 64 Good line_lawful (fresh o) (valid_fresh o e) h xs n).first
       ∙ ap₂ {C = List Float} (λ (j : ℕ) (y : List Float). take j y) a.long (all_same w ∙ ap (all line 64 (fresh p)) a.taken)
       ∙ sym (promised line 64 Good line_lawful (fresh p) (valid_fresh p e') h xs n).first
 
   -- what one feed more writes
-  fed_same : (h : F.History ℤ) (xs : List ℤ) (n : ℕ) → (F.feed line (one h) xs n).written ≡ (F.feed line (other h) xs n).written
+  fed_same : (h : F.Feedings ℤ) (xs : List ℤ) (n : ℕ) → (F.feed line (one h) xs n).written ≡ (F.feed line (other h) xs n).written
   fed_same h xs n =
-      sym (drop_at (F.written_of line (fresh o) h) (F.feed line (one h) xs n).written (length (F.written_of line (fresh p) h)) (alike h).long)
-      ∙ ap (drop (length (F.written_of line (fresh p) h))) (written_same (F.fed h xs n))
-      ∙ drop_at (F.written_of line (fresh p) h) (F.feed line (other h) xs n).written (length (F.written_of line (fresh p) h)) refl
+      sym (drop_at (F.written_by_feeds line (fresh o) h) (F.feed line (one h) xs n).written (length (F.written_by_feeds line (fresh p) h)) (alike h).long)
+      ∙ ap (drop (length (F.written_by_feeds line (fresh p) h))) (written_same (F.fed h xs n))
+      ∙ drop_at (F.written_by_feeds line (fresh p) h) (F.feed line (other h) xs n).written (length (F.written_by_feeds line (fresh p) h)) refl
 
   -- `SameFeeds` of specs/SameFeeds, which docs/believed.md lists
   pub same_feeds : SameFeeds o p

@@ -14,7 +14,7 @@ use Rattle.line.specs.declared.gauge_line.Line.{Line}
 use Rattle.parking.specs.Parked.{panel}
 use Rattle.parking.specs.Parking.{park_number, taken_up}
 use Rattle.parking.specs.Alike.{LineTyped, GoesOnAlike}
-use Rattle.parking.specs.Between.{Typed, sheet_in, History, unparked, line_after}
+use Rattle.parking.specs.Between.{Typed, sheet_in, PanelHistory, unparked, line_after}
 use Rattle.taking_up.specs.TakenBack.{TakenBack}
 use Rattle.taking_up.specs.AsParked.{AsParked}
 use Rattle.parking.specs.Older.{StillTaken}
@@ -30,7 +30,7 @@ taken_twice b r e = (e, (record { back = back; lent = lent }, (as_parked b r e, 
     limit = omega arith
 
     back :
-        (o : Opening) (h : History) (span : List ℕ) → (opened o).number ≡ 0 → Typed o → park_number panel (line_after panel o h) (length span) ≡ 0 → b ≡ sheet_in panel (line_after panel o h) span
+        (o : Opening) (h : PanelHistory) (span : List ℕ) → (opened o).number ≡ 0 → Typed o → park_number panel (line_after panel o h) (length span) ≡ 0 → b ≡ sheet_in panel (line_after panel o h) span
         → r ≡ record { number = 0; state = D.line_of o (unparked h) }
     back o h span z t p q = e ∙ ap (taken_up panel) q ∙ taken_from panel limit refl o z t h span p
 

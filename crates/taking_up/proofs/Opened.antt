@@ -30,7 +30,7 @@ use Rattle.parking.specs.inner.Limits.{InLimits}
 use Rattle.nonrecursive.specs.declared.thinning.Thinning.{Thinning}
 use Rattle.nonrecursive.specs.declared.thinning.Thinning.TheVariants as thinning
 use Rattle.taking_up.specs.inner.ByKind.{Parts, Long, first_by, rest_by, long_by, line_by, opened_in_by, opened_by, parts_in}
-use Rattle.taking_up.specs.inner.Taking.{in_limits, line_of, thin_line_of, written_of, floats_written, line_fine, fine_in, long_as, thin_long_as, refused_line, opened_in, opened_from, thin_opened_from}
+use Rattle.taking_up.specs.inner.Taking.{in_limits, line_of_seven, line_of_eight, fields_written, floats_written, line_fine, fine_in, long_as, thin_long_as, refused_line, opened_in, opened_from, thin_opened_from}
 use Rattle.parking.proofs.Whole.{thin_numbers}
 use Rattle.parking.proofs.WholeLine.{half_depth, resampler_taps}
 
@@ -85,7 +85,7 @@ pub record With (q : Settings) (l : Line) : Type 0 where
 
 module _ (l : Line) (q : Settings) (delay half_band cells resampler : List ℕ) (w : With q l) where
   fine_written : fine_in l q delay half_band cells resampler ≡ true → resampler_written q resampler ≡ true
-  unfolding fine_in line_fine written_of
+  unfolding fine_in line_fine fields_written
   fine_written h =
       let a : Bool = leb q.taps most_taps in
       let v : Bool = L.valid l in
@@ -104,7 +104,7 @@ module _ (l : Line) (q : Settings) (delay half_band cells resampler : List ℕ) 
   unfolding fine_in line_fine
   fine_valid h =
       let v : Bool = L.valid l in
-      let x : Bool = written_of q delay half_band cells resampler in
+      let x : Bool = fields_written q delay half_band cells resampler in
       (and_parts v x (and_parts (leb q.taps most_taps) (v && x) h).1).0
 
   fine_taps : fine_in l q delay half_band cells resampler ≡ true → q.taps ≤ most_taps
@@ -201,7 +201,7 @@ long_fits k q e h =
 -- ---- of either kind
 
 line_with_by : (k : Thinning) (q : Settings) (e : Parts) → With q (line_by k q e)
-unfolding line_of thin_line_of cic_from place_from half_band_from resampler_from
+unfolding line_of_seven line_of_eight cic_from place_from half_band_from resampler_from
 line_with_by thinning.Integrators q e = record { stages = refl; r = refl; depth = refl; phases = refl; phase_taps = refl }
 line_with_by thinning.Neighbours q e = record { stages = refl; r = refl; depth = refl; phases = refl; phase_taps = refl }
 
@@ -250,19 +250,19 @@ module _ (e₀ e₁ e₂ e₃ e₄ e₅ e₆ : List ℕ) where
   unfolding shaped lengths_of same sizes long_as
   seven_shaped = refl
 
-  seven_line : line_from seven ≡ line_of (settings_of e₀) e₁ e₂ e₃ e₄ e₅ e₆
-  unfolding line_from line_with line_of
+  seven_line : line_from seven ≡ line_of_seven (settings_of e₀) e₁ e₂ e₃ e₄ e₅ e₆
+  unfolding line_from line_with line_of_seven
   seven_line = refl
 
-  seven_fine : fine panel.most_taps seven ≡ fine_in (line_of (settings_of e₀) e₁ e₂ e₃ e₄ e₅ e₆) (settings_of e₀) e₃ e₄ e₅ e₆
-  unfolding fine fine_in line_fine written written_of floats_written line_from line_with line_of
+  seven_fine : fine panel.most_taps seven ≡ fine_in (line_of_seven (settings_of e₀) e₁ e₂ e₃ e₄ e₅ e₆) (settings_of e₀) e₃ e₄ e₅ e₆
+  unfolding fine fine_in line_fine written fields_written floats_written line_from line_with line_of_seven
   seven_fine = refl
 
   seven_taken : (b : List ℕ) → sheet_number present b ≡ 0 → entries_of present b ≡ seven → opened_from e₀ e₁ e₂ e₃ e₄ e₅ e₆ ≡ taken_up panel b
   unfolding opened_from opened_in refused_line taken_up taken_up_number take_up_number
   seven_taken b z e =
       rw (z, e, seven_shaped, seven_line, seven_fine)
-      (by_tests (eqb (length e₀) 24) (long_as (settings_of e₀) (length e₁) (length e₂) (length e₃) (length e₄) (length e₅) (length e₆)) (fine_in (line_of (settings_of e₀) e₁ e₂ e₃ e₄ e₅ e₆) (settings_of e₀) e₃ e₄ e₅ e₆) (line_of (settings_of e₀) e₁ e₂ e₃ e₄ e₅ e₆) L.zeros)
+      (by_tests (eqb (length e₀) 24) (long_as (settings_of e₀) (length e₁) (length e₂) (length e₃) (length e₄) (length e₅) (length e₆)) (fine_in (line_of_seven (settings_of e₀) e₁ e₂ e₃ e₄ e₅ e₆) (settings_of e₀) e₃ e₄ e₅ e₆) (line_of_seven (settings_of e₀) e₁ e₂ e₃ e₄ e₅ e₆) L.zeros)
 
 module _ (e₀ e₁ e₂ e₃ e₄ e₅ e₆ e₇ : List ℕ) where
   abbrev eight : List (List ℕ)
@@ -272,19 +272,19 @@ module _ (e₀ e₁ e₂ e₃ e₄ e₅ e₆ e₇ : List ℕ) where
   unfolding shaped lengths_of same thin_sizes thin_long_as
   eight_shaped = refl
 
-  eight_line : line_from eight ≡ thin_line_of (settings_of e₀) e₂ e₃ e₄ e₅ e₆ e₇
-  unfolding line_from line_with thin_line_of
+  eight_line : line_from eight ≡ line_of_eight (settings_of e₀) e₂ e₃ e₄ e₅ e₆ e₇
+  unfolding line_from line_with line_of_eight
   eight_line = refl
 
-  eight_fine : fine panel.most_taps eight ≡ fine_in (thin_line_of (settings_of e₀) e₂ e₃ e₄ e₅ e₆ e₇) (settings_of e₀) e₃ e₄ e₅ e₆
-  unfolding fine fine_in line_fine written written_of floats_written line_from line_with thin_line_of
+  eight_fine : fine panel.most_taps eight ≡ fine_in (line_of_eight (settings_of e₀) e₂ e₃ e₄ e₅ e₆ e₇) (settings_of e₀) e₃ e₄ e₅ e₆
+  unfolding fine fine_in line_fine written fields_written floats_written line_from line_with line_of_eight
   eight_fine = refl
 
   eight_taken : (b : List ℕ) → sheet_number present b ≡ 0 → entries_of present b ≡ eight → thin_opened_from e₀ e₁ e₂ e₃ e₄ e₅ e₆ e₇ ≡ taken_up panel b
   unfolding thin_opened_from opened_in refused_line taken_up taken_up_number take_up_number
   eight_taken b z e =
       rw (z, e, eight_shaped, eight_line, eight_fine)
-      (by_tests (eqb (length e₀) 24) (thin_long_as (settings_of e₀) (length e₁) (length e₂) (length e₃) (length e₄) (length e₅) (length e₆) (length e₇)) (fine_in (thin_line_of (settings_of e₀) e₂ e₃ e₄ e₅ e₆ e₇) (settings_of e₀) e₃ e₄ e₅ e₆) (thin_line_of (settings_of e₀) e₂ e₃ e₄ e₅ e₆ e₇) L.zeros)
+      (by_tests (eqb (length e₀) 24) (thin_long_as (settings_of e₀) (length e₁) (length e₂) (length e₃) (length e₄) (length e₅) (length e₆) (length e₇)) (fine_in (line_of_eight (settings_of e₀) e₂ e₃ e₄ e₅ e₆ e₇) (settings_of e₀) e₃ e₄ e₅ e₆) (line_of_eight (settings_of e₀) e₂ e₃ e₄ e₅ e₆ e₇) L.zeros)
 
 module _ (b : List ℕ) where
   -- a sheet's entries are those that a reader of its count is handed

@@ -24,7 +24,7 @@ use Rattle.line.proofs.Numbers.{valid_apart}
 use Rattle.parking.specs.Parked.{Settings}
 use Rattle.parking.specs.Entries.{fir_from, half_band_from, resampler_from}
 use Rattle.taking_up.specs.inner.ByKind.{Parts, line_by}
-use Rattle.taking_up.specs.inner.Taking.{line_of, thin_line_of, line_fine, written_of}
+use Rattle.taking_up.specs.inner.Taking.{line_of_seven, line_of_eight, line_fine, fields_written}
 
 -- the numbers of a line of zeros
 abbrev pub none : LineNumbers
@@ -40,18 +40,18 @@ pub line_read :
     → d ≡ (line_by k q e).cic → n ≡ (line_by k q e).neighbours
     → f ≡ fir_from q e.taps e.delay → h ≡ half_band_from q e.half_band → r ≡ resampler_from q e.cells e.resampler
     → record { thinning = k; cic = d; neighbours = n; fir = f; half_band = h; resampler = r; cuts = q.cuts } ≡ line_by k q e
-unfolding line_of thin_line_of
+unfolding line_of_seven line_of_eight
 line_read thinning.Integrators q e a b c g i = rw (a, b, c, g, i)
 line_read thinning.Neighbours q e a b c g i = rw (a, b, c, g, i)
 
 pub fine_read :
     (l : Line) (q : Settings) (delay half_band cells resampler : List ℕ) {m : Line} {b v : Bool}
-    → l ≡ m → b ≡ valid_at (numbers_in l) l.half_band.counts && written_of q delay half_band cells resampler → b ≡ v
+    → l ≡ m → b ≡ valid_at (numbers_in l) l.half_band.counts && fields_written q delay half_band cells resampler → b ≡ v
     → line_fine m q delay half_band cells resampler ≡ v
 unfolding line_fine
 fine_read l q delay half_band cells resampler e f g =
     ap (λ (x : Line). line_fine x q delay half_band cells resampler) (sym e)
-    ∙ ap (λ (x : Bool). x && written_of q delay half_band cells resampler) (sym (valid_apart l)) ∙ sym f ∙ g
+    ∙ ap (λ (x : Bool). x && fields_written q delay half_band cells resampler) (sym (valid_apart l)) ∙ sym f ∙ g
 
 -- zeros in each array, beside numbers that are zeros
 pub line_cleared :

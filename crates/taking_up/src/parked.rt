@@ -38,7 +38,7 @@ pub(crate) struct Parked<'a> {
 
 impl<'a> Parked<'a> {
     // Section 1 of either kind, and its counter or its place.
-    #[tactic(auto, unfolding(crate::specs::inner::Taking::line_of, crate::specs::inner::Taking::thin_line_of))]
+    #[tactic(auto, unfolding(crate::specs::inner::Taking::line_of_seven, crate::specs::inner::Taking::line_of_eight))]
     fn read_first(
         self,
         integrators: &mut [i32; MOST_STAGES],
@@ -166,9 +166,9 @@ impl<'a> Parked<'a> {
     }
 
     // Whether the line that was read, of these numbers and counts of held samples, is one that parking writes. Refusal 15.
-    #[tactic(auto, unfolding(crate::specs::inner::Taking::written_of))]
+    #[tactic(auto, unfolding(crate::specs::inner::Taking::fields_written))]
     pub(crate) fn is_fine(self, n: LineNumbers, counts: &[usize; MOST_DEPTH]) -> bool
-        ensures { let e = told self.entry.e in result ≡ (valid_at n counts.now && T.written_of (numbers_of self.entry.q) e.delay e.half_band e.cells e.resampler) }
+        ensures { let e = told self.entry.e in result ≡ (valid_at n counts.now && T.fields_written (numbers_of self.entry.q) e.delay e.half_band e.cells e.resampler) }
     {
         numbers_valid(n, counts)
             && self.q.straight <= 1

@@ -8,7 +8,7 @@ use native.Mathlib.Nat.{add_assoc}
 use lib.ListN.{length, take}
 use Rattle.theory.specs.Sections.{Section, state}
 use Rattle.theory.specs.Machines.{Machine}
-use Rattle.theory.specs.Feeds.{steps, feed, History, opened, fed, line_of, taken_of}
+use Rattle.theory.specs.Feeds.{steps, feed, Feedings, opened, fed, state_after, taken_by_feeds}
 use Rattle.theory.specs.Tally.{held_sum, tallied}
 use Rattle.theory.proofs.Sections.{state_append}
 use Rattle.theory.proofs.Machines.{dry, dry_true, dry_false, all, Lawful, all_seen}
@@ -113,7 +113,7 @@ module _ {S T A B C : Type 0} (most : ℕ) (f : Section T A B) (weight : T → A
       }
 
   -- after any history
-  pub history_told : (fresh : S) (h : History A) → Told fresh (taken_of m fresh h) (line_of m fresh h)
+  pub history_told : (fresh : S) (h : Feedings A) → Told fresh (taken_by_feeds m fresh h) (state_after m fresh h)
   history_told fresh opened = told_none fresh
   history_told fresh (fed h xs n) =
-      told_joined fresh (taken_of m fresh h) _ (line_of m fresh h) _ (history_told fresh h) (feed_told (line_of m fresh h) xs n)
+      told_joined fresh (taken_by_feeds m fresh h) _ (state_after m fresh h) _ (history_told fresh h) (feed_told (state_after m fresh h) xs n)

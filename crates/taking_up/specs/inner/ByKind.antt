@@ -12,7 +12,7 @@ use Rattle.line.specs.declared.lent.LineNumbers.{LineNumbers}
 use Rattle.line.specs.declared.places.Places.{Places}
 use Rattle.sheet.specs.Sheet.{present, entry}
 use Rattle.parking.specs.Parked.{Settings, half_band_bytes, neighbour_count}
-use Rattle.taking_up.specs.inner.Taking.{line_of, thin_line_of, long_as, thin_long_as, opened_in, opened_from, thin_opened_from}
+use Rattle.taking_up.specs.inner.Taking.{line_of_seven, line_of_eight, long_as, thin_long_as, opened_in, opened_from, thin_opened_from}
 use Rattle.taking_up.specs.declared.entries.Entries.{Entries}
 
 pub record Parts : Type 0 where
@@ -87,8 +87,8 @@ pub record Long (k : Thinning) (q : Settings) (e : Parts) : Type 0 where
 
 -- the line of the entries
 abbrev pub line_by : Thinning → Settings → Parts → Line
-line_by thinning.Integrators q e = line_of q e.cic e.taps e.delay e.half_band e.cells e.resampler
-line_by thinning.Neighbours q e = thin_line_of q e.taps e.delay e.half_band e.cells e.resampler e.last
+line_by thinning.Integrators q e = line_of_seven q e.cic e.taps e.delay e.half_band e.cells e.resampler
+line_by thinning.Neighbours q e = line_of_eight q e.taps e.delay e.half_band e.cells e.resampler e.last
 
 -- what reading answers: the line of the numbers that were read and of the arrays that are lent, or a refusal, and zeros
 abbrev pub told_read : Result LineNumbers Refusal → Places → Opened Line

@@ -15,8 +15,8 @@ unfoldable pub in_limits : Settings → Bool
 in_limits q = leb q.stages 8 && (leb q.r 4096 && (leb q.taps most_taps && (leb q.depth 5 && (leb q.phases 64 && leb q.phase_taps 16))))
 
 -- the line of settings and the six entries behind them
-unfoldable pub line_of : Settings → List ℕ → List ℕ → List ℕ → List ℕ → List ℕ → List ℕ → Line
-line_of q cic taps delay half_band cells resampler =
+unfoldable pub line_of_seven : Settings → List ℕ → List ℕ → List ℕ → List ℕ → List ℕ → List ℕ → Line
+line_of_seven q cic taps delay half_band cells resampler =
     record {
       thinning = thinning.Integrators;
       cic = cic_from q cic;
@@ -28,8 +28,8 @@ line_of q cic taps delay half_band cells resampler =
     }
 
 -- request 13: the line of settings and of the entries of eight, but for the empty one
-unfoldable pub thin_line_of : Settings → List ℕ → List ℕ → List ℕ → List ℕ → List ℕ → List ℕ → Line
-thin_line_of q taps delay half_band cells resampler last =
+unfoldable pub line_of_eight : Settings → List ℕ → List ℕ → List ℕ → List ℕ → List ℕ → List ℕ → Line
+line_of_eight q taps delay half_band cells resampler last =
     record {
       thinning = thinning.Neighbours;
       cic = place_from q last;
@@ -44,12 +44,12 @@ thin_line_of q taps delay half_band cells resampler last =
 unfoldable pub floats_written : Settings → List ℕ → List ℕ → List ℕ → Bool
 floats_written q half_band cells resampler = stages_written half_band (min q.depth 5) && (floats_at cells 0 (q.phases * q.phase_taps) && floats_at resampler 0 (1 + q.phase_taps))
 
-unfoldable pub written_of : Settings → List ℕ → List ℕ → List ℕ → List ℕ → Bool
-written_of q delay half_band cells resampler =
+unfoldable pub fields_written : Settings → List ℕ → List ℕ → List ℕ → List ℕ → Bool
+fields_written q delay half_band cells resampler =
     leb q.straight 1 && (is_float q.step && (fir_written q delay && (resampler_written q resampler && floats_written q half_band cells resampler)))
 
 unfoldable pub line_fine : Line → Settings → List ℕ → List ℕ → List ℕ → List ℕ → Bool
-line_fine l q delay half_band cells resampler = L.valid l && written_of q delay half_band cells resampler
+line_fine l q delay half_band cells resampler = L.valid l && fields_written q delay half_band cells resampler
 
 -- 15 of entries of the right lengths, from which the line l was read
 unfoldable pub fine_in : Line → Settings → List ℕ → List ℕ → List ℕ → List ℕ → Bool
@@ -72,10 +72,10 @@ unfoldable pub opened_in : Line → Settings → List ℕ → List ℕ → List 
 opened_in l q delay half_band cells resampler = cond (fine_in l q delay half_band cells resampler) (record { number = 0; state = l }) (refused_line 15)
 
 abbrev pub opened_of : Settings → List ℕ → List ℕ → List ℕ → List ℕ → List ℕ → List ℕ → Opened Line
-opened_of q cic taps delay half_band cells resampler = opened_in (line_of q cic taps delay half_band cells resampler) q delay half_band cells resampler
+opened_of q cic taps delay half_band cells resampler = opened_in (line_of_seven q cic taps delay half_band cells resampler) q delay half_band cells resampler
 
 abbrev pub thin_opened_of : Settings → List ℕ → List ℕ → List ℕ → List ℕ → List ℕ → List ℕ → Opened Line
-thin_opened_of q taps delay half_band cells resampler last = opened_in (thin_line_of q taps delay half_band cells resampler last) q delay half_band cells resampler
+thin_opened_of q taps delay half_band cells resampler last = opened_in (line_of_eight q taps delay half_band cells resampler last) q delay half_band cells resampler
 
 -- what seven entries answer
 unfoldable pub opened_from : List ℕ → List ℕ → List ℕ → List ℕ → List ℕ → List ℕ → List ℕ → Opened Line
