@@ -11,7 +11,8 @@ use Rattle.refusal.specs.Outcome.{Outcome, Opened}
 use Rattle.refusal.specs.declared.Moved.{Moved}
 use Rattle.float.specs.F32.{one32, above_zero}
 use Rattle.float.specs.PolyphaseOutput.{output}
-use Rattle.float.specs.PolyphaseResamp.{in_limits, valid, consumed, output_of, passed, resampler, Emitted, emitted, emitted_from, fresh, settings_number, refused_opening, opening, own_taps, reset, Counts, laid, together, state_of, shifted_in, block, block_outcome, block_span, push, push_outcome, push_span}
+use Rattle.theory.specs.Lists.{in_front}
+use Rattle.float.specs.PolyphaseResamp.{in_limits, valid, consumed, output_of, passed, resampler, Emitted, emitted, emitted_from, fresh, settings_number, refused_opening, opening, own_taps, reset, Counts, together, state_of, shifted_in, block, block_outcome, block_span, push, push_outcome, push_span}
 use Rattle.float.specs.inner.Running.{RanTo}
 use Rattle.float.specs.PolyphaseWhole.{Opens, Resets, Conserves, BlockKept, PushKept}
 use Rattle.float.specs.declared.polyphase_resamp.PolyphaseResampF32.{PolyphaseResampF32}
@@ -181,7 +182,7 @@ left_alike {s} {t} {xs} {w} e c =
     }
 
 -- the outputs in front of the span
-front : (w o : List Float) → take (length w) (laid w o) ≡ w
+front : (w o : List Float) → take (length w) (in_front w o) ≡ w
 front w o = take-append_seam w (drop (length w) o)
 
 pub block_kept :

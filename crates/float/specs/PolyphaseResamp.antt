@@ -2,6 +2,7 @@
 use Rattle.std.specs.Prelude.{ℕ, zero, suc, ◌+◌, ◌-◌, ◌*◌, Bool, false, cond, not, ◌&&◌, ◌||◌, List, [], ◌∷◌, ◌++◌, length, take, drop, replicate, ◌==◌, from_bits, nat_le, slice_set, Float, None, Some}
 use Rattle.std.specs.Float.{binary32}
 use Rattle.std.specs.Float.Ieee.{add, sub, lt, le}
+use Rattle.theory.specs.Lists.{in_front}
 use Rattle.theory.specs.Machines.{Machine}
 use Rattle.theory.specs.Feeds.{Fed, feed}
 use Rattle.refusal.specs.Outcome.{Outcome, Opened, none_moved}
@@ -170,10 +171,6 @@ reset s = cond (valid s) (opening s.straight s.phases s.taps (own_taps s) s.step
 abbrev pub Counts : Type 0
 Counts = Moved
 
--- the span o with the outputs w in front
-abbrev pub laid : List Float → List Float → List Float
-laid w o = w ++ drop (length w) o
-
 -- `process_block`: "While the span has a place: if mu ≥ 1, consume a sample or stop if none; else output and add step to mu"
 unfoldable pub block : PolyphaseResampF32 → List Float → List Float → Fed PolyphaseResampF32 Float
 block s xs o = feed resampler s xs (length o)
@@ -185,7 +182,7 @@ block_outcome s xs o =
     (record { number = 15; value = none_moved; state = s })
 
 unfoldable pub block_span : PolyphaseResampF32 → List Float → List Float → List Float
-block_span s xs o = cond (valid s) (laid (block s xs o).written o) o
+block_span s xs o = cond (valid s) (in_front (block s xs o).written o) o
 
 -- "`push` consumes first whatever mu is", then writes what is due while the span has a place
 unfoldable pub push : PolyphaseResampF32 → Float → List Float → Fed PolyphaseResampF32 Float
@@ -196,7 +193,7 @@ push_outcome s x o =
     cond (valid s) (record { number = 0; value = length (push s x o).written; state = (push s x o).line }) (record { number = 15; value = 0; state = s })
 
 unfoldable pub push_span : PolyphaseResampF32 → Float → List Float → List Float
-push_span s x o = cond (valid s) (laid (push s x o).written o) o
+push_span s x o = cond (valid s) (in_front (push s x o).written o) o
 
 -- the state of which a loop holds the numbers and the arrays apart
 abbrev pub together : Bool → ℕ → ℕ → Float → Float → List Float → List Float → PolyphaseResampF32

@@ -1,5 +1,6 @@
 -- 01, section 7, `HbfInt`: what its calls answer, and what a stream of samples from its opening makes.
-use Rattle.std.specs.Prelude.{◌≡◌, Bool, false, cond, List, [], ◌∷◌, ◌++◌, ℕ, ◌-◌, ◌*◌, ◌/◌, min, length, take, drop, replicate, Float, Some}
+use Rattle.std.specs.Prelude.{◌≡◌, Bool, false, cond, List, [], ◌∷◌, ◌++◌, ℕ, ◌*◌, ◌/◌, min, length, take, drop, replicate, Float, Some}
+use Rattle.theory.specs.Lists.{padded_to}
 use Rattle.theory.specs.Sections.{Section, state, outs}
 use Rattle.refusal.specs.Outcome.{Opened, Outcome}
 use Rattle.half_band.specs.Limits.{most_half_band_taps}
@@ -38,7 +39,7 @@ abbrev pub int_none : HbfInt
 int_none = record { m = 0; coeffs = replicate most_half_band_taps zero32; delay = replicate 48 zero32 }
 
 abbrev pub int_fresh : List Float → HbfInt
-int_fresh c = record { m = length c; coeffs = c ++ replicate (most_half_band_taps - length c) zero32; delay = replicate 48 zero32 }
+int_fresh c = record { m = length c; coeffs = padded_to most_half_band_taps zero32 c; delay = replicate 48 zero32 }
 
 -- 10: "M not 1..23"
 abbrev pub int_opening : List Float → Opened HbfInt

@@ -1,5 +1,6 @@
 -- 01, section 1, `CicDecimator`: its state, its openings and refusals, one sample, one scaled sample and a block; and what holds of every stream.
-use Rattle.std.specs.Prelude.{◌≡◌, ℕ, ◌+◌, ◌^◌, Bool, true, cond, ◌&&◌, List, ◌++◌, length, drop, replicate, ℤ, pos, nat_le, nat_lt, Option, None, Some}
+use Rattle.std.specs.Prelude.{◌≡◌, ℕ, ◌+◌, ◌^◌, Bool, true, cond, ◌&&◌, List, length, replicate, ℤ, pos, nat_le, nat_lt, Option, None, Some}
+use Rattle.theory.specs.Lists.{in_front}
 use Rattle.theory.specs.Floor.{floor_div}
 use Rattle.theory.specs.Sections.{Section, state, outs}
 use Rattle.theory.specs.Machines.{Machine, alone}
@@ -96,7 +97,7 @@ block d w places =
 unfoldable pub block_span : CicDecimator → List ℤ → List ℤ → List ℤ
 block_span d w span =
     cond (valid d)
-    ((fed_block d w (length span)).written ++ drop (length (fed_block d w (length span)).written) span)
+    (in_front (fed_block d w (length span)).written span)
     span
 
 -- What a decimator d of N stages and factor r keeps over every list of samples. Since each clause speaks of every list, output k is made at sample

@@ -1,7 +1,8 @@
 -- 01, section 6: the sections one before the other, as one machine over the line's own record; what a state must be not to be refused; and what a step, a feed,
 -- an opening and a reset come to.
-use Rattle.std.specs.Prelude.{Bool, cond, ◌&&◌, not, List, ◌++◌, ℕ, zero, suc, ◌+◌, ◌*◌, ltb, eqb, length, take, drop, replicate, ℤ, pos, Float, Option, None, Some, Result, Ok, Err}
+use Rattle.std.specs.Prelude.{Bool, cond, ◌&&◌, not, List, ℕ, zero, suc, ◌+◌, ◌*◌, ltb, eqb, length, take, replicate, ℤ, pos, Float, Option, None, Some, Result, Ok, Err}
 use Rattle.std.specs.Int.{w16}
+use Rattle.theory.specs.Lists.{in_front}
 use Rattle.theory.specs.Machines.{Machine, viewed}
 use Rattle.theory.specs.Tally.{tallied}
 use Rattle.theory.specs.Feeds as F
@@ -114,7 +115,7 @@ feed_outcome l xs places =
 unfoldable pub feed_span : Line → List ℤ → List Float → List Float
 feed_span l xs span =
     cond (valid l)
-    ((fed_line l xs (length span)).written ++ drop (length (fed_line l xs (length span)).written) span)
+    (in_front (fed_line l xs (length span)).written span)
     span
 
 -- ---- openings

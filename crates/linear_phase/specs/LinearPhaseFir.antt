@@ -1,5 +1,6 @@
 -- 02, §2, `LinearPhaseFir`: the M taps and the last LEN samples; what lies behind them is not looked at. Openings, calls, and what refuses them.
-use Rattle.std.specs.Prelude.{◌≡◌, Bool, false, cond, not, List, [], ◌∷◌, ◌++◌, ℕ, ◌-◌, eqb, length, take, drop, replicate, Float, Some}
+use Rattle.std.specs.Prelude.{◌≡◌, Bool, false, cond, not, List, [], ◌∷◌, ◌++◌, ℕ, eqb, length, take, drop, replicate, Float, Some}
+use Rattle.theory.specs.Lists.{padded_to}
 use Rattle.theory.specs.Sections.{Section, outs, state}
 use Rattle.refusal.specs.Outcome.{Answer, Opened, Outcome}
 use Rattle.refusal.specs.Rows.{outside}
@@ -47,7 +48,7 @@ phase_none = record { m = 0; odd = false; antisymmetric = false; taps = replicat
 
 abbrev pub phase_fresh : Bool → Bool → List Float → LinearPhaseFir
 phase_fresh odd antisymmetric c =
-    record { m = length c; odd = odd; antisymmetric = antisymmetric; taps = c ++ replicate (most_taps - length c) zero32; delay = replicate most_delays zero32 }
+    record { m = length c; odd = odd; antisymmetric = antisymmetric; taps = padded_to most_taps zero32 c; delay = replicate most_delays zero32 }
 
 -- "19 when M is outside its limits", "M from 1 to 23"
 abbrev pub phase_opening : Bool → Bool → List Float → Opened LinearPhaseFir

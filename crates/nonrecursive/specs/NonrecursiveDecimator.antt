@@ -2,6 +2,7 @@
 -- sample, one scaled sample; and what holds of every stream.
 use Rattle.std.specs.Prelude.{◌≡◌, Bool, true, cond, ◌&&◌, List, ◌++◌, ℕ, zero, suc, ◌+◌, ◌/◌, ◌%◌, ◌^◌, eqb, leb, ltb, ℤ, pos, length, take, drop, replicate, Option, None, Some}
 use Rattle.std.specs.Int.{w32}
+use Rattle.theory.specs.Lists.{in_front}
 use Rattle.theory.specs.Wrap.{wrap}
 use Rattle.theory.specs.Sections.{Section, state, outs}
 use Rattle.theory.specs.Machines.{Machine, alone}
@@ -133,7 +134,7 @@ block d w places =
 unfoldable pub block_span : NonrecursiveDecimator → List ℤ → List ℤ → List ℤ
 block_span d w span =
     cond (valid d)
-    ((fed_block d w (length span)).written ++ drop (length (fed_block d w (length span)).written) span)
+    (in_front (fed_block d w (length span)).written span)
     span
 
 -- What a decimator d of N stages and factor r keeps over every list of samples

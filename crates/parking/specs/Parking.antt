@@ -1,5 +1,6 @@
 -- 02, request 6: parking a line and taking it up, as a panel does it.
-use Rattle.std.specs.Prelude.{cond, List, ◌++◌, ℕ, leb, eqb, length, drop}
+use Rattle.std.specs.Prelude.{cond, List, ℕ, leb, eqb, length}
+use Rattle.theory.specs.Lists.{in_front}
 use Rattle.refusal.specs.Outcome.{Answer, Opened}
 use Rattle.line.specs.Line as L
 use Rattle.line.specs.declared.gauge_line.Line.{Line}
@@ -15,7 +16,7 @@ unfoldable pub sheet_answer : List ℕ → ℕ → Answer ℕ
 sheet_answer b places = cond (leb (length b) places) (record { number = 0; value = length b }) (record { number = 17; value = 0 })
 
 unfoldable pub sheet_span : List ℕ → List ℕ → List ℕ
-sheet_span b span = cond (leb (length b) (length span)) (b ++ drop (length b) span) span
+sheet_span b span = cond (leb (length b) (length span)) (in_front b span) span
 
 -- 15 as for any call on a state; "Parking into a span too short is 17"
 unfoldable pub park_number : Panel → Line → ℕ → ℕ
@@ -30,7 +31,7 @@ unfoldable pub park_answer : Panel → Line → ℕ → Answer ℕ
 park_answer v l places = record { number = park_number v l places; value = cond (eqb (park_number v l places) 0) (length (parked_line v l)) 0 }
 
 unfoldable pub park_span : Panel → Line → List ℕ → List ℕ
-park_span v l span = cond (eqb (park_number v l (length span)) 0) (parked_line v l ++ drop (length (parked_line v l)) span) span
+park_span v l span = cond (eqb (park_number v l (length span)) 0) (in_front (parked_line v l) span) span
 
 -- 16 and 17, "21 when a parked sheet has another entry count or an entry of the wrong length, after 16 and 17; then 15"
 unfoldable pub taken_up_number : Panel → List ℕ → ℕ

@@ -3,6 +3,7 @@
 -- beside the line no taps is refused by 6, as row 6 has it, and the zeros that a refused opening leaves answer 15.
 use Rattle.std.specs.Prelude.{◌≡◌, Bool, true, false, not, ◌&&◌, cond, List, ◌++◌, map, ℕ, zero, suc, ◌-◌, leb, ltb, eqb, ℤ, pos, length, set, take, drop, replicate, Option, None, Some, Result}
 use Rattle.std.specs.Int.{w16}
+use Rattle.theory.specs.Lists.{padded_to}
 use Rattle.refusal.specs.declared.Refusal.{Refusal}
 use Rattle.refusal.specs.Outcome.{Outcome, Opened, number_in, value_in}
 use Rattle.theory.specs.Sections.{Section, outs, state}
@@ -107,7 +108,7 @@ fir_step s x =
 
 -- the taps, and zeros behind them
 unfoldable pub padded : List ℤ → List ℤ
-padded c = c ++ replicate (most_taps - length c) (pos 0)
+padded c = padded_to most_taps (pos 0) c
 
 -- "T at opening", and no samples yet
 unfoldable pub fresh : List ℤ → ℕ → FirDecimator

@@ -1,5 +1,6 @@
 -- A block through a machine, whole: what it leaves is what the machine's feed leaves, and how many values leave a place of the span.
-use Rattle.std.specs.Prelude.{◌≡◌, List, ◌++◌, ℕ, ◌<◌, Float, length, drop}
+use Rattle.std.specs.Prelude.{◌≡◌, List, ℕ, ◌<◌, Float, length}
+use Rattle.theory.specs.Lists.{in_front}
 use Rattle.theory.specs.Machines.{Machine}
 use Rattle.theory.specs.Feeds as F
 
@@ -19,4 +20,4 @@ Leaves {S} {A} m s count places = (xs : List A) → length xs < count → length
 pub record Batched {S A : Type 0} (m : Machine S A Float) (s : S) (xs : List A) (before after : List Float) (t : S) (written : ℕ) : Type 0 where
   pub state : t ≡ (F.feed m s xs (length before)).line
   pub wrote : written ≡ length (F.feed m s xs (length before)).written
-  pub span : after ≡ (F.feed m s xs (length before)).written ++ drop (length (F.feed m s xs (length before)).written) before
+  pub span : after ≡ in_front (F.feed m s xs (length before)).written before

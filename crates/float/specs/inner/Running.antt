@@ -4,7 +4,8 @@ use Rattle.theory.specs.Feeds.{Fed, feed}
 use Rattle.refusal.specs.declared.Moved.{Moved}
 use Rattle.float.specs.declared.polyphase_resamp.PolyphaseResampF32.{PolyphaseResampF32}
 use Rattle.float.specs.declared.settings.Setting.{Setting}
-use Rattle.float.specs.PolyphaseResamp.{resampler, most_cells, laid, state_of}
+use Rattle.theory.specs.Lists.{in_front}
+use Rattle.float.specs.PolyphaseResamp.{resampler, most_cells, state_of}
 
 -- the places from p on, P apart, of the first n taps lie in the prototype's array
 unfoldable pub Inside : ℕ → ℕ → ℕ → Type 0
@@ -21,4 +22,4 @@ pub record RanTo (q : Setting) (mu₀ : Float) (h d₀ xs o₀ : List Float) (r 
   pub state : state_of q mu d h ≡ (ran q mu₀ h d₀ xs o₀).line
   pub taken : r.taken ≡ (ran q mu₀ h d₀ xs o₀).taken
   pub written : r.written ≡ length (ran q mu₀ h d₀ xs o₀).written
-  pub span : o ≡ laid (ran q mu₀ h d₀ xs o₀).written o₀
+  pub span : o ≡ in_front (ran q mu₀ h d₀ xs o₀).written o₀

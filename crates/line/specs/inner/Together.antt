@@ -1,6 +1,7 @@
 -- The line of which a loop holds the settings, the clock and the arrays apart, and what a value does in a machine: for the contracts of the private functions.
 use Rattle.std.specs.Prelude.{◌≡◌, Bool, true, ◌&&◌, not, List, ◌++◌, ℕ, ◌+◌, ◌-◌, ◌≤◌, eqb, leb, length, take, drop, ℤ, Float, Option}
 use Rattle.std.specs.Float.Ieee.{lt}
+use Rattle.theory.specs.Lists.{in_front}
 use Rattle.theory.specs.Machines.{Machine}
 use Rattle.theory.specs.Feeds as F
 use Rattle.integer.specs.Gain.{gain_bits, most_bits}
@@ -46,7 +47,7 @@ pub record RanTo (l : Line) (xs : List ℤ) (before after : List Float) (taken w
   pub took : taken ≡ (fed_line l xs (length before)).taken
   pub wrote : written ≡ length (fed_line l xs (length before)).written
   pub line : k ≡ (fed_line l xs (length before)).line
-  pub span : after ≡ (fed_line l xs (length before)).written ++ drop (length (fed_line l xs (length before)).written) before
+  pub span : after ≡ in_front (fed_line l xs (length before)).written before
 
 -- how far a feed of the line l came, which is now the line k: what is done, and then what the feed does from there, is the whole feed
 pub record Begun (l : Line) (xs : List ℤ) (before after : List Float) (taken written : ℕ) (k : Line) : Type 0 where
