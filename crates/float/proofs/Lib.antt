@@ -6,6 +6,10 @@ pub mod DelayLine
 pub mod Tape
 pub mod Laid
 pub mod Packing
+pub mod MuInLine
+pub mod MuBeside
+pub mod MuPaces
+pub mod MuMachines
 pub mod PolyphaseRange
 pub mod LinePace
 pub mod PolyphaseWhole

@@ -10,9 +10,9 @@ use lib.Ieee.Positive.{num, den, den_pos, positive, own_value, mul_at}
 use lib.Ieee.Positive as Positive
 use Rattle.theory.specs.Feeds.{feed}
 use Rattle.theory.proofs.FloatOrder.{nonneg, round_within}
-use Rattle.theory.proofs.MuInLine.{most_step, StepOk, step_positive}
-use Rattle.theory.proofs.MuPaces.{Past}
-use Rattle.theory.proofs.MuMachines.{HasMu, mu_leaves}
+use Rattle.float.proofs.MuInLine.{most_step, StepOk, step_positive}
+use Rattle.float.proofs.MuPaces.{Past}
+use Rattle.float.proofs.MuMachines.{HasMu, mu_leaves}
 use Rattle.theory.proofs.Paces.{Pace, place_by_pace, pace_off}
 use Rattle.float.specs.F32.{one32}
 use Rattle.float.specs.PolyphaseResamp.{is_on, consumed, passed, in_line, valid_in_line}

@@ -9,9 +9,9 @@ use lib.Ieee.Scale.{finite}
 use Rattle.std.specs.Float.{float_is_finite}
 use Rattle.theory.proofs.Machines.{Lawful, enough_by_rank}
 use Rattle.theory.proofs.FloatOrder.{zero_f, le_trans_nonneg, positive_nonneg}
-use Rattle.theory.proofs.MuInLine.{most_step, StepOk, InRange, AtLeast, step_positive, in_nonneg, at_start, reached, grows}
-use Rattle.theory.proofs.MuInLine as line
-use Rattle.theory.proofs.MuBeside.{max_f, most_finite, StepPos, InWide, low_nonneg, limit_in, wide_input, wide_output}
+use Rattle.float.proofs.MuInLine.{most_step, StepOk, InRange, AtLeast, step_positive, in_nonneg, at_start, reached, grows}
+use Rattle.float.proofs.MuInLine as line
+use Rattle.float.proofs.MuBeside.{max_f, most_finite, StepPos, InWide, low_nonneg, limit_in, wide_input, wide_output}
 use Rattle.float.specs.F32.{zero32, one32, largest32, above_zero}
 use Rattle.float.specs.PolyphaseResamp.{in_limits, mu_from, lowest_mu, valid_at, least_line_step, most_line_step, step_in_line, valid_in_line_at, valid, valid_in_line, consumed, passed, is_on, in_line, fresh}
 use Rattle.float.specs.declared.polyphase_resamp.PolyphaseResampF32.{PolyphaseResampF32}
