@@ -13,7 +13,8 @@ use Rattle.theory.proofs.Sections.{outs_each}
 use Rattle.theory.proofs.Feeds.{feed_right}
 use Rattle.theory.proofs.Batches.{feed_before}
 use Rattle.theory.proofs.FeedsSeen.{feed_seen, feed_hands}
-use Rattle.float.specs.PolyphaseResamp.{is_on, passed, consumed, in_line, resampler, valid_in_line}
+use Rattle.float.specs.PolyphaseOpening.{valid_in_line}
+use Rattle.float.specs.PolyphaseResamp.{is_on, passed, consumed, in_line, resampler}
 use Rattle.float.specs.declared.polyphase_resamp.PolyphaseResampF32.{PolyphaseResampF32}
 use Rattle.float.proofs.PolyphaseRange as Res
 use Rattle.chain.specs.inner.Batched.{Whole, Batched}

@@ -23,7 +23,7 @@ use Rattle.q15.proofs.FirSteps.{valid_on}
 use Rattle.half_band.specs.HbfStream.{hbf_stream}
 use Rattle.half_band.specs.declared.hbf_stream.HbfStream.{HbfStream}
 use Rattle.float.specs.Level.{level}
-use Rattle.float.specs.PolyphaseResamp as R
+use Rattle.float.specs.PolyphaseOpening as R
 use Rattle.float.specs.declared.polyphase_resamp.PolyphaseResampF32.{PolyphaseResampF32}
 use Rattle.float.proofs.LinePace.{stride_of, leaves_place}
 use Rattle.chain.specs.Chain.{from2, from3, from4, from5, from_levels}

@@ -43,7 +43,8 @@ use Rattle.half_band.specs.inner.HbfStreamBlock.{stream_block_fits, stream_block
 use Rattle.half_band.specs.declared.hbf_stream.HbfStream.{HbfStream}
 use Rattle.half_band.proofs.InPlace.{end_put}
 use Rattle.float.specs.Level.{level}
-use Rattle.float.specs.PolyphaseResamp.{is_on, in_line, resampler, valid, valid_in_line, block, block_outcome, block_span}
+use Rattle.float.specs.PolyphaseOpening.{valid, valid_in_line}
+use Rattle.float.specs.PolyphaseResamp.{is_on, in_line, resampler, block, block_outcome, block_span}
 use Rattle.float.specs.declared.polyphase_resamp.PolyphaseResampF32.{PolyphaseResampF32}
 use Rattle.float.proofs.PolyphaseRange as Res
 use Rattle.chain.specs.Chain.{Parts2, from2, from3, from4, from5, from_levels, chain}

@@ -5,7 +5,7 @@ ghost use Rattle.theory.specs.Tally.{held_sum};
 ghost use Rattle.theory.specs.Sections.{state, outs};
 ghost use Rattle.q15.specs.Fixed.{cut_count};
 ghost use Rattle.q15.specs.FirDecimator.{fir, fir_state, summing};
-ghost use Rattle.float.specs.PolyphaseResamp.{valid_in_line};
+ghost use Rattle.float.specs.PolyphaseOpening.{valid_in_line};
 ghost use Rattle.chain.specs.Chain.{from3};
 ghost use Rattle.chain.specs.Cuts.{most_cuts};
 ghost use Rattle.chain.specs.Same.{Same};

@@ -1,7 +1,7 @@
 // 01, section 4: the values of a block as levels, through the half-band stages.
 ghost use Rattle.std.specs.Prelude.{◌≡◌, true, ◌++◌, map, ◌≤◌, length, drop};
 ghost use Rattle.float.specs.Level.{level};
-ghost use Rattle.float.specs.PolyphaseResamp.{valid_in_line};
+ghost use Rattle.float.specs.PolyphaseOpening.{valid_in_line};
 ghost use Rattle.chain.specs.Chain.{from_levels};
 ghost use Rattle.chain.specs.inner.Lending as N;
 ghost use Rattle.chain.specs.Same.{Same};

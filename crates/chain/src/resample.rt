@@ -1,6 +1,6 @@
 // 01, section 5: the levels of a block into the resampler.
 ghost use Rattle.std.specs.Prelude.{◌≡◌, true, ◌≤◌, length};
-ghost use Rattle.float.specs.PolyphaseResamp.{valid_in_line};
+ghost use Rattle.float.specs.PolyphaseOpening.{valid_in_line};
 ghost use Rattle.chain.specs.Chain.{from5};
 ghost use Rattle.chain.specs.inner.Parts.{resampler_of};
 ghost use Rattle.chain.specs.inner.Batched.{Whole, Batched};

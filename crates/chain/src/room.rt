@@ -4,7 +4,7 @@ ghost use Rattle.std.specs.Prelude.{◌≡◌, cond, true, false, List, ◌+◌,
 ghost use Rattle.std.specs.Float.{binary32};
 ghost use Rattle.std.specs.Float.Ieee.{of_bits, mul, to_unsigned};
 ghost use Rattle.q15.specs.FirDecimator.{fir_valid_in_line};
-ghost use Rattle.float.specs.PolyphaseResamp.{valid_in_line};
+ghost use Rattle.float.specs.PolyphaseOpening.{valid_in_line};
 ghost use Rattle.chain.specs.Chain.{from2, from5};
 ghost use Rattle.chain.specs.inner.Parts.{fir_of, half_band_of, resampler_of, cut_on};
 ghost use Rattle.chain.specs.inner.Counting.{or_one, stages_left};

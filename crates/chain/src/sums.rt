@@ -8,7 +8,7 @@ ghost use Rattle.integer.specs.Gain.{gain_bits};
 ghost use Rattle.nonrecursive.specs.EitherKind.{either, thinner_of, thin_fed, valid_at};
 ghost use Rattle.q15.specs.Fixed.{cut, cut_count};
 ghost use Rattle.q15.specs.FirDecimator.{summing};
-ghost use Rattle.float.specs.PolyphaseResamp.{valid_in_line};
+ghost use Rattle.float.specs.PolyphaseOpening.{valid_in_line};
 ghost use Rattle.chain.specs.Chain.{from2, chain};
 ghost use Rattle.chain.specs.Cuts.{most_cuts};
 ghost use Rattle.chain.specs.Same.{Same};

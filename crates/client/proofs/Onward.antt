@@ -17,7 +17,8 @@ use Rattle.refusal.proofs.Table.{number_positive}
 use Rattle.refusal.specs.Outcome.{Outcome, told_opened}
 use Rattle.refusal.specs.declared.Moved.{Moved}
 use Rattle.line.specs.Outputs.{Opening}
-use Rattle.line.specs.Line.{feed_span, opened, zeros}
+use Rattle.line.specs.Openings.{opened, zeros}
+use Rattle.line.specs.Line.{feed_span}
 use Rattle.line.specs.Demand3.{History, none_yet, line_of, taken_of, written_of, Kept, Demand3}
 use Rattle.line.specs.declared.gauge_line.Line.{Line}
 use Rattle.line.proofs.Left as W

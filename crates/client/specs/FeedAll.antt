@@ -3,7 +3,8 @@ use Rattle.std.specs.Prelude.{cond, List, [], ◌∷◌, ◌++◌, ℕ, eqb, ℤ
 use Rattle.refusal.specs.Outcome.{Outcome}
 use Rattle.refusal.specs.declared.Moved.{Moved}
 use Rattle.line.specs.Outputs.{Opening}
-use Rattle.line.specs.Line.{feed_outcome, feed_span, opened}
+use Rattle.line.specs.Openings.{opened}
+use Rattle.line.specs.Line.{feed_outcome, feed_span}
 use Rattle.line.specs.Demand3.{History, fed, line_of, taken_of, written_of, Kept}
 use Rattle.line.specs.declared.gauge_line.Line.{Line}
 

@@ -1,7 +1,8 @@
 // A line is opened and fed again and again: what demand 3 says of every list of feeds, as the caller of a loop has it.
 ghost use Rattle.std.specs.Prelude.{◌≡◌, ◌++◌, length, take, drop};
 ghost use Rattle.refusal.specs.Outcome.{number_in, value_in, told_on, none_moved};
-ghost use Rattle.line.specs.Line.{feed_outcome, feed_span, opened, zeros};
+ghost use Rattle.line.specs.Openings.{opened, zeros};
+ghost use Rattle.line.specs.Line.{feed_outcome, feed_span};
 ghost use Rattle.line.specs.Demand3.{Demand3, none_yet};
 ghost use Rattle.client.specs.FeedAll.{all_left, AllKept};
 

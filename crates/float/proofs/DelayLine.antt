@@ -2,7 +2,8 @@
 use Rattle.std.proofs.Common.{◌≡◌, ℕ, ◌+◌, ◌<◌, ◌≤◌, List, [], ◌∷◌, ◌++◌, length, get_or, take, drop, set, sym, ap, ◌∙◌, subst, add-zero, zero-add, add-one, arith, append-nil, take-take, drop_of_length-le, le-leb, length-take-le, get_or-drop, get_or-append-add}
 use lib.Seq.{paste, paste-suc}
 use lib.Ieee.{Float, nan}
-use Rattle.float.specs.PolyphaseResamp.{most_taps, shifted_in}
+use Rattle.float.specs.PolyphaseOpening.{most_taps}
+use Rattle.float.specs.PolyphaseResamp.{shifted_in}
 use Rattle.float.proofs.Tape.{one_more}
 
 abbrev pub slid : List Float → Float → ℕ → List Float

@@ -3,7 +3,7 @@ use Rattle.std.proofs.Common.{◌≡◌, ℕ, zero, suc, ◌+◌, ◌-◌, ◌<�
 use lib.Ieee.{Float, binary32, add, lt}
 use Rattle.float.specs.F32.{one32}
 use Rattle.float.specs.PolyphaseOutput.{output}
-use Rattle.float.specs.PolyphaseResamp.{Emitted, emitted}
+use Rattle.float.specs.inner.Running.{Emitted, emitted}
 
 module _ (straight : Bool) (P T : ℕ) (step : Float) (d h : List Float) where
   abbrev made : Float → Float

@@ -15,7 +15,8 @@ use Rattle.float.proofs.MuPaces.{Past}
 use Rattle.float.proofs.MuMachines.{HasMu, mu_leaves}
 use Rattle.theory.proofs.Paces.{Pace, place_by_pace, pace_off}
 use Rattle.float.specs.F32.{one32}
-use Rattle.float.specs.PolyphaseResamp.{is_on, consumed, passed, in_line, valid_in_line}
+use Rattle.float.specs.PolyphaseOpening.{valid_in_line}
+use Rattle.float.specs.PolyphaseResamp.{is_on, consumed, passed, in_line}
 use Rattle.float.specs.declared.polyphase_resamp.PolyphaseResampF32.{PolyphaseResampF32}
 use Rattle.float.proofs.Flags.{is, is_not}
 use Rattle.float.proofs.PolyphaseRange.{step_says, ValidOn, on_says, on_passed, on_consumed}

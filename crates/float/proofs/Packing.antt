@@ -4,7 +4,7 @@ use borrow.Rule.Slice.PartMut.{mid_of, put_mid}
 use lib.ListN.{length-drop, drop_of_length-le}
 use lib.Ieee.{Float}
 use Rattle.float.specs.F32.{zero32}
-use Rattle.float.specs.PolyphaseResamp.{packed}
+use Rattle.float.specs.PolyphaseOpening.{packed}
 
 pub packed_front : (h front : List Float) (n : ℕ) → n ≡ min (length h) 1024 → front ≡ take n h → front ++ replicate (1024 - n) zero32 ≡ packed h
 unfolding packed

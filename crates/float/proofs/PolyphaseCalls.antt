@@ -12,7 +12,9 @@ use Rattle.refusal.specs.declared.Moved.{Moved}
 use Rattle.float.specs.F32.{one32, above_zero}
 use Rattle.float.specs.PolyphaseOutput.{output}
 use Rattle.theory.specs.Lists.{in_front}
-use Rattle.float.specs.PolyphaseResamp.{in_limits, valid, consumed, output_of, passed, resampler, Emitted, emitted, emitted_from, fresh, settings_number, refused_opening, opening, own_taps, reset, Counts, together, state_of, shifted_in, block, block_outcome, block_span, push, push_outcome, push_span}
+use Rattle.float.specs.PolyphaseOpening.{in_limits, valid, fresh, settings_number, refused_opening, opening, own_taps, reset}
+use Rattle.float.specs.inner.Running.{Emitted, emitted, emitted_from}
+use Rattle.float.specs.PolyphaseResamp.{consumed, output_of, passed, resampler, Counts, together, state_of, shifted_in, block, block_outcome, block_span, push, push_outcome, push_span}
 use Rattle.float.specs.inner.Running.{RanTo}
 use Rattle.float.specs.PolyphaseWhole.{Opens, Resets, Conserves, BlockKept, PushKept}
 use Rattle.float.specs.declared.polyphase_resamp.PolyphaseResampF32.{PolyphaseResampF32}

@@ -7,7 +7,7 @@ use Rattle.std.proofs.lemmas.List.{get_or_default}
 use Rattle.std.proofs.Math.ListN.{get_or-eq_default}
 use Rattle.float.specs.F32.{one32, zero32, blend}
 use Rattle.float.specs.PolyphaseOutput.{tap, straight_tap, reading, cut_unit, place, phase0, phase1, first_place, second_place, fraction, phase_sum, output}
-use Rattle.float.specs.PolyphaseResamp.{within, in_limits}
+use Rattle.float.specs.PolyphaseOpening.{within, in_limits}
 use Rattle.float.specs.inner.Running.{Inside}
 use Rattle.std.proofs.lemmas.Bool.{and_parts}
 use Rattle.float.proofs.Place.{cut_cut}

@@ -13,7 +13,8 @@ use Rattle.float.proofs.MuInLine.{most_step, StepOk, InRange, AtLeast, step_posi
 use Rattle.float.proofs.MuInLine as line
 use Rattle.float.proofs.MuBeside.{max_f, most_finite, StepPos, InWide, low_nonneg, limit_in, wide_input, wide_output}
 use Rattle.float.specs.F32.{zero32, one32, largest32, above_zero}
-use Rattle.float.specs.PolyphaseResamp.{in_limits, mu_from, lowest_mu, valid_at, least_line_step, most_line_step, step_in_line, valid_in_line_at, valid, valid_in_line, consumed, passed, is_on, in_line, fresh}
+use Rattle.float.specs.PolyphaseOpening.{in_limits, mu_from, lowest_mu, valid_at, least_line_step, most_line_step, step_in_line, valid_in_line_at, valid, valid_in_line, fresh}
+use Rattle.float.specs.PolyphaseResamp.{consumed, passed, is_on, in_line}
 use Rattle.float.specs.declared.polyphase_resamp.PolyphaseResampF32.{PolyphaseResampF32}
 use Rattle.float.proofs.PolyphaseOutput.{Limits, limits_say}
 use Rattle.std.proofs.lemmas.Bool.{and_parts, and_from, or_right}

@@ -13,7 +13,8 @@ use Rattle.theory.proofs.Runs.{all_runs}
 use Rattle.theory.proofs.RunsSeen.{runs_unique, runs_seen, runs_unseen, lawful_seen}
 use Rattle.float.specs.F32.{zero32, one32}
 use Rattle.float.specs.PolyphaseOutput.{output}
-use Rattle.float.specs.PolyphaseResamp.{in_limits, shifted_in, consumed, output_of, passed, resampler, is_on, in_line, valid_in_line, step_in_line, packed, fresh}
+use Rattle.float.specs.PolyphaseOpening.{in_limits, valid_in_line, step_in_line, packed, fresh}
+use Rattle.float.specs.PolyphaseResamp.{shifted_in, consumed, output_of, passed, resampler, is_on, in_line}
 use Rattle.float.specs.PolyphaseWhole.{Progress, delays, whole_list, begin, Becomes}
 use Rattle.float.specs.declared.polyphase_resamp.PolyphaseResampF32.{PolyphaseResampF32}
 use Rattle.float.proofs.PolyphaseOutput.{Limits, limits_say, outputs_alike}

@@ -1,5 +1,6 @@
 pub mod F32
 pub mod PolyphaseOutput
+pub mod PolyphaseOpening
 pub mod PolyphaseResamp
 pub mod PolyphaseWhole
 pub mod ResampleLinear

@@ -9,7 +9,8 @@ use Rattle.theory.specs.Runs.{Runs}
 use Rattle.refusal.specs.Outcome.{Outcome, Opened}
 use Rattle.float.specs.F32.{zero32, one32}
 use Rattle.float.specs.PolyphaseOutput.{output}
-use Rattle.float.specs.PolyphaseResamp.{step_in_line, valid, consumed, resampler, own_taps, Counts}
+use Rattle.float.specs.PolyphaseOpening.{step_in_line, valid, own_taps}
+use Rattle.float.specs.PolyphaseResamp.{consumed, resampler, Counts}
 use Rattle.float.specs.declared.polyphase_resamp.PolyphaseResampF32.{PolyphaseResampF32}
 
 -- how far a list has come: mu, and the values consumed so far, the newest first

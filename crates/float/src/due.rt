@@ -3,6 +3,7 @@ ghost use Rattle.std.specs.Prelude.{◌≡◌, ◌-◌, ◌≤◌, true, length}
 ghost use Rattle.std.specs.Float.Ieee.{lt};
 ghost use Rattle.float.specs.F32.{one32};
 ghost use Rattle.float.specs.PolyphaseOutput.{cut_unit};
+ghost use Rattle.float.specs.inner.Running as N;
 ghost use Rattle.float.specs.PolyphaseResamp as R;
 
 use crate::interpolation::Reading;
@@ -47,7 +48,7 @@ impl Reading<'_> {
         ensures { let before = dst.old in
             let r = self.entry in
             let s = r.setting in
-            R.told_due result dst.new ≡ R.emitted s.straight s.phases s.phase_taps s.step delay.now r.prototype.now (length before - from) mu from before }
+            N.told_due result dst.new ≡ N.emitted s.straight s.phases s.phase_taps s.step delay.now r.prototype.now (length before - from) mu from before }
     {
         let mut next = mu;
         let mut written = from;
@@ -72,7 +73,7 @@ impl Setting {
         dst: &mut [f32],
         from: usize,
     ) -> Due
-        ensures { R.told_due result dst.new ≡ R.emitted_from self.straight self.phases self.phase_taps self.step delay.now prototype.now mu from dst.old }
+        ensures { N.told_due result dst.new ≡ N.emitted_from self.straight self.phases self.phase_taps self.step delay.now prototype.now mu from dst.old }
     {
         if !in_limits(self.phases, self.phase_taps) {
             return Due { mu, written: from };

@@ -4,7 +4,7 @@ ghost use Rattle.std.specs.Float.{nan, binary32};
 ghost use Rattle.std.specs.Float.Ieee.{le, to_unsigned};
 ghost use Rattle.float.specs.F32.{zero32, blend};
 ghost use Rattle.float.specs.PolyphaseOutput.{tap, straight_tap, cut_unit, first_place, phase_sum, output};
-ghost use Rattle.float.specs.PolyphaseResamp as R;
+ghost use Rattle.float.specs.PolyphaseOpening as R;
 ghost use Rattle.float.specs.inner.Running as N;
 
 use crate::cast::whole_part;

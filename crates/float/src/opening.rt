@@ -1,6 +1,7 @@
 // 01, section 5: a resampler opened and reset where its numbers and arrays lie, as C and the line hold them, so that no call makes a state of 4 KB.
 ghost use Rattle.std.specs.Prelude.{◌≡◌, true, false, take};
 ghost use Rattle.refusal.specs.Outcome.{number_in, told_reset};
+ghost use Rattle.float.specs.PolyphaseOpening as O;
 ghost use Rattle.float.specs.PolyphaseResamp as R;
 ghost use Rattle.float.specs.PolyphaseWhole as W;
 
@@ -9,7 +10,7 @@ use refusal::Refusal;
 
 // Of the cells so many are kept, and zeros stand behind them.
 fn keep(cells: &mut [f32; MOST_CELLS], count: usize)
-    ensures { cells.new ≡ R.packed (take count cells.old) }
+    ensures { cells.new ≡ O.packed (take count cells.old) }
 {
     cells[count.min(MOST_CELLS)..].fill(0.0);
 }
@@ -18,7 +19,7 @@ impl Setting {
     // Rows 12, 13 and 14 of a prototype of so many cells. Which steps are fine is the caller's: a line takes fewer than a resampler alone.
     #[tactic(auto, using(crate::proofs::PolyphaseOutput::few_cells, crate::proofs::PolyphaseOutput::limits_say))]
     pub fn settings_answer(self, cells: usize, step_fine: bool) -> Result<(), Refusal>
-        ensures { number_in result ≡ R.settings_number self.phases self.phase_taps cells step_fine }
+        ensures { number_in result ≡ O.settings_number self.phases self.phase_taps cells step_fine }
     {
         if !in_limits(self.phases, self.phase_taps) {
             return Err(Refusal::Phases);
@@ -35,22 +36,22 @@ impl Setting {
     // Those of a resampler alone.
     #[tactic(auto, using(crate::proofs::PolyphaseCalls::opening_number))]
     fn answer(self, prototype: &[f32]) -> Result<(), Refusal>
-        ensures { number_in result ≡ (R.opening self.straight self.phases self.phase_taps prototype.now self.step).number }
+        ensures { number_in result ≡ (O.opening self.straight self.phases self.phase_taps prototype.now self.step).number }
     {
         self.settings_answer(prototype.len(), above_zero(self.step))
     }
 
     // The fresh state of the prototype that stands in front of the cells. A leaf for the openings and resets here and the line's, which have looked at the settings: it
     // refuses nothing.
-    #[tactic(auto, unfolding(crate::specs::PolyphaseResamp::fresh, crate::specs::PolyphaseResamp::own_taps))]
+    #[tactic(auto, unfolding(crate::specs::PolyphaseOpening::fresh, crate::specs::PolyphaseOpening::own_taps))]
     pub fn begin(
         self,
         mu: &mut f32,
         delay: &mut [f32; MOST_PHASE_TAPS],
         cells: &mut [f32; MOST_CELLS],
     )
-        ensures { let own = R.own_taps (R.state_of self mu.old delay.old cells.old) in
-            R.state_of self mu.new delay.new cells.new ≡ R.fresh self.straight self.phases self.phase_taps own self.step }
+        ensures { let own = O.own_taps (R.state_of self mu.old delay.old cells.old) in
+            R.state_of self mu.new delay.new cells.new ≡ O.fresh self.straight self.phases self.phase_taps own self.step }
     {
         *mu = 1.0;
         delay.fill(0.0);
@@ -58,13 +59,13 @@ impl Setting {
     }
 
     // The state of a refused opening, and in the line of a resampler that is off. A leaf for both.
-    #[tactic(auto, unfolding(crate::specs::PolyphaseResamp::zeros))]
+    #[tactic(auto, unfolding(crate::specs::PolyphaseOpening::zeros))]
     pub fn clear(
         mu: &mut f32,
         delay: &mut [f32; MOST_PHASE_TAPS],
         cells: &mut [f32; MOST_CELLS],
     ) -> Setting
-        ensures { R.state_of result mu.new delay.new cells.new ≡ R.zeros }
+        ensures { R.state_of result mu.new delay.new cells.new ≡ O.zeros }
     {
         *mu = 0.0;
         delay.fill(0.0);
@@ -86,7 +87,7 @@ impl Setting {
         cells: &mut [f32; MOST_CELLS],
     ) -> Result<(), Refusal>
         ensures answer { told_reset result (R.state_of self.new mu.new delay.new cells.new)
-            ≡ R.opening self.old.straight self.old.phases self.old.phase_taps prototype.now self.old.step }
+            ≡ O.opening self.old.straight self.old.phases self.old.phase_taps prototype.now self.old.step }
         ensures whole { W.Opens self.old.straight self.old.phases self.old.phase_taps prototype.now self.old.step
             (told_reset result (R.state_of self.new mu.new delay.new cells.new)) }
     {
@@ -105,14 +106,14 @@ impl Setting {
     }
 
     // The fresh opening with the setting and the prototype that the state has. Refused by 15: the state stays.
-    #[tactic(auto, unfolding(crate::specs::PolyphaseResamp::valid, crate::specs::PolyphaseResamp::reset, crate::specs::PolyphaseWhole::Resets))]
+    #[tactic(auto, unfolding(crate::specs::PolyphaseOpening::valid, crate::specs::PolyphaseOpening::reset, crate::specs::PolyphaseWhole::Resets))]
     pub fn reset(
         self,
         mu: &mut f32,
         delay: &mut [f32; MOST_PHASE_TAPS],
         cells: &mut [f32; MOST_CELLS],
     ) -> Result<(), Refusal>
-        ensures answer { told_reset result (R.state_of self mu.new delay.new cells.new) ≡ R.reset (R.state_of self mu.old delay.old cells.old) }
+        ensures answer { told_reset result (R.state_of self mu.new delay.new cells.new) ≡ O.reset (R.state_of self mu.old delay.old cells.old) }
         ensures whole { W.Resets (R.state_of self mu.old delay.old cells.old) (told_reset result (R.state_of self mu.new delay.new cells.new)) }
     {
         self.state_answer(*mu)?;

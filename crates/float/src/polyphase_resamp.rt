@@ -1,6 +1,7 @@
 // 01, section 5: the polyphase resampler of f32 samples.
 ghost use Rattle.std.specs.Prelude.{◌≡◌, true, false};
 ghost use Rattle.refusal.specs.Outcome.{told_opened, told_on, told_reset, none_moved};
+ghost use Rattle.float.specs.PolyphaseOpening as O;
 ghost use Rattle.float.specs.PolyphaseResamp as R;
 ghost use Rattle.float.specs.inner.Running as N;
 ghost use Rattle.float.specs.PolyphaseWhole as W;
@@ -24,8 +25,8 @@ pub struct PolyphaseResampF32 {
 
 // An opening by the state's own setting, where its arrays lie; what else the state holds is not read. Refused by 12, 13, 14.
 fn opened(mut state: PolyphaseResampF32, prototype: &[f32]) -> Result<PolyphaseResampF32, Refusal>
-    ensures answer { told_opened R.zeros result ≡ R.opening state.straight state.phases state.taps prototype.now state.step }
-    ensures whole { W.Opens state.straight state.phases state.taps prototype.now state.step (told_opened R.zeros result) }
+    ensures answer { told_opened O.zeros result ≡ O.opening state.straight state.phases state.taps prototype.now state.step }
+    ensures whole { W.Opens state.straight state.phases state.taps prototype.now state.step (told_opened O.zeros result) }
 {
     let mut setting = state.setting();
     setting.open(
@@ -39,9 +40,9 @@ fn opened(mut state: PolyphaseResampF32, prototype: &[f32]) -> Result<PolyphaseR
 
 impl PolyphaseResampF32 {
     // The state that C is given of a refused opening, and in the line of a resampler that is off. `Setting::clear` clears a state that there is, and this makes one.
-    #[tactic(auto, unfolding(crate::specs::PolyphaseResamp::zeros))]
+    #[tactic(auto, unfolding(crate::specs::PolyphaseOpening::zeros))]
     pub fn zeros() -> Self
-        ensures { result ≡ R.zeros }
+        ensures { result ≡ O.zeros }
     {
         PolyphaseResampF32 {
             phases: 0,
@@ -56,9 +57,9 @@ impl PolyphaseResampF32 {
 
     // The state of an opening as a value: mu is 1.0, every delay zero, the prototype in front and zeros behind. It refuses nothing. `Setting::begin`, by which the openings
     // go, would not do: it keeps P × T places of a prototype, and this keeps all that there are places for.
-    #[tactic(auto, unfolding(crate::specs::PolyphaseResamp::fresh))]
+    #[tactic(auto, unfolding(crate::specs::PolyphaseOpening::fresh))]
     pub fn fresh(setting: Setting, prototype: &[f32]) -> Self
-        ensures { result ≡ R.fresh setting.straight setting.phases setting.phase_taps prototype.now setting.step }
+        ensures { result ≡ O.fresh setting.straight setting.phases setting.phase_taps prototype.now setting.step }
     {
         let count = prototype.len().min(MOST_CELLS);
         PolyphaseResampF32 {
@@ -92,8 +93,8 @@ impl PolyphaseResampF32 {
         prototype: &[f32],
         step: f32,
     ) -> Result<PolyphaseResampF32, Refusal>
-        ensures answer { told_opened R.zeros result ≡ R.opening false phases taps prototype.now step }
-        ensures whole { W.Opens false phases taps prototype.now step (told_opened R.zeros result) }
+        ensures answer { told_opened O.zeros result ≡ O.opening false phases taps prototype.now step }
+        ensures whole { W.Opens false phases taps prototype.now step (told_opened O.zeros result) }
     {
         opened(
             PolyphaseResampF32 {
@@ -114,8 +115,8 @@ impl PolyphaseResampF32 {
         prototype: &[f32],
         step: f32,
     ) -> Result<PolyphaseResampF32, Refusal>
-        ensures answer { told_opened R.zeros result ≡ R.opening true phases taps prototype.now step }
-        ensures whole { W.Opens true phases taps prototype.now step (told_opened R.zeros result) }
+        ensures answer { told_opened O.zeros result ≡ O.opening true phases taps prototype.now step }
+        ensures whole { W.Opens true phases taps prototype.now step (told_opened O.zeros result) }
     {
         opened(
             PolyphaseResampF32 {
@@ -151,7 +152,7 @@ impl PolyphaseResampF32 {
 
     // The fresh opening with the state's own settings and prototype. Refused by 15: the state stays.
     pub fn reset(&mut self) -> Result<(), Refusal>
-        ensures answer { told_reset result self.new ≡ R.reset self.old }
+        ensures answer { told_reset result self.new ≡ O.reset self.old }
         ensures whole { W.Resets self.old (told_reset result self.new) }
     {
         let setting = self.setting();

@@ -2,6 +2,7 @@
 // no call copies an array.
 ghost use Rattle.std.specs.Prelude.{◌≡◌, ◌+◌, ◌≤◌, ◌∷◌, take, drop};
 ghost use Rattle.refusal.specs.Outcome.{told_on, none_moved};
+ghost use Rattle.float.specs.PolyphaseOpening as O;
 ghost use Rattle.float.specs.PolyphaseResamp as R;
 ghost use Rattle.float.specs.inner.Running as N;
 
@@ -17,7 +18,7 @@ const TAPE: usize = 64 + MOST_PHASE_TAPS;
 
 // The sample x goes in before the newest on the tape; what it returns is x's place.
 fn take_in(tape: &mut [f32; TAPE], newest: usize, taps: usize, x: f32) -> usize
-    requires { (1 ≤ taps) × (taps ≤ R.most_taps) × (newest + taps ≤ 80) }
+    requires { (1 ≤ taps) × (taps ≤ O.most_taps) × (newest + taps ≤ 80) }
     ensures { (result + taps ≤ 80) × (take taps (drop result tape.new) ≡ take taps (x ∷ drop newest tape.old)) }
 {
     if newest == 0 {
@@ -72,7 +73,7 @@ impl Reading<'_> {
 
 impl Setting {
     // A block from mu on. Refused by 15.
-    #[tactic(auto, unfolding(crate::specs::PolyphaseResamp::valid, crate::specs::PolyphaseResamp::block_outcome, crate::specs::PolyphaseResamp::block_span))]
+    #[tactic(auto, unfolding(crate::specs::PolyphaseOpening::valid, crate::specs::PolyphaseResamp::block_outcome, crate::specs::PolyphaseResamp::block_span))]
     pub fn block(
         self,
         mu: &mut f32,
@@ -89,7 +90,7 @@ impl Setting {
     }
 
     // A pushed sample. Refused by 15.
-    #[tactic(auto, unfolding(crate::specs::PolyphaseResamp::valid, crate::specs::PolyphaseResamp::push_outcome, crate::specs::PolyphaseResamp::push_span))]
+    #[tactic(auto, unfolding(crate::specs::PolyphaseOpening::valid, crate::specs::PolyphaseResamp::push_outcome, crate::specs::PolyphaseResamp::push_span))]
     pub fn push(
         self,
         mu: &mut f32,

@@ -2,7 +2,7 @@
 ghost use Rattle.std.specs.Prelude.{◌≡◌, true, cond, IfOk};
 ghost use Rattle.refusal.specs.Outcome.{number_in};
 ghost use Rattle.float.specs.F32.{above_zero};
-ghost use Rattle.float.specs.PolyphaseResamp as R;
+ghost use Rattle.float.specs.PolyphaseOpening as R;
 
 use refusal::Refusal;
 
@@ -41,7 +41,7 @@ pub fn above_zero(x: f32) -> bool
 }
 
 // Whether P and T are inside their limits.
-#[tactic(auto, unfolding(crate::specs::PolyphaseResamp::in_limits, crate::specs::PolyphaseResamp::within))]
+#[tactic(auto, unfolding(crate::specs::PolyphaseOpening::in_limits, crate::specs::PolyphaseOpening::within))]
 pub fn in_limits(phases: usize, taps: usize) -> bool
     ensures { result ≡ R.in_limits phases taps }
 {
@@ -49,7 +49,7 @@ pub fn in_limits(phases: usize, taps: usize) -> bool
 }
 
 // Whether mu is from low to 1.0 + step as rounded.
-#[tactic(auto, unfolding(crate::specs::PolyphaseResamp::mu_from), using(crate::proofs::FloatRange::at_most))]
+#[tactic(auto, unfolding(crate::specs::PolyphaseOpening::mu_from), using(crate::proofs::FloatRange::at_most))]
 fn mu_from(low: f32, step: f32, mu: f32) -> bool
     ensures { result ≡ R.mu_from low step mu }
 {
@@ -57,7 +57,7 @@ fn mu_from(low: f32, step: f32, mu: f32) -> bool
 }
 
 // Whether a step is one that the line takes.
-#[tactic(auto, unfolding(crate::specs::PolyphaseResamp::step_in_line), using(crate::proofs::FloatRange::at_most))]
+#[tactic(auto, unfolding(crate::specs::PolyphaseOpening::step_in_line), using(crate::proofs::FloatRange::at_most))]
 pub fn step_in_line(step: f32) -> bool
     ensures { result ≡ R.step_in_line step }
 {
@@ -66,7 +66,7 @@ pub fn step_in_line(step: f32) -> bool
 
 impl Setting {
     // Whether a call at this mu is not refused by 15.
-    #[tactic(auto, unfolding(crate::specs::PolyphaseResamp::valid_at))]
+    #[tactic(auto, unfolding(crate::specs::PolyphaseOpening::valid_at))]
     pub fn is_valid(self, mu: f32) -> bool
         ensures { result ≡ R.valid_at self.phases self.phase_taps self.step mu }
     {
@@ -87,7 +87,7 @@ impl Setting {
     }
 
     // Whether a feed at this mu is not refused by 15: P = 0 means off.
-    #[tactic(auto, unfolding(crate::specs::PolyphaseResamp::valid_in_line_at))]
+    #[tactic(auto, unfolding(crate::specs::PolyphaseOpening::valid_in_line_at))]
     pub fn is_valid_in_line(self, mu: f32) -> bool
         ensures { result ≡ R.valid_in_line_at self.phases self.phase_taps self.step mu }
     {

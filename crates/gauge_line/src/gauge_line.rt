@@ -3,6 +3,7 @@ ghost use Rattle.std.specs.Prelude.{◌≡◌, true, ltb, length, drop};
 ghost use Rattle.theory.specs.Feeds.{head_of};
 ghost use Rattle.refusal.specs.declared.Moved.{Moved};
 ghost use Rattle.line.specs.Outputs.{Opening};
+ghost use Rattle.line.specs.Openings as B;
 ghost use Rattle.line.specs.Line as L;
 ghost use Rattle.line.specs.Lent as N;
 ghost use Rattle.line.specs.Demand3.{Demand3};
@@ -78,7 +79,7 @@ pub extern "C" fn gauge_raw_line_open_3(
         let wanted : Opening = record { settings = settings; taps = wanted_taps.now; prototype = wanted_prototype.now } in
         let after = line_at exit stages r integrators combs sample_counter taps tap_count factor fir_delay wait
         depth delays held counts phases phase_taps straight mu step delay prototype cuts thinning neighbours in
-        record { number = result; state = after } ≡ L.opened wanted) }
+        record { number = result; state = after } ≡ B.opened wanted) }
 {
     let settings = Settings {
         stages: wanted_stages,
@@ -163,10 +164,10 @@ pub extern "C" fn gauge_raw_line_reset(
         depth delays held counts phases phase_taps straight mu step delay prototype cuts thinning neighbours in
         let after = line_at exit stages r integrators combs sample_counter taps tap_count factor fir_delay wait
         depth delays held counts phases phase_taps straight mu step delay prototype cuts thinning neighbours in
-        record { number = result; state = after } ≡ L.reset before }
+        record { number = result; state = after } ≡ B.reset before }
     ensures accepted { let before = line_at entry stages r integrators combs sample_counter taps tap_count factor fir_delay wait
         depth delays held counts phases phase_taps straight mu step delay prototype cuts thinning neighbours in
-        L.valid before ≡ true → result ≡ 0 }
+        B.valid before ≡ true → result ≡ 0 }
 {
     let mut n = numbers(
         *stages,

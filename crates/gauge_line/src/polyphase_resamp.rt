@@ -1,5 +1,6 @@
 // `PolyphaseResampF32`: phases, taps, straight, mu, step, delay, prototype.
 ghost use Rattle.std.specs.Prelude.{◌≡◌, true, false};
+ghost use Rattle.float.specs.PolyphaseOpening as O;
 ghost use Rattle.float.specs.PolyphaseResamp as R;
 ghost use Rattle.float.specs.PolyphaseWhole as W;
 ghost use Rattle.gauge_line.specs.Crossing.{is_set};
@@ -55,7 +56,7 @@ pub extern "C" fn gauge_raw_polyphase_resamp_from_taps(
 ) -> usize
     ensures setting { IsFlag straight.new }
     ensures answer { let after = resampler_at exit phases taps straight mu step delay prototype in
-        record { number = result; state = after } ≡ R.opening false wanted_phases wanted_taps wanted_prototype.now wanted_step }
+        record { number = result; state = after } ≡ O.opening false wanted_phases wanted_taps wanted_prototype.now wanted_step }
     ensures whole { let after = resampler_at exit phases taps straight mu step delay prototype in
         W.Opens false wanted_phases wanted_taps wanted_prototype.now wanted_step (record { number = result; state = after }) }
 {
@@ -86,7 +87,7 @@ pub extern "C" fn gauge_raw_polyphase_resamp_from_taps_straight(
 ) -> usize
     ensures setting { IsFlag straight.new }
     ensures answer { let after = resampler_at exit phases taps straight mu step delay prototype in
-        record { number = result; state = after } ≡ R.opening true wanted_phases wanted_taps wanted_prototype.now wanted_step }
+        record { number = result; state = after } ≡ O.opening true wanted_phases wanted_taps wanted_prototype.now wanted_step }
     ensures whole { let after = resampler_at exit phases taps straight mu step delay prototype in
         W.Opens true wanted_phases wanted_taps wanted_prototype.now wanted_step (record { number = result; state = after }) }
 {
@@ -114,7 +115,7 @@ pub extern "C" fn gauge_raw_polyphase_resamp_reset(
     ensures setting { IsFlag straight.new }
     ensures answer { let before = resampler_at entry phases taps straight mu step delay prototype in
         let after = resampler_at exit phases taps straight mu step delay prototype in
-        record { number = result; state = after } ≡ R.reset before }
+        record { number = result; state = after } ≡ O.reset before }
     ensures whole { let before = resampler_at entry phases taps straight mu step delay prototype in
         let after = resampler_at exit phases taps straight mu step delay prototype in
         W.Resets before (record { number = result; state = after }) }

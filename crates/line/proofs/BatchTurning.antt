@@ -16,13 +16,16 @@ use Rattle.nonrecursive.specs.EitherKind.{valid_at, fine, either}
 use Rattle.q15.specs.Fixed.{cut, cut_count}
 use Rattle.q15.specs.FirDecimator.{summing}
 use Rattle.q15.specs.FirDecimator as Q
-use Rattle.float.specs.PolyphaseResamp.{Emitted, emitted_from, in_line, valid_in_line}
+use Rattle.float.specs.PolyphaseOpening.{valid_in_line}
+use Rattle.float.specs.inner.Running.{Emitted, emitted_from}
+use Rattle.float.specs.PolyphaseResamp.{in_line}
 use Rattle.float.specs.inner.Running.{setting_of}
 use Rattle.float.specs.declared.settings.Setting.{Setting}
 use Rattle.chain.specs.Chain.{Parts, from2, chain}
 use Rattle.chain.specs.Cuts.{most_cuts}
 use Rattle.chain.specs.inner.Batched.{Whole, Batched, Leaves, most_sums}
-use Rattle.line.specs.Line.{line, thinner_of, parts_of}
+use Rattle.line.specs.Openings.{thinner_of}
+use Rattle.line.specs.Line.{line, parts_of}
 use Rattle.line.specs.declared.gauge_line.Line.{Line}
 use Rattle.std.proofs.lemmas.Bool.{and_parts}
 use Rattle.line.proofs.Lawful.{Good, line_lawful, to_parts}

@@ -23,7 +23,8 @@ use Rattle.q15.specs.FirDecimator.{summing}
 use Rattle.chain.specs.Chain.{Parts, chain}
 use Rattle.chain.specs.Cuts.{most_cuts}
 use Rattle.chain.specs.inner.Batched.{Whole, Batched}
-use Rattle.line.specs.Line.{thinner_of, parts_of, counted_of, of_counted, cuts_at, line, valid, fed_line}
+use Rattle.line.specs.Openings.{thinner_of, valid}
+use Rattle.line.specs.Line.{parts_of, counted_of, of_counted, cuts_at, line, fed_line}
 use Rattle.line.specs.inner.Together.{Begun, RanTo}
 use Rattle.line.specs.declared.gauge_line.Line.{Line}
 use Rattle.line.proofs.Lawful.{Good, line_lawful}

@@ -29,7 +29,8 @@ use Rattle.q15.proofs.FirStream.{line_summed}
 use Rattle.line.specs.Outputs.{Opening, cuts_of, held_cuts}
 use Rattle.chain.specs.Chain.{from3}
 use Rattle.chain.specs.Cuts.{most_cuts}
-use Rattle.line.specs.Line.{thinner_of, parts_of, sum_cut, cuts_for, line, fresh}
+use Rattle.line.specs.Openings.{thinner_of, fresh}
+use Rattle.line.specs.Line.{parts_of, sum_cut, cuts_for, line}
 use Rattle.line.specs.declared.gauge_line.Line.{Line}
 use Rattle.line.proofs.Openings.{Accepted}
 

@@ -17,7 +17,8 @@ use Rattle.theory.proofs.Kept.{kept}
 use Rattle.refusal.specs.Outcome.{Outcome}
 use Rattle.refusal.specs.declared.Moved.{Moved}
 use Rattle.line.specs.Outputs.{Opening, Outputs}
-use Rattle.line.specs.Line.{line, valid, fed_line, feed_outcome, feed_span, opened, opened_by, fresh}
+use Rattle.line.specs.Openings.{valid, opened, opened_by, fresh}
+use Rattle.line.specs.Line.{line, fed_line, feed_outcome, feed_span}
 use Rattle.line.specs.inner.Together.{RanTo}
 use Rattle.line.specs.Demand3.{History, none_yet, fed, line_of, taken_of, written_of, Kept, Defined, Demand3}
 use Rattle.line.specs.declared.gauge_line.Line.{Line}

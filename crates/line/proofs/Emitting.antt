@@ -14,7 +14,9 @@ use Rattle.theory.proofs.FeedLoop.{Midway, after_wrote}
 use Rattle.theory.proofs.Steps.{step_wrote}
 use Rattle.float.specs.F32.{one32}
 use Rattle.float.specs.PolyphaseOutput.{output}
-use Rattle.float.specs.PolyphaseResamp.{in_limits, in_line, is_on, output_of, passed, Emitted, emitted, emitted_from}
+use Rattle.float.specs.PolyphaseOpening.{in_limits}
+use Rattle.float.specs.inner.Running.{Emitted, emitted, emitted_from}
+use Rattle.float.specs.PolyphaseResamp.{in_line, is_on, output_of, passed}
 use Rattle.float.proofs.PolyphaseOutput.{limits_say}
 use Rattle.float.proofs.DueOutputs.{emitted_keeps, emitted_all}
 use Rattle.float.specs.PolyphaseResamp as R

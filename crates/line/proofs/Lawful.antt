@@ -19,7 +19,8 @@ use Rattle.q15.specs.FirDecimator as Q
 use Rattle.q15.specs.declared.fir_decimator.FirDecimator.{FirDecimator}
 use Rattle.q15.proofs.FirSteps.{line_next}
 use Rattle.half_band.specs.HbfStream.{hbf_stream}
-use Rattle.float.specs.PolyphaseResamp.{in_line, valid_in_line}
+use Rattle.float.specs.PolyphaseOpening.{valid_in_line}
+use Rattle.float.specs.PolyphaseResamp.{in_line}
 use Rattle.half_band.specs.declared.hbf_stream.HbfStream.{HbfStream}
 use Rattle.float.specs.declared.polyphase_resamp.PolyphaseResampF32.{PolyphaseResampF32}
 use Rattle.half_band.proofs.HeldOnes.{line_next_not_refused}
@@ -27,7 +28,8 @@ use Rattle.float.proofs.PolyphaseRange as Res
 use Rattle.float.specs.Level.{level}
 use Rattle.chain.specs.Chain.{Parts, from3, from4, from5, chain}
 use Rattle.chain.specs.Cuts.{most_cuts}
-use Rattle.line.specs.Line.{thinner_of, parts_of, counted_of, of_counted, cuts_at, line, half_band_fine, valid}
+use Rattle.line.specs.Openings.{thinner_of, half_band_fine, valid}
+use Rattle.line.specs.Line.{parts_of, counted_of, of_counted, cuts_at, line}
 use Rattle.line.specs.declared.gauge_line.Line.{Line}
 use Rattle.std.proofs.lemmas.Bool.{and_parts, and_from, not-true, not_from_false}
 

@@ -10,13 +10,15 @@ use lib.Seq.{length-take-le}
 use borrow.Author.Tests.{le-ltb, eq-eqb}
 use Rattle.nonrecursive.specs.EitherKind as E
 use Rattle.nonrecursive.proofs.EitherKind.{either_below, either_settings}
-use Rattle.float.specs.PolyphaseResamp.{in_limits, in_line, is_on, valid_in_line}
+use Rattle.float.specs.PolyphaseOpening.{in_limits, valid_in_line}
+use Rattle.float.specs.PolyphaseResamp.{in_line, is_on}
 use Rattle.q15.specs.FirDecimator.{most_taps, settings_number_in_line}
 use Rattle.q15.proofs.FirSteps.{valid_few, settings_valid}
 use Rattle.half_band.proofs.HeldOnes.{line_few}
 use Rattle.float.proofs.PolyphaseOutput.{limits_say}
 use Rattle.float.proofs.PolyphaseRange.{on_in_limits, on_step}
-use Rattle.line.specs.Line.{line, valid, thinner_of, half_band_fine, depth_number, resampler_number, number_at, opened, opening_of, reset}
+use Rattle.line.specs.Openings.{valid, thinner_of, half_band_fine, depth_number, resampler_number, number_at, opened, opening_of, reset}
+use Rattle.line.specs.Line.{line}
 use Rattle.line.specs.inner.Together.{valid_at}
 use Rattle.line.specs.Lent.{numbers_in}
 use Rattle.line.specs.declared.gauge_line.Line.{Line}

@@ -26,8 +26,9 @@ use Rattle.q15.proofs.FirOpenings as FirOpening
 use Rattle.half_band.specs.HalfBand.{decimated_by}
 use Rattle.half_band.specs.HbfTaps.{stage_taps, decimation}
 use Rattle.half_band.specs.HbfStream.{hbf_stream, stream_fresh}
-use Rattle.float.specs.PolyphaseResamp.{in_line, in_limits, step_in_line, valid_in_line}
-use Rattle.float.specs.PolyphaseResamp as R
+use Rattle.float.specs.PolyphaseOpening.{in_limits, step_in_line, valid_in_line}
+use Rattle.float.specs.PolyphaseResamp.{in_line}
+use Rattle.float.specs.PolyphaseOpening as R
 use Rattle.float.specs.declared.polyphase_resamp.PolyphaseResampF32.{PolyphaseResampF32}
 use Rattle.half_band.proofs.HeldOnes.{line_fresh_not_refused, fresh_whole}
 use Rattle.float.proofs.PolyphaseRange.{line_fresh, line_off}
@@ -35,7 +36,8 @@ use Rattle.float.proofs.PolyphaseWhole.{becomes_all, becomes_one, off_hands_on}
 use Rattle.float.specs.Level.{level}
 use Rattle.refusal.proofs.Limits.{first_none}
 use Rattle.line.specs.Outputs.{Opening, levels, Resampled, Outputs}
-use Rattle.line.specs.Line.{line, half_band_fine, valid, depth_number, resampler_number, number_at, opening_number_of, resampler_fresh, fresh}
+use Rattle.line.specs.Openings.{half_band_fine, valid, depth_number, resampler_number, number_at, opening_number_of, resampler_fresh, fresh}
+use Rattle.line.specs.Line.{line}
 use Rattle.std.proofs.lemmas.Bool.{and_from, not_from_false}
 use Rattle.line.proofs.Lawful.{line_all}
 

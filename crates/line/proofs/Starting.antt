@@ -16,7 +16,7 @@ use Rattle.half_band.specs.HbfStream.{stream_fresh}
 use Rattle.half_band.specs.declared.hbf_stream.HbfStream.{HbfStream}
 use Rattle.float.specs.declared.polyphase_resamp.PolyphaseResampF32.{PolyphaseResampF32}
 use Rattle.float.proofs.PolyphaseOutput.{few_cells, limits_say}
-use Rattle.line.specs.Line.{valid, opening_number_of, resampler_fresh, fresh, zeros, opened_by, opened, opening_of, reset}
+use Rattle.line.specs.Openings.{valid, opening_number_of, resampler_fresh, fresh, zeros, opened_by, opened, opening_of, reset}
 use Rattle.line.specs.Outputs.{Opening}
 use Rattle.line.specs.declared.gauge_line.Line.{Line}
 use Rattle.line.proofs.Numbers.{few_taps, reset_opens}

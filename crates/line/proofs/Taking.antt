@@ -14,7 +14,8 @@ use Rattle.q15.specs.Fixed.{cut, cut_one}
 use Rattle.q15.specs.FirDecimator.{fir_sum_out}
 use Rattle.chain.specs.Chain.{Parts2, Parts3, from3}
 use Rattle.chain.specs.Cuts.{most_cuts}
-use Rattle.line.specs.Line.{thinner_of, parts_of, of_counted, sum_cut, line}
+use Rattle.line.specs.Openings.{thinner_of}
+use Rattle.line.specs.Line.{parts_of, of_counted, sum_cut, line}
 use Rattle.line.specs.inner.Together.{Takes}
 use Rattle.line.specs.declared.gauge_line.Line.{Line}
 

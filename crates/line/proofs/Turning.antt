@@ -20,18 +20,21 @@ use Rattle.integer.specs.Stages.{ran}
 use Rattle.nonrecursive.specs.EitherKind.{kind_of, next_by, out_by}
 use Rattle.nonrecursive.proofs.EitherKind.{either_answers}
 use Rattle.chain.specs.Chain.{from2}
-use Rattle.line.specs.Line.{thinner_of, parts_of}
+use Rattle.line.specs.Openings.{thinner_of}
+use Rattle.line.specs.Line.{parts_of}
 use Rattle.line.proofs.Lawful.{to_parts}
 use Rattle.line.proofs.Taking.{line_waits}
 use Rattle.std.specs.Prelude.{cond}
-use Rattle.float.specs.PolyphaseResamp.{Emitted, emitted_from, in_line, is_on}
+use Rattle.float.specs.inner.Running.{Emitted, emitted_from}
+use Rattle.float.specs.PolyphaseResamp.{in_line, is_on}
 use Rattle.float.specs.inner.Running.{setting_of}
 use Rattle.float.specs.declared.settings.Setting.{Setting}
 use Rattle.chain.specs.declared.arrays.Arrays.{Arrays}
 use Rattle.chain.specs.declared.clock.Clock.{Clock}
 use Rattle.chain.specs.declared.fixed.Fixed.{Fixed}
 use Rattle.nonrecursive.specs.declared.thinning.Thinning.TheVariants as thinning
-use Rattle.line.specs.Line.{line, fed_line, valid}
+use Rattle.line.specs.Openings.{valid}
+use Rattle.line.specs.Line.{line, fed_line}
 use Rattle.line.specs.inner.Together.{Takes, RanTo, line_held, due_at}
 use Rattle.line.specs.declared.gauge_line.Line.{Line}
 use Rattle.line.proofs.Lawful.{Good, line_lawful}

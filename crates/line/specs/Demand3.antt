@@ -5,7 +5,8 @@ use Rattle.theory.specs.Lists.{but_last}
 use Rattle.refusal.specs.Outcome.{Outcome}
 use Rattle.refusal.specs.declared.Moved.{Moved}
 use Rattle.line.specs.Outputs.{Opening, Outputs, held_cuts}
-use Rattle.line.specs.Line.{feed_outcome, feed_span, opened}
+use Rattle.line.specs.Openings.{opened}
+use Rattle.line.specs.Line.{feed_outcome, feed_span}
 use Rattle.line.specs.declared.gauge_line.Line.{Line}
 
 -- the feeds since the opening, the latest outermost: the samples and the span that each lent

@@ -1,4 +1,5 @@
 pub mod Outputs
+pub mod Openings
 pub mod Line
 pub mod Lent
 pub mod Demand3

@@ -4,7 +4,7 @@ ghost use Rattle.std.specs.Prelude.{◌≡◌, true, false, [], ◌+◌, ◌<◌
 ghost use Rattle.nonrecursive.specs.EitherKind as E;
 ghost use Rattle.nonrecursive.specs.declared.thinning.Thinning.TheVariants as thinning;
 ghost use Rattle.chain.specs.Same.{Same};
-ghost use Rattle.line.specs.Line as L;
+ghost use Rattle.line.specs.Openings as L;
 ghost use Rattle.line.specs.inner.Together as T;
 
 use crate::sample::sample_in;

@@ -2,7 +2,7 @@
 // many samples and outputs a step has does not depend on the samples, so a batch is as long as leaves a place of the span before its last sum.
 ghost use Rattle.std.specs.Prelude.{◌≡◌, true, ◌≤◌};
 ghost use Rattle.chain.specs.Same.{Same};
-ghost use Rattle.line.specs.Line as L;
+ghost use Rattle.line.specs.Openings as L;
 ghost use Rattle.line.specs.inner.Together as T;
 
 use crate::validity::Checked;

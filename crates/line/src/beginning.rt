@@ -4,8 +4,9 @@ ghost use Rattle.refusal.specs.Outcome.{number_in, told_reset};
 ghost use Rattle.nonrecursive.specs.NonrecursiveDecimator.{most_neighbours};
 ghost use Rattle.q15.specs.FirDecimator.{most_taps, fir_state, fresh_in_line};
 ghost use Rattle.half_band.specs.HbfStream.{stream_of, stream_fresh};
+ghost use Rattle.float.specs.PolyphaseOpening as O;
 ghost use Rattle.float.specs.PolyphaseResamp as R;
-ghost use Rattle.line.specs.Line as L;
+ghost use Rattle.line.specs.Openings as L;
 ghost use Rattle.line.specs.Placed as P;
 ghost use Rattle.line.specs.inner.Numbers.{own_opening};
 
@@ -84,7 +85,7 @@ fn begin_half_band(
 }
 
 // Section 5 before the first level, of the prototype that stands in front of its array. No phases: off.
-#[tactic(auto, unfolding(crate::specs::Line::resampler_fresh, float::specs::PolyphaseResamp::own_taps))]
+#[tactic(auto, unfolding(crate::specs::Openings::resampler_fresh, float::specs::PolyphaseOpening::own_taps))]
 fn begin_resampler(
     s: Settings,
     mu: &mut f32,
@@ -144,7 +145,7 @@ fn put_taps(own: &mut [i16; MOST_TAPS], taps: &[i16])
 
 // A prototype in front of its array; of a resampler that is off one may be longer than that, and is not looked at.
 fn put_prototype(own: &mut [f32; MOST_CELLS], prototype: &[f32])
-    ensures { length prototype.now ≤ R.most_cells → take (length prototype.now) own.new ≡ prototype.now }
+    ensures { length prototype.now ≤ O.most_cells → take (length prototype.now) own.new ≡ prototype.now }
 {
     let count = prototype.len().min(MOST_CELLS);
     own[..count].copy_from_slice(&prototype[..count]);

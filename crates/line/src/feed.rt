@@ -5,7 +5,7 @@ ghost use Rattle.integer.specs.Stages.{ran};
 ghost use Rattle.nonrecursive.specs.EitherKind as E;
 ghost use Rattle.nonrecursive.specs.declared.thinning.Thinning.TheVariants as thinning;
 ghost use Rattle.chain.specs.Same.{Same};
-ghost use Rattle.line.specs.Line as L;
+ghost use Rattle.line.specs.Openings as L;
 ghost use Rattle.line.specs.inner.Together as T;
 
 use crate::alone::{feed_one, takes_one, thin_apart, waits_one};

@@ -2,6 +2,7 @@
 ghost use Rattle.std.specs.Prelude.{◌≡◌, true, length, drop};
 ghost use Rattle.theory.specs.Feeds.{head_of};
 ghost use Rattle.refusal.specs.Outcome.{number_in, told_opened, told_on, told_reset, none_moved};
+ghost use Rattle.line.specs.Openings as B;
 ghost use Rattle.line.specs.Line as L;
 ghost use Rattle.line.specs.Lent as N;
 ghost use Rattle.line.specs.inner.Numbers.{with_clock};
@@ -38,9 +39,9 @@ pub struct Line {
 }
 
 // Each part as its refused opening leaves it, which is zeros.
-#[tactic(auto, unfolding(crate::specs::Line::zeros))]
+#[tactic(auto, unfolding(crate::specs::Openings::zeros))]
 pub fn zeros() -> Line
-    ensures { result ≡ L.zeros }
+    ensures { result ≡ B.zeros }
 {
     Line {
         thinning: Thinning::Integrators,
@@ -81,7 +82,7 @@ pub fn numbers_in(l: &Line) -> LineNumbers
 
 // Whether no call on the line is refused by 15.
 pub fn line_valid(l: &Line) -> bool
-    ensures { result ≡ L.valid l.now }
+    ensures { result ≡ B.valid l.now }
 {
     numbers_valid(numbers_in(l), &l.half_band.counts)
 }
@@ -89,7 +90,7 @@ pub fn line_valid(l: &Line) -> bool
 impl Line {
     // The first refusal of 01's table that applies, in its order, or the line. No taps: no FIR. Depth 0: no half-band stages. No phases: no resampler.
     pub fn open(settings: Settings, taps: &[i16], prototype: &[f32]) -> Result<Line, Refusal>
-        ensures answer { told_opened L.zeros result ≡ L.opened (record { settings = settings; taps = taps.now; prototype = prototype.now }) }
+        ensures answer { told_opened B.zeros result ≡ B.opened (record { settings = settings; taps = taps.now; prototype = prototype.now }) }
     {
         let mut line = zeros();
         let mut n = numbers_in(&line);
@@ -190,8 +191,8 @@ impl Line {
 
     // The fresh opening with the line's own settings, taps and prototype. Refusal 15, and no other: a valid line's own settings open.
     pub fn reset(&mut self) -> Result<(), Refusal>
-        ensures answer { told_reset result self.new ≡ L.reset self.old }
-        ensures accepted { L.valid self.old ≡ true → number_in result ≡ 0 }
+        ensures answer { told_reset result self.new ≡ B.reset self.old }
+        ensures accepted { B.valid self.old ≡ true → number_in result ≡ 0 }
     {
         let mut own = numbers_in(self);
         let mut lent = Places {

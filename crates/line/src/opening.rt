@@ -2,7 +2,7 @@
 ghost use Rattle.std.specs.Prelude.{◌≡◌};
 ghost use Rattle.refusal.specs.Outcome.{number_in};
 ghost use Rattle.nonrecursive.specs.EitherKind.{settings_number};
-ghost use Rattle.line.specs.Line as L;
+ghost use Rattle.line.specs.Openings as L;
 
 use chain::settings::Settings;
 use float::settings::step_in_line;
@@ -25,7 +25,7 @@ fn thinning_answer(thinning: Thinning, stages: usize, r: usize) -> Result<(), Re
     Ok(())
 }
 
-#[tactic(auto, unfolding(crate::specs::Line::depth_number))]
+#[tactic(auto, unfolding(crate::specs::Openings::depth_number))]
 fn depth_answer(depth: usize) -> Result<(), Refusal>
     ensures { number_in result ≡ L.depth_number depth }
 {
@@ -36,7 +36,7 @@ fn depth_answer(depth: usize) -> Result<(), Refusal>
 }
 
 // No phases: off, and nothing else is looked at.
-#[tactic(auto, unfolding(crate::specs::Line::resampler_number))]
+#[tactic(auto, unfolding(crate::specs::Openings::resampler_number))]
 fn resampler_answer(s: Settings, cells: usize) -> Result<(), Refusal>
     ensures { number_in result ≡ L.resampler_number s.phases s.phase_taps cells s.step }
 {

@@ -2,7 +2,7 @@
 ghost use Rattle.std.specs.Prelude.{◌≡◌, true};
 ghost use Rattle.theory.specs.Feeds.{step};
 ghost use Rattle.nonrecursive.specs.EitherKind as E;
-ghost use Rattle.float.specs.PolyphaseResamp.{in_limits};
+ghost use Rattle.float.specs.PolyphaseOpening.{in_limits};
 ghost use Rattle.chain.specs.Same.{Same};
 ghost use Rattle.line.specs.Line as L;
 ghost use Rattle.line.specs.inner.Together as T;

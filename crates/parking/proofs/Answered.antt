@@ -11,7 +11,7 @@ use Rattle.refusal.specs.Outcome.{Answer, count_answer}
 use Rattle.refusal.specs.Table.{number_of}
 use Rattle.refusal.specs.declared.Refusal.{Refusal}
 use Rattle.refusal.proofs.Table.{number_positive}
-use Rattle.line.specs.Line.{valid}
+use Rattle.line.specs.Openings.{valid}
 use Rattle.line.specs.declared.gauge_line.Line.{Line}
 use Rattle.parking.specs.Parked.{panel}
 use Rattle.parking.specs.Parking.{parked_line, length_answer, park_answer, park_span, sheet_answer, sheet_span}

@@ -9,10 +9,10 @@ use Rattle.q15.specs.declared.fir_decimator.FirDecimator.{FirDecimator}
 use Rattle.half_band.specs.declared.hbf_stream.HbfStream.{HbfStream}
 use Rattle.float.specs.F32.{zero32}
 use Rattle.float.specs.PolyphaseResamp.{together}
-use Rattle.float.specs.PolyphaseResamp as R
+use Rattle.float.specs.PolyphaseOpening as R
 use Rattle.float.specs.declared.polyphase_resamp.PolyphaseResampF32.{PolyphaseResampF32}
 use Rattle.words.specs.Fields.{IsFloat}
-use Rattle.line.specs.Line.{valid}
+use Rattle.line.specs.Openings.{valid}
 use Rattle.line.specs.declared.gauge_line.Line.{Line}
 use Rattle.parking.specs.Entries.{fir_on, resampler_on, settings_in, tap_bytes, delay_bytes, prototype_bytes, resampler_bytes, entries_of, thin_entries, entries_by, line_entries}
 use Rattle.parking.specs.Kept.{line_by, line_kept}

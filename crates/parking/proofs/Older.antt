@@ -19,8 +19,8 @@ use Rattle.q15.specs.FirDecimator.{fir_state, fir_zeros}
 use Rattle.q15.specs.declared.fir_decimator.FirDecimator.{FirDecimator}
 use Rattle.half_band.specs.declared.hbf_stream.HbfStream.{HbfStream}
 use Rattle.float.specs.declared.polyphase_resamp.PolyphaseResampF32.{PolyphaseResampF32}
-use Rattle.line.specs.Line.{valid}
-use Rattle.line.specs.Line as L
+use Rattle.line.specs.Openings.{valid}
+use Rattle.line.specs.Openings as L
 use Rattle.line.specs.declared.gauge_line.Line.{Line}
 use Rattle.std.proofs.lemmas.Bool.{and_parts, and_from}
 use Rattle.line.proofs.Lawful.{to_parts}

@@ -23,11 +23,12 @@ use Rattle.q15.specs.declared.fir_decimator.FirDecimator.{FirDecimator}
 use Rattle.q15.proofs.FirSteps.{valid_on, line_valid}
 use Rattle.half_band.specs.declared.hbf_stream.HbfStream.{HbfStream}
 use Rattle.half_band.proofs.HeldOnes.{refused_says, line_refused_says}
-use Rattle.float.specs.PolyphaseResamp.{valid_in_line}
-use Rattle.float.specs.PolyphaseResamp as R
+use Rattle.float.specs.PolyphaseOpening.{valid_in_line}
+use Rattle.float.specs.PolyphaseOpening as R
 use Rattle.float.specs.declared.polyphase_resamp.PolyphaseResampF32.{PolyphaseResampF32}
 use Rattle.line.specs.Outputs.{Opening}
-use Rattle.line.specs.Line.{thinner_of, half_band_fine, opened, feed_outcome, feed_span, reset}
+use Rattle.line.specs.Openings.{thinner_of, half_band_fine, opened, reset}
+use Rattle.line.specs.Line.{feed_outcome, feed_span}
 use Rattle.line.specs.Demand3 as D
 use Rattle.line.specs.declared.gauge_line.Line.{Line}
 use Rattle.std.proofs.lemmas.Bool.{and_from, not-true}

@@ -41,12 +41,14 @@ use Rattle.half_band.proofs.Stages.{Sized, stages_from, found, elsewhere}
 use Rattle.half_band.proofs.HeldOnes.{refused_says, not_refused, line_not_refused, line_refused_says}
 use Rattle.float.specs.F32.{zero32}
 use Rattle.float.specs.Level.{level}
-use Rattle.float.specs.PolyphaseResamp.{in_line, valid_in_line, valid_in_line_at}
-use Rattle.float.specs.PolyphaseResamp as R
+use Rattle.float.specs.PolyphaseOpening.{valid_in_line, valid_in_line_at}
+use Rattle.float.specs.PolyphaseResamp.{in_line}
+use Rattle.float.specs.PolyphaseOpening as R
 use Rattle.float.specs.declared.polyphase_resamp.PolyphaseResampF32.{PolyphaseResampF32}
 use Rattle.chain.specs.Chain.{Parts, from3, from4, chain}
 use Rattle.chain.specs.Cuts.{most_cuts}
-use Rattle.line.specs.Line.{thinner_of, parts_of, cuts_for, sum_cut, line, half_band_fine, valid, fed_line, feed_outcome, feed_span}
+use Rattle.line.specs.Openings.{thinner_of, half_band_fine, valid}
+use Rattle.line.specs.Line.{parts_of, cuts_for, sum_cut, line, fed_line, feed_outcome, feed_span}
 use Rattle.line.specs.Demand3.{History, none_yet, fed}
 use Rattle.line.specs.declared.gauge_line.Line.{Line}
 use Rattle.std.proofs.lemmas.Bool.{not-true, not_from_false}

@@ -22,7 +22,7 @@ use Rattle.half_band.specs.inner.FiveStages.{decimation_five}
 use Rattle.half_band.proofs.Streaming.{depth_next}
 use Rattle.float.specs.F32.{zero32}
 use Rattle.float.specs.PolyphaseResamp.{shifted_in, consumed, passed}
-use Rattle.float.specs.PolyphaseResamp as R
+use Rattle.float.specs.PolyphaseOpening as R
 use Rattle.float.specs.declared.polyphase_resamp.PolyphaseResampF32.{PolyphaseResampF32}
 use Rattle.parking.specs.Entries.{window_of}
 use Rattle.words.specs.Fields.{All, IsFloat}

@@ -34,13 +34,16 @@ use Rattle.half_band.specs.declared.hbf_stream.HbfStream.{HbfStream}
 use Rattle.half_band.proofs.HeldOnes.{line_few}
 use Rattle.float.specs.F32.{zero32, one32}
 use Rattle.float.specs.Level.{level}
-use Rattle.float.specs.PolyphaseResamp.{in_line, in_limits, within, is_on, valid_in_line, valid_in_line_at, packed}
+use Rattle.float.specs.PolyphaseOpening.{in_limits, within, valid_in_line, valid_in_line_at, packed}
+use Rattle.float.specs.PolyphaseResamp.{in_line, is_on}
+use Rattle.float.specs.PolyphaseOpening as O
 use Rattle.float.specs.PolyphaseResamp as R
 use Rattle.float.specs.declared.polyphase_resamp.PolyphaseResampF32.{PolyphaseResampF32}
 use Rattle.line.specs.Outputs.{Opening}
 use Rattle.chain.specs.Chain.{Parts, from3, from4, from5, chain}
 use Rattle.chain.specs.Cuts.{most_cuts}
-use Rattle.line.specs.Line.{thinner_of, parts_of, cuts_at, line, half_band_fine, valid, resampler_fresh, fresh, opened}
+use Rattle.line.specs.Openings.{thinner_of, half_band_fine, valid, resampler_fresh, fresh, opened}
+use Rattle.line.specs.Line.{parts_of, cuts_at, line}
 use Rattle.line.specs.Demand3.{History, none_yet, fed, line_of}
 use Rattle.line.specs.declared.gauge_line.Line.{Line}
 use Rattle.std.proofs.lemmas.Bool.{and_parts, not-true}
@@ -226,8 +229,8 @@ fir_fresh c D e a = go (eqb (length c) 0) refl
         let i = settings_in_lem (length c) D (line_settings (length c) D n e) in
         record { taps = padded_used (SFits w16) (pos 0) most_taps c i.few a zero_i16; delay = used_fresh (SFits w16) (pos 0) (length c) most_taps zero_i16; off = λ z. absurd (n z) }
 
-pub resampler_off : ResamplerWhole R.zeros
-unfolding R.zeros
+pub resampler_off : ResamplerWhole O.zeros
+unfolding O.zeros
 resampler_off =
     record {
       delay = used_fresh IsFloat zero32 0 16 zero_f32;
@@ -253,8 +256,8 @@ half_fresh n =
     }
 
 module _ (o : Opening) (acc : Accepted o) (ty : Typed o) where
-  resampler_on_lem : (On o) → (o.settings.phases ≡ 0 → ⊥) → ResamplerWhole (R.fresh o.settings.straight o.settings.phases o.settings.phase_taps o.prototype o.settings.step)
-  unfolding R.fresh packed
+  resampler_on_lem : (On o) → (o.settings.phases ≡ 0 → ⊥) → ResamplerWhole (O.fresh o.settings.straight o.settings.phases o.settings.phase_taps o.prototype o.settings.step)
+  unfolding O.fresh packed
   resampler_on_lem on n =
       let t = limits_taps o.settings.phases o.settings.phase_taps on.limits in
       let m : o.settings.phases * o.settings.phase_taps ≤ 64 * 16 = mul-le-mul t.0 t.1 in
@@ -278,7 +281,7 @@ module _ (o : Opening) (acc : Accepted o) (ty : Typed o) where
         cuts = omega arith;
       }
     where
-      go : (b : Bool) → eqb o.settings.phases 0 ≡ b → ResamplerWhole (cond b R.zeros (R.fresh o.settings.straight o.settings.phases o.settings.phase_taps o.prototype o.settings.step))
+      go : (b : Bool) → eqb o.settings.phases 0 ≡ b → ResamplerWhole (cond b O.zeros (O.fresh o.settings.straight o.settings.phases o.settings.phase_taps o.prototype o.settings.step))
       go true e = resampler_off
       go false e = let n = eqb-false o.settings.phases 0 e in resampler_on_lem (acc.resampler n) n
 

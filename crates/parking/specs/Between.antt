@@ -3,7 +3,8 @@ use Rattle.std.specs.Prelude.{◌≡◌, cond, List, ℕ, ◌≤◌, ℤ, Float,
 use Rattle.std.specs.Int.{w16}
 use Rattle.std.proofs.Common.{SFits}
 use Rattle.line.specs.Outputs.{Opening}
-use Rattle.line.specs.Line.{feed_outcome, feed_span, opened, reset}
+use Rattle.line.specs.Openings.{opened, reset}
+use Rattle.line.specs.Line.{feed_outcome, feed_span}
 use Rattle.line.specs.Demand3 as D
 use Rattle.line.specs.declared.gauge_line.Line.{Line}
 use Rattle.words.specs.Fields.{All, IsFloat}

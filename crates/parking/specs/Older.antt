@@ -5,7 +5,7 @@ use Rattle.std.specs.Prelude.{◌≡◌, List, ℕ, ◌≤◌, ◌<◌, take}
 use Rattle.refusal.specs.Outcome.{Opened}
 use Rattle.nonrecursive.specs.declared.thinning.Thinning.TheVariants as thinning
 use Rattle.q15.specs.FirDecimator.{fir_state}
-use Rattle.line.specs.Line as L
+use Rattle.line.specs.Openings as L
 use Rattle.line.specs.declared.gauge_line.Line.{Line}
 use Rattle.sheet.specs.Sheet.{former, le16, mark, marked}
 use Rattle.parking.specs.Parked.{Panel, at6, at7, at9, panel}

@@ -2,7 +2,7 @@
 use Rattle.std.specs.Prelude.{cond, List, ℕ, leb, eqb, length}
 use Rattle.theory.specs.Lists.{in_front}
 use Rattle.refusal.specs.Outcome.{Answer, Opened}
-use Rattle.line.specs.Line as L
+use Rattle.line.specs.Openings as L
 use Rattle.line.specs.declared.gauge_line.Line.{Line}
 use Rattle.parking.specs.Parked.{Panel, parked, entries_of, take_up_number}
 use Rattle.parking.specs.Entries.{line_entries, line_from, fine}

@@ -1,7 +1,7 @@
 // A line as it is parked: one that row 15 takes, with its parts that are off as zeros.
 ghost use Rattle.std.specs.Prelude.{◌≡◌, ◌<◌, true, false, length, IfOk, IfErr};
 ghost use Rattle.refusal.specs.Table.{number_of};
-ghost use Rattle.line.specs.Line.{valid};
+ghost use Rattle.line.specs.Openings.{valid};
 ghost use Rattle.words.specs.Fields.{IsFloat};
 ghost use Rattle.parking.specs.Kept.{line_by, line_kept};
 ghost use Rattle.parking.specs.inner.Numbers.{fir_numbers, resampler_numbers, numbers_on};

@@ -11,7 +11,7 @@ use lib.Arith.{digits_lt, digits_div, digits_mod}
 use lib.ListN.{length, get_or, take, get_or-append}
 use lib.Seq.{take-suc, take_all, get_or_at}
 use lib.Ieee.{Float, nan}
-use Rattle.float.specs.PolyphaseResamp.{in_limits}
+use Rattle.float.specs.PolyphaseOpening.{in_limits}
 use Rattle.float.proofs.PolyphaseOutput.{limits_say}
 use Rattle.theory.specs.Lists.{listed}
 use Rattle.theory.proofs.Listed.{length_listed}

@@ -4,7 +4,7 @@ use Rattle.std.specs.Prelude.{◌≡◌, Bool, ◌&&◌, cond, List, ℕ, ◌+�
 use Rattle.std.specs.Float.{nan}
 use Rattle.theory.specs.Lists.{listed}
 use Rattle.refusal.specs.Outcome.{Answer}
-use Rattle.float.specs.PolyphaseResamp.{in_limits}
+use Rattle.float.specs.PolyphaseOpening.{in_limits}
 
 -- where what belongs at place i = p × T + t comes from: t × P + p
 abbrev pub place_by_tap : ℕ → ℕ → ℕ → ℕ

@@ -1,7 +1,7 @@
 // The two rearrangements.
 ghost use Rattle.std.specs.Prelude.{◌≡◌, ◌*◌, ◌≤◌, true, false, ◌&&◌, length, OnOk, OnErr};
 ghost use Rattle.refusal.specs.Outcome.{count_answer};
-ghost use Rattle.float.specs.PolyphaseResamp.{in_limits};
+ghost use Rattle.float.specs.PolyphaseOpening.{in_limits};
 ghost use Rattle.phase_rows.specs.PhaseRows as R;
 
 use float::settings::in_limits;

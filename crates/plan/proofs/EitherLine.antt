@@ -15,7 +15,8 @@ use Rattle.refusal.specs.Outcome.{Outcome}
 use Rattle.refusal.specs.declared.Moved.{Moved}
 use Rattle.nonrecursive.specs.declared.thinning.Thinning.{Thinning}
 use Rattle.line.specs.Outputs.{Opening, levels, Resampled, Outputs, cuts_of, held_cuts}
-use Rattle.line.specs.Line.{line, feed_outcome, feed_span, opened, resampler_fresh, fresh}
+use Rattle.line.specs.Openings.{opened, resampler_fresh, fresh}
+use Rattle.line.specs.Line.{line, feed_outcome, feed_span}
 use Rattle.line.specs.declared.gauge_line.Line.{Line}
 use Rattle.line.proofs.Lawful.{Good, line_lawful}
 use Rattle.line.proofs.Openings.{makes, one_list}

@@ -31,7 +31,8 @@ use Rattle.float.specs.PolyphaseResamp.{in_line, is_on, passed, consumed}
 use Rattle.float.specs.declared.polyphase_resamp.PolyphaseResampF32.{PolyphaseResampF32}
 use Rattle.chain.specs.Chain.{Parts, from3, from4, from5, chain}
 use Rattle.chain.specs.Cuts.{most_cuts}
-use Rattle.line.specs.Line.{parts_of, counted_of, of_counted, cuts_at, line, valid}
+use Rattle.line.specs.Openings.{valid}
+use Rattle.line.specs.Line.{parts_of, counted_of, of_counted, cuts_at, line}
 use Rattle.line.specs.declared.gauge_line.Line.{Line}
 use Rattle.line.proofs.Lawful.{Good, line_lawful}
 use Rattle.line.proofs.Demanded.{outcome_is}

@@ -18,9 +18,9 @@ use Rattle.nonrecursive.proofs.EitherKind.{either_opens}
 use Rattle.q15.specs.FirDecimator as Q
 use Rattle.q15.proofs.FirSteps.{settings_in_lem, line_settings}
 use Rattle.float.specs.F32.{one32}
-use Rattle.float.specs.PolyphaseResamp as R
+use Rattle.float.specs.PolyphaseOpening as R
 use Rattle.line.specs.Outputs.{Opening}
-use Rattle.line.specs.Line.{opened, opening_number_of, resampler_fresh, fresh}
+use Rattle.line.specs.Openings.{opened, opening_number_of, resampler_fresh, fresh}
 use Rattle.chain.specs.declared.settings.Settings.{Settings}
 use Rattle.line.specs.declared.gauge_line.Line.{Line}
 use Rattle.std.proofs.lemmas.Bool.{and_parts}

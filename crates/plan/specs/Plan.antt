@@ -4,7 +4,8 @@ use Rattle.std.specs.Prelude.{◌≡◌, Bool, true, cond, ◌&&◌, List, [], �
 use Rattle.refusal.specs.declared.Moved.{Moved}
 use Rattle.refusal.specs.Rows.{first_of, most_block}
 use Rattle.line.specs.Outputs.{Opening}
-use Rattle.line.specs.Line.{feed_outcome, opened, opening_number_of}
+use Rattle.line.specs.Openings.{opened, opening_number_of}
+use Rattle.line.specs.Line.{feed_outcome}
 use Rattle.line.specs.declared.gauge_line.Line.{Line}
 
 -- what each feed answers, one after the other, each getting the line that the one before returned: call i is lent the samples of piece i alone, whatever call i−1 left

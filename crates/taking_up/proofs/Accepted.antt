@@ -11,9 +11,9 @@ use lib.Ieee.{binary32, to_bits, of_bits}
 use lib.ListN.{length, get_or, drop, replicate}
 use Rattle.integer.specs.declared.cic_decimator.CicDecimator.{CicDecimator}
 use Rattle.q15.specs.FirDecimator.{most_taps, fir_zeros}
-use Rattle.float.specs.PolyphaseResamp as R
+use Rattle.float.specs.PolyphaseOpening as R
 use Rattle.float.specs.F32.{zero32}
-use Rattle.line.specs.Line as L
+use Rattle.line.specs.Openings as L
 use Rattle.std.proofs.lemmas.Bool.{and_parts}
 use Rattle.line.proofs.Lawful.{to_parts}
 use Rattle.theory.specs.Lists.{listed}

@@ -8,7 +8,7 @@ use lib.ListN.{length}
 use Rattle.refusal.specs.Outcome.{Opened}
 use Rattle.q15.specs.FirDecimator.{most_taps}
 use Rattle.line.specs.Outputs.{Opening}
-use Rattle.line.specs.Line.{opened}
+use Rattle.line.specs.Openings.{opened}
 use Rattle.line.specs.Demand3 as D
 use Rattle.line.specs.declared.gauge_line.Line.{Line}
 use Rattle.parking.specs.Parked.{panel}

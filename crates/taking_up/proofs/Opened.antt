@@ -13,7 +13,7 @@ use Rattle.theory.proofs.Listed.{length_listed}
 use Rattle.refusal.specs.Outcome.{Opened}
 use Rattle.q15.specs.FirDecimator.{most_taps}
 use Rattle.q15.proofs.Filling.{listed_ext}
-use Rattle.line.specs.Line as L
+use Rattle.line.specs.Openings as L
 use Rattle.line.specs.declared.gauge_line.Line.{Line}
 use Rattle.std.proofs.lemmas.Bool.{and_parts}
 use Rattle.line.proofs.Lawful.{to_parts}

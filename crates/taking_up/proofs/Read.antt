@@ -12,9 +12,9 @@ use Rattle.q15.specs.FirDecimator.{most_taps}
 use Rattle.q15.specs.declared.fir_decimator.FirDecimator.{FirDecimator}
 use Rattle.half_band.specs.declared.hbf_stream.HbfStream.{HbfStream}
 use Rattle.float.specs.F32.{zero32}
-use Rattle.float.specs.PolyphaseResamp as R
+use Rattle.float.specs.PolyphaseOpening as R
 use Rattle.float.specs.declared.polyphase_resamp.PolyphaseResampF32.{PolyphaseResampF32}
-use Rattle.line.specs.Line as L
+use Rattle.line.specs.Openings as L
 use Rattle.line.specs.Placed.{line_together}
 use Rattle.line.specs.Lent.{numbers_in}
 use Rattle.line.specs.inner.Together.{valid_at}

@@ -1,7 +1,7 @@
 -- 02, request 6: "or for fields that no parking writes". What is taken up some valid line parks: the line that was read, and its entries are those of the sheet.
 use Rattle.std.specs.Prelude.{◌≡◌, true, List, ℕ, ◌<◌}
 use Rattle.refusal.specs.Outcome.{Opened}
-use Rattle.line.specs.Line as L
+use Rattle.line.specs.Openings as L
 use Rattle.line.specs.declared.gauge_line.Line.{Line}
 use Rattle.sheet.specs.Sheet.{present}
 use Rattle.words.specs.Fields.{All}

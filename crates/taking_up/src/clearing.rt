@@ -4,7 +4,7 @@ ghost use Rattle.std.specs.Prelude.{◌≡◌, replicate, pos};
 ghost use Rattle.nonrecursive.specs.NonrecursiveDecimator.{most_neighbours};
 ghost use Rattle.q15.specs.FirDecimator.{most_taps};
 ghost use Rattle.float.specs.F32.{zero32};
-ghost use Rattle.line.specs.Line as L;
+ghost use Rattle.line.specs.Openings as L;
 ghost use Rattle.line.specs.Placed.{SamePlaces, line_on};
 
 use float::settings::{MOST_CELLS, MOST_PHASE_TAPS};

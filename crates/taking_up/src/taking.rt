@@ -1,7 +1,7 @@
 // 02, request 6, and 13 for eight entries: a parked sheet taken up. Refusals 16, 17, 21, 15.
 ghost use Rattle.std.specs.Prelude.{◌≡◌, IfErr};
 ghost use Rattle.refusal.specs.Outcome.{told_opened, told_reset};
-ghost use Rattle.line.specs.Line as L;
+ghost use Rattle.line.specs.Openings as L;
 ghost use Rattle.line.specs.Placed.{SamePlaces, line_on};
 ghost use Rattle.sheet.specs.Sheet as S;
 ghost use Rattle.taking_up.specs.AsParked.{AsParked};

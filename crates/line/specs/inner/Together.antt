@@ -9,9 +9,10 @@ use Rattle.nonrecursive.specs.EitherKind as E
 use Rattle.q15.specs.FirDecimator.{fir_valid_in_line}
 use Rattle.float.specs.F32.{one32}
 use Rattle.half_band.specs.HbfStream.{stream_refused_in_line}
-use Rattle.float.specs.PolyphaseResamp as R
+use Rattle.float.specs.PolyphaseOpening as R
 use Rattle.chain.specs.inner.Lending.{parts_in}
-use Rattle.line.specs.Line.{of_counted, fed_line, valid}
+use Rattle.line.specs.Openings.{valid}
+use Rattle.line.specs.Line.{of_counted, fed_line}
 use Rattle.line.specs.declared.gauge_line.Line.{Line}
 use Rattle.line.specs.declared.lent.LineNumbers.{LineNumbers}
 use Rattle.chain.specs.declared.arrays.Arrays.{Arrays}

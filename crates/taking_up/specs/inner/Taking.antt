@@ -4,7 +4,7 @@ use Rattle.refusal.specs.Outcome.{Opened}
 use Rattle.nonrecursive.specs.NonrecursiveDecimator.{most_neighbours}
 use Rattle.nonrecursive.specs.declared.thinning.Thinning.TheVariants as thinning
 use Rattle.q15.specs.FirDecimator.{most_taps}
-use Rattle.line.specs.Line as L
+use Rattle.line.specs.Openings as L
 use Rattle.line.specs.declared.gauge_line.Line.{Line}
 use Rattle.words.specs.Fields.{is_float, floats_at}
 use Rattle.parking.specs.Parked.{Settings, settings_of, sizes, thin_sizes, same}

@@ -26,7 +26,7 @@ const REACHED: [(&str, &str, &str); 3] = [
     ),
     (
         "The openings, by definitions",
-        "line/Line",
+        "line/Openings",
         "opening_number_of",
     ),
 ];

@@ -4,7 +4,8 @@ use Rattle.std.proofs.lemmas.Result.{err_from_is_err_and}
 use Rattle.refusal.specs.Outcome.{Opened}
 use Rattle.refusal.specs.Table.{number_of}
 use Rattle.refusal.proofs.Table.{number_positive}
-use Rattle.float.specs.PolyphaseResamp.{fresh, together}
+use Rattle.float.specs.PolyphaseOpening.{fresh}
+use Rattle.float.specs.PolyphaseResamp.{together}
 use Rattle.float.specs.declared.polyphase_resamp.PolyphaseResampF32.{PolyphaseResampF32}
 use Rattle.float.proofs.PolyphaseCalls.{refused_by, taken_by, opening_answer}
 use Rattle.float.proofs.polyphase_resamp.opened.Goals as goal

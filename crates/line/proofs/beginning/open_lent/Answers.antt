@@ -4,7 +4,7 @@ use Rattle.refusal.specs.Outcome.{Opened}
 use Rattle.refusal.specs.Table.{number_of}
 use Rattle.refusal.proofs.Table.{number_positive}
 use Rattle.q15.specs.FirDecimator.{fresh_in_line}
-use Rattle.line.specs.Line.{zeros, fresh, resampler_fresh}
+use Rattle.line.specs.Openings.{zeros, fresh, resampler_fresh}
 use Rattle.line.specs.Outputs.{Opening}
 use Rattle.line.specs.declared.gauge_line.Line.{Line}
 use Rattle.line.proofs.Starting.{few_opened, opened_own, opened_zeros}

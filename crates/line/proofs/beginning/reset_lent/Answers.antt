@@ -2,7 +2,7 @@
 use Rattle.std.proofs.Common.{refl, sym, ap, ◌∙◌, true≢false, rules}
 use Rattle.std.proofs.lemmas.Result.{err_from_is_err_and}
 use Rattle.refusal.specs.Outcome.{Opened}
-use Rattle.line.specs.Line.{opening_of, reset}
+use Rattle.line.specs.Openings.{opening_of, reset}
 use Rattle.line.specs.Placed.{line_on}
 use Rattle.line.specs.declared.gauge_line.Line.{Line}
 use Rattle.line.proofs.Starting.{reset_own}

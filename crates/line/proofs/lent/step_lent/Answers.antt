@@ -6,7 +6,8 @@ use Rattle.std.proofs.lemmas.Result.{err_from_is_err_and}
 use Rattle.theory.specs.Feeds as F
 use Rattle.refusal.specs.Outcome.{Outcome}
 use Rattle.float.specs.PolyphaseResamp.{in_line, is_on}
-use Rattle.line.specs.Line.{line, valid, step_outcome}
+use Rattle.line.specs.Openings.{valid}
+use Rattle.line.specs.Line.{line, step_outcome}
 use Rattle.line.specs.Lent.{line_in}
 use Rattle.line.specs.inner.Together.{due_at}
 use Rattle.line.specs.declared.gauge_line.Line.{Line}

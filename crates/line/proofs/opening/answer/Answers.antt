@@ -3,7 +3,7 @@ use Rattle.std.proofs.Common.{sym}
 use Rattle.std.proofs.lemmas.Result.{err_from_is_err_and}
 use Rattle.refusal.proofs.Table.{number_positive}
 use Rattle.refusal.proofs.Limits.{first_kept}
-use Rattle.line.specs.Line.{number_at}
+use Rattle.line.specs.Openings.{number_at}
 use Rattle.line.proofs.opening.answer.Goals as goal
 
 pub returns-in_err-thinning_answer : goal.returns-in_err-thinning_answer

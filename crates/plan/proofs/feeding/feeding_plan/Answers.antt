@@ -5,7 +5,7 @@ use Rattle.std.proofs.lemmas.Result.{err_from_is_err_and}
 use Rattle.refusal.specs.Table.{number_of}
 use Rattle.refusal.proofs.Table.{number_positive}
 use Rattle.line.specs.Outputs.{Opening}
-use Rattle.line.specs.Line.{opened, opening_number_of}
+use Rattle.line.specs.Openings.{opened, opening_number_of}
 use Rattle.chain.specs.declared.settings.Settings.{Settings}
 use Rattle.plan.proofs.Start.{in_limits_lem, first_runs, planned, plan_refused, plan_lists, lists_say}
 use Rattle.plan.proofs.feeding.feeding_plan.Goals as goal

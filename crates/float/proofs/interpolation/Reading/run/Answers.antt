@@ -2,7 +2,8 @@
 use Rattle.std.proofs.Common.{◌≡◌, ◌+◌, ◌-◌, ◌<◌, ◌≤◌, length, take, replicate, refl, sym, arith, length-take-le, ltb-true, ltb-false}
 use Rattle.theory.proofs.FeedRules.{between_start, after_input, Ended, ended_full, ended_dry}
 use Rattle.float.specs.F32.{zero32}
-use Rattle.float.specs.PolyphaseResamp.{consumed, resampler, state_of, told_due}
+use Rattle.float.specs.inner.Running.{told_due}
+use Rattle.float.specs.PolyphaseResamp.{consumed, resampler, state_of}
 use Rattle.float.proofs.DueOutputs.{due_grows}
 use Rattle.float.proofs.PolyphaseCalls.{finished, due_between}
 use Rattle.float.proofs.PolyphaseOutput.{outputs_alike}

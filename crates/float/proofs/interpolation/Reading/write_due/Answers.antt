@@ -2,7 +2,7 @@
 use Rattle.std.proofs.Common.{◌≡◌, ℕ, suc, ◌+◌, ◌-◌, length, set, sym, ap, ◌∙◌, arith, length-set}
 use lib.Ieee.{Float}
 use Rattle.float.specs.PolyphaseOutput.{cut_unit, output}
-use Rattle.float.specs.PolyphaseResamp.{emitted}
+use Rattle.float.specs.inner.Running.{emitted}
 use Rattle.float.proofs.DueOutputs.{one_due, none_due, no_place}
 use Rattle.float.proofs.Place.{cut_cut}
 use Rattle.float.proofs.PolyphaseOutput.{output_cut}

@@ -1,6 +1,6 @@
 -- What is due from the loop's variables on is what was due from the start on.
 use Rattle.std.proofs.Common.{◌≡◌, ◌-◌, length}
-use Rattle.float.specs.PolyphaseResamp.{emitted}
+use Rattle.float.specs.inner.Running.{emitted}
 use Rattle.float.proofs.interpolation.Reading.write_due.Given as goal
 
 abbrev pub invariant-loop-written : goal.invariant-loop-written

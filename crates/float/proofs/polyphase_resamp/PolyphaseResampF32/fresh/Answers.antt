@@ -1,7 +1,8 @@
 -- `fresh` meets its contract: as many of the prototype as there are places stand in front, and zeros behind them (`packed_front`).
 use Rattle.std.proofs.Common.{◌≡◌, ◌++◌, ◌-◌, ℕ, length, take, replicate, ap, refl, ◌∙◌, arith, length-take}
 use Rattle.float.specs.F32.{zero32, one32}
-use Rattle.float.specs.PolyphaseResamp.{state_of, fresh}
+use Rattle.float.specs.PolyphaseOpening.{fresh}
+use Rattle.float.specs.PolyphaseResamp.{state_of}
 use Rattle.float.proofs.Packing.{packed_front}
 use Rattle.float.proofs.polyphase_resamp.PolyphaseResampF32.fresh.Goals as goal
 

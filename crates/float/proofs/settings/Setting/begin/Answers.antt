@@ -2,7 +2,8 @@
 use Rattle.std.proofs.Common.{ℕ, ◌∙◌, ◌*◌, List, replicate, ap, ap₂}
 use Rattle.std.specs.Prelude.{Float}
 use Rattle.float.specs.F32.{zero32, one32}
-use Rattle.float.specs.PolyphaseResamp.{fresh, own_taps, state_of}
+use Rattle.float.specs.PolyphaseOpening.{fresh, own_taps}
+use Rattle.float.specs.PolyphaseResamp.{state_of}
 use Rattle.float.proofs.Packing.{kept_held}
 use Rattle.float.proofs.settings.Setting.begin.Goals as goal
 

@@ -1,5 +1,6 @@
 -- `block` meets its contract: a run makes the feed of the state whose numbers and arrays it is lent.
-use Rattle.float.specs.PolyphaseResamp.{valid, state_of}
+use Rattle.float.specs.PolyphaseOpening.{valid}
+use Rattle.float.specs.PolyphaseResamp.{state_of}
 use Rattle.float.proofs.PolyphaseRange.{valid_in_limits}
 use Rattle.float.proofs.PolyphaseCalls.{block_ran}
 use Rattle.float.proofs.settings.Setting.block.Goals as goal

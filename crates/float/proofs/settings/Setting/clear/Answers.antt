@@ -2,7 +2,8 @@
 use Rattle.std.proofs.Common.{ℕ, ◌∙◌, false, List, replicate, ap, ap₂}
 use Rattle.std.specs.Prelude.{Float}
 use Rattle.float.specs.F32.{zero32}
-use Rattle.float.specs.PolyphaseResamp.{zeros, together}
+use Rattle.float.specs.PolyphaseOpening.{zeros}
+use Rattle.float.specs.PolyphaseResamp.{together}
 use Rattle.float.proofs.settings.Setting.clear.Goals as goal
 
 pub returns : goal.returns

@@ -5,7 +5,7 @@ use lib.Seq.{take-append_seam}
 use Rattle.refusal.specs.Outcome.{Opened}
 use Rattle.refusal.specs.Table.{number_of}
 use Rattle.refusal.proofs.Table.{number_positive}
-use Rattle.float.specs.PolyphaseResamp.{fresh, own_taps}
+use Rattle.float.specs.PolyphaseOpening.{fresh, own_taps}
 use Rattle.float.specs.declared.polyphase_resamp.PolyphaseResampF32.{PolyphaseResampF32}
 use Rattle.float.proofs.PolyphaseCalls.{refused_by, taken_by, opening_answer}
 use Rattle.float.proofs.settings.Setting.open.Goals as goal

@@ -1,5 +1,7 @@
 -- `push` meets its contract: what is due after the sample is what a feed without samples makes.
-use Rattle.float.specs.PolyphaseResamp.{valid, state_of, told_due}
+use Rattle.float.specs.PolyphaseOpening.{valid}
+use Rattle.float.specs.inner.Running.{told_due}
+use Rattle.float.specs.PolyphaseResamp.{state_of}
 use Rattle.float.proofs.PolyphaseRange.{valid_in_limits}
 use Rattle.float.proofs.PolyphaseCalls.{push_ran, emitted_ran}
 use Rattle.float.proofs.settings.Setting.push.Goals as goal

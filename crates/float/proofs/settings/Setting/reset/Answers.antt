@@ -1,7 +1,8 @@
 -- `reset` meets its contract: the state is the fresh one of its own setting and of the P × T taps in front of its prototype.
 use Rattle.std.proofs.Common.{◌≡◌, length, ap, arith, length-take-le, rules}
 use Rattle.refusal.specs.Outcome.{Opened}
-use Rattle.float.specs.PolyphaseResamp.{valid, own_taps, state_of}
+use Rattle.float.specs.PolyphaseOpening.{valid, own_taps}
+use Rattle.float.specs.PolyphaseResamp.{state_of}
 use Rattle.float.specs.declared.polyphase_resamp.PolyphaseResampF32.{PolyphaseResampF32}
 use Rattle.float.proofs.PolyphaseOutput.{few_cells}
 use Rattle.float.proofs.PolyphaseRange.{valid_limits}

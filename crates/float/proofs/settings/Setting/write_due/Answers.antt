@@ -1,6 +1,6 @@
 -- `write_due` meets its contract: inside the limits it is that of the reading, which writes nothing from a mu of 1 on, and 16 places have room for T taps.
 use Rattle.std.proofs.Common.{sym, ◌∙◌}
-use Rattle.float.specs.PolyphaseResamp.{emitted_from}
+use Rattle.float.specs.inner.Running.{emitted_from}
 use Rattle.float.proofs.DueOutputs.{none_due}
 use Rattle.float.proofs.settings.Setting.write_due.Goals as goal
 

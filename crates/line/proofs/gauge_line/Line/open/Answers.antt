@@ -4,7 +4,7 @@ use Rattle.std.proofs.lemmas.Result.{err_from_is_err_and}
 use Rattle.refusal.specs.Outcome.{Opened}
 use Rattle.refusal.specs.Table.{number_of}
 use Rattle.refusal.proofs.Table.{number_positive}
-use Rattle.line.specs.Line.{opened}
+use Rattle.line.specs.Openings.{opened}
 use Rattle.line.specs.declared.gauge_line.Line.{Line}
 use Rattle.line.proofs.Starting.{opened_zeros}
 use Rattle.line.proofs.gauge_line.Line.open.Goals as goal
