@@ -100,9 +100,9 @@ pub(crate) fn filter_short(
 }
 
 // Places of a tape for a delay of one group and fewer samples than that, and for the longest delay.
-pub(crate) const NARROW: usize = 2 * LANES;
+const NARROW: usize = 2 * LANES;
 
-pub(crate) const WIDE: usize = 4 * LANES;
+const WIDE: usize = 4 * LANES;
 
 // The first places of the delay, in whole groups: what the first of them has behind these is put over.
 #[inline(always)]
@@ -124,18 +124,18 @@ fn lay_delay(tape: &mut [f32], delay: &[f32; LINEAR_PHASE_DELAYS], long: usize)
 
 // `filter` for fewer samples than a group and a delay in front of the lent places, along a tape of T places: the delay goes there in whole groups, and all outputs are one group.
 #[inline(always)]
-pub(crate) fn filter_few<const T: usize>(
+fn filter_few<const T: usize>(
     delay: &mut [f32; LINEAR_PHASE_DELAYS],
-    fir: Folded<'_>,
+    fir: &Folded<'_>,
     src: Option<&[f32]>,
     span: &mut [f32],
 )
-    requires places { (fir.long + 16 ≤ T) × (T ≤ 64) }
+    requires places { (fir.now.long + 16 ≤ T) × (T ≤ 64) }
     requires src_len { (length (unwrap_or (option_copied src) span.old) ≡ length span.old) × (length span.old < 16) }
     ensures delay { let samples = unwrap_or (option_copied src.entry) span.old in
-        delay.new ≡ H.left_of (H.by fir.entry) fir.entry.long delay.old samples }
+        delay.new ≡ H.left_of (H.by fir.now) fir.now.long delay.old samples }
     ensures span { let samples = unwrap_or (option_copied src.entry) span.old in
-        span.new ≡ H.made_of (H.by fir.entry) fir.entry.long delay.old samples }
+        span.new ≡ H.made_of (H.by fir.now) fir.now.long delay.old samples }
 {
     let long = fir.long;
     let past = long + span.len();
@@ -146,4 +146,39 @@ pub(crate) fn filter_few<const T: usize>(
     copy_few(&mut tape[long..past], lent);
     move_past(&mut delay[..long], lent);
     few_outputs(tape, fir, span);
+}
+
+// The same of lent samples, by a tape for the delay. A call of its own, as the next: so their tapes are no part of the stack that the other roads take. The filter is lent, which is one word: handed on, it is copied for each call.
+#[inline(never)]
+pub(crate) fn few_of(
+    delay: &mut [f32; LINEAR_PHASE_DELAYS],
+    fir: &Folded<'_>,
+    src: &[f32],
+    span: &mut [f32],
+)
+    requires { (length span.old ≡ length src.now) × (length span.old < 16) }
+    ensures delay { delay.new ≡ H.left_of (H.by fir.now) fir.now.long delay.old src.now }
+    ensures span { span.new ≡ H.made_of (H.by fir.now) fir.now.long delay.old src.now }
+{
+    if is_short(fir.long) {
+        return filter_few::<NARROW>(delay, fir, Some(src), span);
+    }
+    filter_few::<WIDE>(delay, fir, Some(src), span);
+}
+
+// And of those of the span.
+#[inline(never)]
+pub(crate) fn few_inplace(
+    delay: &mut [f32; LINEAR_PHASE_DELAYS],
+    fir: &Folded<'_>,
+    span: &mut [f32],
+)
+    requires { length span.old < 16 }
+    ensures delay { delay.new ≡ H.left_of (H.by fir.now) fir.now.long delay.old span.old }
+    ensures span { span.new ≡ H.made_of (H.by fir.now) fir.now.long delay.old span.old }
+{
+    if is_short(fir.long) {
+        return filter_few::<NARROW>(delay, fir, None, span);
+    }
+    filter_few::<WIDE>(delay, fir, None, span);
 }
