@@ -32,14 +32,14 @@ fn last_in(delay: &mut [f32], tape: &[f32], samples: &[f32])
 
 // The lent samples, or else those of the span itself, go through the filter, and their outputs into the span.
 #[inline(never)]
-pub(crate) fn filter(delay: &mut [f32], fir: Folded<'_>, src: Option<&[f32]>, span: &mut [f32])
-    requires whole { length delay.old ≡ fir.long }
-    requires many { (16 < fir.long) × (16 ≤ length span.old) }
+pub(crate) fn filter(delay: &mut [f32], fir: &Folded<'_>, src: Option<&[f32]>, span: &mut [f32])
+    requires whole { length delay.old ≡ fir.now.long }
+    requires many { (16 < fir.now.long) × (16 ≤ length span.old) }
     requires src_len { length (unwrap_or (option_copied src) span.old) ≡ length span.old }
     ensures delay { let samples = unwrap_or (option_copied src.entry) span.old in
-        delay.new ≡ state (H.by fir.entry) delay.old samples }
+        delay.new ≡ state (H.by fir.now) delay.old samples }
     ensures span { let samples = unwrap_or (option_copied src.entry) span.old in
-        span.new ≡ outs (H.by fir.entry) delay.old samples }
+        span.new ≡ outs (H.by fir.now) delay.old samples }
 {
     let head = span.len().min(fir.long + LANES);
     let samples = samples_of(src, span);
@@ -79,16 +79,16 @@ fn lay_groups(tape: &mut [f32], delay: &[f32], long: usize, samples: &[f32])
 #[inline(never)]
 pub(crate) fn filter_short(
     delay: &mut [f32; LINEAR_PHASE_DELAYS],
-    fir: Folded<'_>,
+    fir: &Folded<'_>,
     src: Option<&[f32]>,
     span: &mut [f32],
 )
-    requires long_bound { fir.long ≤ 16 }
+    requires long_bound { fir.now.long ≤ 16 }
     requires src_len { (length (unwrap_or (option_copied src) span.old) ≡ length span.old) × (16 ≤ length span.old) }
     ensures delay { let samples = unwrap_or (option_copied src.entry) span.old in
-        delay.new ≡ H.left_of (H.by fir.entry) fir.entry.long delay.old samples }
+        delay.new ≡ H.left_of (H.by fir.now) fir.now.long delay.old samples }
     ensures span { let samples = unwrap_or (option_copied src.entry) span.old in
-        span.new ≡ H.made_of (H.by fir.entry) fir.entry.long delay.old samples }
+        span.new ≡ H.made_of (H.by fir.now) fir.now.long delay.old samples }
 {
     let long = fir.long;
     let line = samples_of(src, span);

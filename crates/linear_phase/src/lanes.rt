@@ -116,16 +116,16 @@ fn window_start(front: bool, at: usize, long: usize) -> usize
 pub(crate) fn outputs_back<'a>(
     tape: &'a [f32],
     src: Option<&'a [f32]>,
-    fir: Folded<'_>,
+    fir: &Folded<'_>,
     span: &mut [f32],
 )
-    requires in_bounds { (fir.long + min (length span.old) (fir.long + 16) ≤ length tape.now) × (fir.long + 32 ≤ length tape.now) × (16 ≤ length span.old) }
+    requires in_bounds { (fir.now.long + min (length span.old) (fir.now.long + 16) ≤ length tape.now) × (fir.now.long + 32 ≤ length tape.now) × (16 ≤ length span.old) }
     requires ahead { let samples = unwrap_or (option_copied src) span.old in
         let n = min (length span.old) 32 in
-        take n (drop fir.long tape.now) ≡ take n samples }
-    requires on_tape { W.OnTape fir.long tape.now (unwrap_or (option_copied src) span.old) (length span.old) }
-    ensures { let z = take fir.entry.long tape.now ++ unwrap_or (option_copied src.entry) span.old in
-        span.new ≡ H.values_of fir.entry z (length span.old) }
+        take n (drop fir.now.long tape.now) ≡ take n samples }
+    requires on_tape { W.OnTape fir.now.long tape.now (unwrap_or (option_copied src) span.old) (length span.old) }
+    ensures { let z = take fir.now.long tape.now ++ unwrap_or (option_copied src.entry) span.old in
+        span.new ≡ H.values_of fir.now z (length span.old) }
 {
     // By hand: it goes by groups from the end on, and while one is written the samples before it are read; `end` tells what is left in front.
     let mut end = span.len();
@@ -135,12 +135,12 @@ pub(crate) fn outputs_back<'a>(
         let from = window_start(front, at, fir.long);
         let samples = samples_of(src, span);
         let line = picked(front, tape, samples);
-        let y = group_at(line, from, fir);
+        let y = group_at(line, from, *fir);
         put_all(&mut span[at..end], y);
         end = at;
     }
     if end < LANES {
-        return few_outputs(tape, &fir, &mut span[..end]);
+        return few_outputs(tape, fir, &mut span[..end]);
     }
-    more_outputs(tape, &fir, &mut span[..end]);
+    more_outputs(tape, fir, &mut span[..end]);
 }

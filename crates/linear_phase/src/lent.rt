@@ -128,8 +128,8 @@ impl Half {
     {
         let fir = self.folded(taps);
         if is_short(fir.long) {
-            return filter_short(delay, fir, src, span);
+            return filter_short(delay, &fir, src, span);
         }
-        filter(&mut delay[..fir.long], fir, src, span);
+        filter(&mut delay[..fir.long], &fir, src, span);
     }
 }

@@ -32,7 +32,7 @@ fn put_both(span: &mut [f32], y: &[f32], z: &[f32])
     put_group(&mut span[last..], z);
 }
 
-// The samples into a span of as many places, by their first N and their last N, which are all of them.
+// The samples into a span of as many places, by their first N and their last N, which are all of them. The last are read when the first are written: so neither waits in memory.
 #[inline(always)]
 fn copy_ends<const N: usize>(span: &mut [f32], src: &[f32])
     requires { (length src.now ≡ length span.old) × (N ≤ length span.old) × (length span.old ≤ N + N) }
@@ -40,8 +40,9 @@ fn copy_ends<const N: usize>(span: &mut [f32], src: &[f32])
 {
     let last = span.len() - N;
     let y = taken::<N>(src);
+    put_group(span, &y);
     let z = taken::<N>(&src[last..]);
-    put_both(span, &y, &z);
+    put_group(&mut span[last..], &z);
 }
 
 // At most sixteen samples into a span of as many places. By `if`s, the largest first: of a `match` the compiler compares the smallest first, which costs a block of four a tenth.
