@@ -3,7 +3,7 @@ ghost use Rattle.std.specs.Prelude.{◌≡◌, ◌+◌, ◌≤◌, ◌<◌, leng
 ghost use Rattle.linear_phase.specs.Handed as H;
 
 use crate::kinds::Folded;
-use crate::lanes::{outputs_at, put_group};
+use crate::lanes::{LANES, outputs_at, put_group};
 use crate::one::value_with;
 
 // Of exactly N, out of L that are made. Inlined where it is called: a group with two callers no longer keeps its sums in registers.
@@ -42,7 +42,7 @@ pub(crate) fn singles(tape: &[f32], fir: Folded<'_>, span: &mut [f32])
 }
 
 // Fewer than a group. Three beside whole fours are made with a fourth, at whose window the tape has places too: they take more without.
-pub(crate) fn few_outputs(tape: &[f32], fir: &Folded<'_>, span: &mut [f32])
+fn few_outputs(tape: &[f32], fir: &Folded<'_>, span: &mut [f32])
     requires { (fir.now.long + length span.old < length tape.now) × (length span.old ≤ 15) }
     ensures { span.new ≡ H.values_of fir.now tape.now (length span.old) }
 {
@@ -67,7 +67,7 @@ pub(crate) fn few_outputs(tape: &[f32], fir: &Folded<'_>, span: &mut [f32])
 }
 
 // A group, and some more: what is more does not wait for the sums of a group. An arm for each number, as above, since a const argument is a constant.
-pub(crate) fn more_outputs(tape: &[f32], fir: &Folded<'_>, span: &mut [f32])
+fn more_outputs(tape: &[f32], fir: &Folded<'_>, span: &mut [f32])
     requires { (fir.now.long + length span.old < length tape.now) × (16 ≤ length span.old) × (length span.old ≤ 24) }
     ensures { span.new ≡ H.values_of fir.now tape.now (length span.old) }
 {
@@ -82,4 +82,16 @@ pub(crate) fn more_outputs(tape: &[f32], fir: &Folded<'_>, span: &mut [f32])
         23 => group_of::<23, 24>(tape, *fir, span),
         _ => group_of::<24, 24>(tape, *fir, span),
     }
+}
+
+// As many as are made at once. Two calls, so that neither saves what the other takes.
+#[inline(always)]
+pub(crate) fn outputs_once(tape: &[f32], fir: &Folded<'_>, span: &mut [f32])
+    requires { (fir.now.long + length span.old < length tape.now) × (length span.old ≤ 24) }
+    ensures { span.new ≡ H.values_of fir.now tape.now (length span.old) }
+{
+    if span.len() < LANES {
+        return few_outputs(tape, fir, span);
+    }
+    more_outputs(tape, fir, span);
 }

@@ -4,7 +4,7 @@ ghost use Rattle.theory.specs.Sections.{state, outs};
 ghost use Rattle.linear_phase.specs.Handed as H;
 ghost use Rattle.linear_phase.specs.Windows as W;
 
-use crate::few::few_outputs;
+use crate::few::outputs_once;
 use crate::kinds::Folded;
 use crate::lanes::{LANES, outputs_back, put_all, samples_of};
 use crate::limits::LINEAR_PHASE_DELAYS;
@@ -99,10 +99,12 @@ pub(crate) fn filter_short(
     outputs_back(&tape, src, fir, span);
 }
 
-// Places of a tape for a delay of one group and fewer samples than that, and for the longest delay.
+// Places of a tape for a delay of one group and fewer samples than that, for the longest delay and as many, and for that and the most samples that are made into outputs at once.
 const NARROW: usize = 2 * LANES;
 
 const WIDE: usize = 4 * LANES;
+
+const WIDEST: usize = 72;
 
 // The first places of the delay, in whole groups: what the first of them has behind these is put over.
 #[inline(always)]
@@ -122,7 +124,7 @@ fn lay_delay(tape: &mut [f32], delay: &[f32; LINEAR_PHASE_DELAYS], long: usize)
     put_all(&mut tape[last..], late);
 }
 
-// `filter` for fewer samples than a group and a delay in front of the lent places, along a tape of T places: the delay goes there in whole groups, and all outputs are one group.
+// `filter` for a few samples and a delay in front of the lent places, along a tape of T places: the delay goes there in whole groups, and all outputs are one group.
 #[inline(always)]
 fn filter_few<const T: usize>(
     delay: &mut [f32; LINEAR_PHASE_DELAYS],
@@ -130,8 +132,8 @@ fn filter_few<const T: usize>(
     src: Option<&[f32]>,
     span: &mut [f32],
 )
-    requires places { (fir.now.long + 16 ≤ T) × (T ≤ 64) }
-    requires src_len { (length (unwrap_or (option_copied src) span.old) ≡ length span.old) × (length span.old < 16) }
+    requires places { (fir.now.long + 16 ≤ T) × (fir.now.long + length span.old < T) × (T ≤ 72) }
+    requires src_len { (length (unwrap_or (option_copied src) span.old) ≡ length span.old) × (length span.old ≤ 24) }
     ensures delay { let samples = unwrap_or (option_copied src.entry) span.old in
         delay.new ≡ H.left_of (H.by fir.now) fir.now.long delay.old samples }
     ensures span { let samples = unwrap_or (option_copied src.entry) span.old in
@@ -145,7 +147,7 @@ fn filter_few<const T: usize>(
     lay_delay(tape, delay, long);
     copy_few(&mut tape[long..past], lent);
     move_past(&mut delay[..long], lent);
-    few_outputs(tape, fir, span);
+    outputs_once(tape, fir, span);
 }
 
 // The same of lent samples, by a tape for the delay. A call of its own, as the next: so their tapes are no part of the stack that the other roads take. The filter is lent, which is one word: handed on, it is copied for each call.
@@ -156,10 +158,13 @@ pub(crate) fn few_of(
     src: &[f32],
     span: &mut [f32],
 )
-    requires { (length span.old ≡ length src.now) × (length span.old < 16) }
+    requires { (length span.old ≡ length src.now) × (length span.old ≤ 24) }
     ensures delay { delay.new ≡ H.left_of (H.by fir.now) fir.now.long delay.old src.now }
     ensures span { span.new ≡ H.made_of (H.by fir.now) fir.now.long delay.old src.now }
 {
+    if LANES <= span.len() {
+        return filter_few::<WIDEST>(delay, fir, Some(src), span);
+    }
     if is_short(fir.long) {
         return filter_few::<NARROW>(delay, fir, Some(src), span);
     }
@@ -173,10 +178,13 @@ pub(crate) fn few_inplace(
     fir: &Folded<'_>,
     span: &mut [f32],
 )
-    requires { length span.old < 16 }
+    requires { length span.old ≤ 24 }
     ensures delay { delay.new ≡ H.left_of (H.by fir.now) fir.now.long delay.old span.old }
     ensures span { span.new ≡ H.made_of (H.by fir.now) fir.now.long delay.old span.old }
 {
+    if LANES <= span.len() {
+        return filter_few::<WIDEST>(delay, fir, None, span);
+    }
     if is_short(fir.long) {
         return filter_few::<NARROW>(delay, fir, None, span);
     }

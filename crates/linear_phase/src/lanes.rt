@@ -3,14 +3,14 @@ ghost use Rattle.std.specs.Prelude.{◌≡◌, false, ◌++◌, ◌+◌, ◌≤�
 ghost use Rattle.linear_phase.specs.Handed as H;
 ghost use Rattle.linear_phase.specs.Windows as W;
 
-use crate::few::{few_outputs, more_outputs};
+use crate::few::outputs_once;
 use crate::kinds::{Folded, pair};
 
 // The sums of a whole group, which go side by side.
 pub(crate) const LANES: usize = 16;
 
 // The most outputs that are made at once.
-const MORE: usize = 24;
+pub(crate) const MORE: usize = 24;
 
 // One pair more for each sum: (new[j] ± old[j]) × tap. Here and below the number reads the other lists: of what stands behind `iter_mut` in a zip a proof knows the lengths alone.
 fn add_pairs(acc: &mut [f32], old: &[f32], new: &[f32], tap: f32, minus: bool)
@@ -139,8 +139,5 @@ pub(crate) fn outputs_back<'a>(
         put_all(&mut span[at..end], y);
         end = at;
     }
-    if end < LANES {
-        return few_outputs(tape, fir, &mut span[..end]);
-    }
-    more_outputs(tape, fir, &mut span[..end]);
+    outputs_once(tape, fir, &mut span[..end]);
 }

@@ -8,7 +8,7 @@ ghost use Rattle.linear_phase.specs.LinearPhaseFir as P;
 use crate::brief::{filter_brief, is_brief};
 use crate::filter::{few_inplace, few_of, filter, filter_short, is_short};
 use crate::kinds::{Folded, Half};
-use crate::lanes::LANES;
+use crate::lanes::MORE;
 use crate::limits::{LINEAR_PHASE_DELAYS, MOST_LINEAR_PHASE_TAPS};
 use crate::one::filter_one;
 use crate::straight::{filter_straight, is_straight};
@@ -60,7 +60,7 @@ impl Half {
             span[0] = self.process(taps, delay, span[0]);
             return;
         }
-        if span.len() < LANES {
+        if span.len() <= MORE {
             let fir = self.folded(taps);
             return few_inplace(delay, &fir, span);
         }
@@ -103,7 +103,7 @@ impl Half {
             span[1] = z;
             return;
         }
-        if src.len() < LANES {
+        if src.len() <= MORE {
             let fir = self.folded(taps);
             return few_of(delay, &fir, src, span);
         }

@@ -20,8 +20,8 @@ move_past-requires g c =
     let is = length-take-le c.args.fir.now.long c.args.delay.now (omega (arith, c.args.fir.now.inside, c.args.fir.now.reach, c.told-delay)) in
     (omega (arith, is, c.args.fir.now.inside, c.args.fir.now.reach), omega (arith, ap length c.samples_of-lent.ensures, c.requires.src_len))
 
-pub few_outputs-requires : goal.few_outputs-requires
-few_outputs-requires g c =
+pub outputs_once-requires : goal.outputs_once-requires
+outputs_once-requires g c =
     let many = length-replicate g.row.T zero32 in
     let room : c.args.fir.now.long + 16 ≤ length c.lay_delay.new.tape = omega (arith, c.lay_delay.ensures.1, many, c.requires.places) in
     let put : length c.copy_few.new.span ≡ c.args.fir.now.long + length c.args.span.now - c.args.fir.now.long = omega (arith, ap length c.copy_few.ensures, ap length c.samples_of-lent.ensures, c.requires.src_len) in
@@ -49,4 +49,4 @@ returns-clause-span g c =
     few_of _ _ _ d v (take a.fir.now.long t ++ (p ++ drop n (drop a.fir.now.long t))) (sym is) c.requires.src_len.0 (omega (arith, is, c.args.fir.now.inside, c.args.fir.now.reach)) (omega (arith, is, same, room, c.requires.src_len))
     (ap (λ (l : List Float). take (length d + length v) (l ++ (p ++ drop n (drop a.fir.now.long t)))) c.lay_delay.ensures.0
     ∙ put_behind d v p (drop n (drop a.fir.now.long t)) (c.copy_few.ensures ∙ c.samples_of-lent.ensures))
-    c.few_outputs.ensures
+    c.outputs_once.ensures

@@ -12,8 +12,5 @@ pub loop-end-preserved : goal.loop-end-preserved
 loop-end-preserved c =
     group_written _ _ _ _ _ (option_copied c.args.src) _ _ _ (c.args.fir.now.inside.0, c.args.fir.now.reach.0, c.requires.in_bounds.0, c.requires.in_bounds.1, c.requires.in_bounds.2) c.requires.on_tape c.loop-end.invariant (omega (arith, c.loop-end-test.true)) _ _ _ c.samples_of-samples.ensures c.picked-line.ensures c.window_start-from.ensures _ _ c.group_at-y.ensures c.put_all.ensures
 
-pub returns-then-end-lt-LANES : goal.returns-then-end-lt-LANES
-returns-then-end-lt-LANES c = few_written _ _ _ _ _ (option_copied c.args.src) _ _ _ (c.args.fir.now.inside.0, c.args.fir.now.reach.0, c.requires.in_bounds.0, c.requires.in_bounds.1, c.requires.in_bounds.2) c.requires.on_tape c.loop-end.invariant _ c.requires.ahead (omega (arith, c.loop-end-test.false)) c.few_outputs.ensures
-
 pub returns : goal.returns
-returns c = few_written _ _ _ _ _ (option_copied c.args.src) _ _ _ (c.args.fir.now.inside.0, c.args.fir.now.reach.0, c.requires.in_bounds.0, c.requires.in_bounds.1, c.requires.in_bounds.2) c.requires.on_tape c.loop-end.invariant _ c.requires.ahead (omega (arith, c.loop-end-test.false)) c.more_outputs.ensures
+returns c = few_written _ _ _ _ _ (option_copied c.args.src) _ _ _ (c.args.fir.now.inside.0, c.args.fir.now.reach.0, c.requires.in_bounds.0, c.requires.in_bounds.1, c.requires.in_bounds.2) c.requires.on_tape c.loop-end.invariant _ c.requires.ahead (omega (arith, c.loop-end-test.false)) c.outputs_once.ensures

@@ -46,8 +46,8 @@ returns-then-src-eq2 c =
     let z = c.process-z.ensures in
     record { delay = two_states d v _ _ two y.delay z.delay; span = two_outs d v _ a.span.now _ _ two (c.requires ∙ two) y.delay y.value z.value }
 
-pub returns-then-src-lt-LANES : goal.returns-then-src-lt-LANES
-returns-then-src-lt-LANES c =
+pub returns-then-src-le-MORE : goal.returns-then-src-le-MORE
+returns-then-src-le-MORE c =
     let a = c.args in
     let s = a.self in
     let o = rw (c.folded-fir.ensures.0, c.folded-fir.ensures.2) at c.few_of.ensures in

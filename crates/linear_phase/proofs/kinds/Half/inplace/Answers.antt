@@ -12,8 +12,8 @@ returns-then-span-eq1 c =
     let one = c.if-span-eq1.true in
     record { delay = one_state d v _ one c.process.ensures.delay; span = one_out d v v _ one one c.process.ensures.value }
 
-pub returns-then-span-lt-LANES : goal.returns-then-span-lt-LANES
-returns-then-span-lt-LANES c =
+pub returns-then-span-le-MORE : goal.returns-then-span-le-MORE
+returns-then-span-le-MORE c =
     let a = c.args in
     let s = a.self in
     let o = rw (c.folded-fir.ensures.0, c.folded-fir.ensures.2) at c.few_inplace.ensures in
