@@ -99,8 +99,10 @@ pub(crate) fn filter_short(
     outputs_back(&tape, src, fir, span);
 }
 
-// Places of a tape for a delay of one group and fewer samples than that, for the longest delay and as many, and for that and the most samples that are made into outputs at once.
+// Places of a tape for fewer samples than a group behind a delay of one group, of two, and of the longest, and for the most samples that are made into outputs at once behind that.
 const NARROW: usize = 2 * LANES;
+
+const WIDER: usize = 3 * LANES;
 
 const WIDE: usize = 4 * LANES;
 
@@ -119,6 +121,9 @@ fn lay_delay(tape: &mut [f32], delay: &[f32; LINEAR_PHASE_DELAYS], long: usize)
     }
     let middle = taken(&delay[LANES..]);
     put_all(&mut tape[LANES..], middle);
+    if long <= 2 * LANES {
+        return;
+    }
     let last = long - LANES;
     let late = taken(&delay[last..]);
     put_all(&mut tape[last..], late);
@@ -168,6 +173,9 @@ pub(crate) fn few_of(
     if is_short(fir.long) {
         return filter_few::<NARROW>(delay, fir, Some(src), span);
     }
+    if fir.long <= 2 * LANES {
+        return filter_few::<WIDER>(delay, fir, Some(src), span);
+    }
     filter_few::<WIDE>(delay, fir, Some(src), span);
 }
 
@@ -187,6 +195,9 @@ pub(crate) fn few_inplace(
     }
     if is_short(fir.long) {
         return filter_few::<NARROW>(delay, fir, None, span);
+    }
+    if fir.long <= 2 * LANES {
+        return filter_few::<WIDER>(delay, fir, None, span);
     }
     filter_few::<WIDE>(delay, fir, None, span);
 }
