@@ -6,7 +6,7 @@ ghost use Rattle.linear_phase.specs.Windows as W;
 
 use crate::few::outputs_once;
 use crate::kinds::Folded;
-use crate::lanes::{LANES, outputs_back, put_all, samples_of};
+use crate::lanes::{LANES, MORE, outputs_back, put_all, samples_of};
 use crate::limits::LINEAR_PHASE_DELAYS;
 use crate::moves::{copy_few, move_past, taken};
 use float::span::{lay, put_at_end};
@@ -106,7 +106,8 @@ const WIDER: usize = 3 * LANES;
 
 const WIDE: usize = 4 * LANES;
 
-const WIDEST: usize = 72;
+// Whole fours.
+const WIDEST: usize = LINEAR_PHASE_DELAYS + MORE + 2;
 
 // The first places of the delay, in whole groups: what the first of them has behind these is put over.
 #[inline(always)]
