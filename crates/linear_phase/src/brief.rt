@@ -6,7 +6,7 @@ ghost use Rattle.linear_phase.specs.inner.Handed as H;
 ghost use Rattle.linear_phase.specs.LinearPhase as P;
 ghost use Rattle.linear_phase.specs.inner.Lanes as A;
 
-use crate::kinds::{Folded, Half, Kind};
+use crate::kinds::{Folded, Kind};
 use crate::limits::{LINEAR_PHASE_DELAYS, MOST_LINEAR_PHASE_TAPS};
 use crate::one::value_with;
 
@@ -111,21 +111,22 @@ fn filter_kind<const ODD: bool, const MINUS: bool>(
     }
 }
 
-// A copy for each kind. Lent a half, which goes through registers: a `Folded` goes through memory, which costs a block of two samples a twelfth.
+// A copy for each kind. Handed the number of taps and the kind, which go through registers: a `Half` and a `Folded` go through memory.
 #[inline(never)]
 pub(crate) fn filter_brief(
-    half: Half,
+    m: usize,
+    kind: Kind,
     taps: &[f32; MOST_LINEAR_PHASE_TAPS],
     delay: &mut [f32; LINEAR_PHASE_DELAYS],
     src: &[f32],
     span: &mut [f32],
 )
-    requires { (half.m ≤ 5) × (length span.old ≡ length src.now) }
-    ensures delay { delay.new ≡ H.left_of (H.half_by half taps.now) (H.half_long half) delay.old src.now }
-    ensures span { span.new ≡ H.made_of (H.half_by half taps.now) (H.half_long half) delay.old src.now }
+    requires { (1 ≤ m) × (m ≤ 5) × (length span.old ≡ length src.now) }
+    ensures delay { delay.new ≡ H.left_of (H.kind_by m kind taps.now) (H.kind_long m kind) delay.old src.now }
+    ensures span { span.new ≡ H.made_of (H.kind_by m kind taps.now) (H.kind_long m kind) delay.old src.now }
 {
-    let taps = &taps[..half.m];
-    match (half.kind.odd, half.kind.antisymmetric) {
+    let taps = &taps[..m];
+    match (kind.odd, kind.antisymmetric) {
         (false, false) => filter_kind::<false, false>(taps, delay, src, span),
         (false, true) => filter_kind::<false, true>(taps, delay, src, span),
         (true, false) => filter_kind::<true, false>(taps, delay, src, span),

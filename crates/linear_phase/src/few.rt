@@ -3,7 +3,7 @@ ghost use Rattle.std.specs.Prelude.{◌≡◌, ◌+◌, ◌≤◌, ◌<◌, leng
 ghost use Rattle.linear_phase.specs.inner.Handed as H;
 
 use crate::kinds::Folded;
-use crate::lanes::{outputs_at, put_group};
+use crate::lanes::{LANES, outputs_at, put_group};
 use crate::one::value_with;
 
 // Of exactly N, out of L that are made. Inlined where it is called: a group with two callers no longer keeps its sums in registers.
@@ -42,49 +42,56 @@ pub(crate) fn singles(tape: &[f32], fir: Folded<'_>, span: &mut [f32])
 }
 
 // Fewer than a group. Three beside whole fours are made with a fourth, at whose window the tape has places too: they take more without.
-pub(crate) fn few_outputs(tape: &[f32], fir: Folded<'_>, span: &mut [f32])
-    requires { (fir.long + length span.old < length tape.now) × (length span.old ≤ 15) }
-    ensures { span.new ≡ H.values_of fir.entry tape.now (length span.old) }
+fn few_outputs(tape: &[f32], fir: &Folded<'_>, span: &mut [f32])
+    requires { (fir.now.long + length span.old < length tape.now) × (length span.old ≤ 15) }
+    ensures { span.new ≡ H.values_of fir.now tape.now (length span.old) }
 {
     match span.len() {
         0 => {}
-        1 => group_of::<1, 1>(tape, fir, span),
-        2 => group_of::<2, 2>(tape, fir, span),
-        3 => group_of::<3, 4>(tape, fir, span),
-        4 => group_of::<4, 4>(tape, fir, span),
-        5 => group_of::<5, 5>(tape, fir, span),
-        6 => group_of::<6, 6>(tape, fir, span),
-        7 => group_of::<7, 8>(tape, fir, span),
-        8 => group_of::<8, 8>(tape, fir, span),
-        9 => group_of::<9, 9>(tape, fir, span),
-        10 => group_of::<10, 10>(tape, fir, span),
-        11 => group_of::<11, 12>(tape, fir, span),
-        12 => group_of::<12, 12>(tape, fir, span),
-        13 => group_of::<13, 13>(tape, fir, span),
-        14 => group_of::<14, 14>(tape, fir, span),
-        _ => group_of::<15, 16>(tape, fir, span),
+        1 => group_of::<1, 1>(tape, *fir, span),
+        2 => group_of::<2, 2>(tape, *fir, span),
+        3 => group_of::<3, 4>(tape, *fir, span),
+        4 => group_of::<4, 4>(tape, *fir, span),
+        5 => group_of::<5, 5>(tape, *fir, span),
+        6 => group_of::<6, 6>(tape, *fir, span),
+        7 => group_of::<7, 8>(tape, *fir, span),
+        8 => group_of::<8, 8>(tape, *fir, span),
+        9 => group_of::<9, 9>(tape, *fir, span),
+        10 => group_of::<10, 10>(tape, *fir, span),
+        11 => group_of::<11, 12>(tape, *fir, span),
+        12 => group_of::<12, 12>(tape, *fir, span),
+        13 => group_of::<13, 13>(tape, *fir, span),
+        14 => group_of::<14, 14>(tape, *fir, span),
+        _ => group_of::<15, 16>(tape, *fir, span),
     }
 }
 
-// About a group, and some more: what is more does not wait for the sums of a group. An arm for each number, as above, since a const argument is a constant.
-pub(crate) fn more_outputs(tape: &[f32], fir: Folded<'_>, span: &mut [f32])
-    requires { (fir.long + length span.old < length tape.now) × (length span.old ≤ 28) }
-    ensures { span.new ≡ H.values_of fir.entry tape.now (length span.old) }
+// A group, and some more: what is more does not wait for the sums of a group. An arm for each number, as above, since a const argument is a constant.
+fn more_outputs(tape: &[f32], fir: &Folded<'_>, span: &mut [f32])
+    requires { (fir.now.long + length span.old < length tape.now) × (16 ≤ length span.old) × (length span.old ≤ 24) }
+    ensures { span.new ≡ H.values_of fir.now tape.now (length span.old) }
 {
     match span.len() {
-        0..=15 => few_outputs(tape, fir, span),
-        16 => group_of::<16, 16>(tape, fir, span),
-        17 => group_of::<17, 17>(tape, fir, span),
-        18 => group_of::<18, 18>(tape, fir, span),
-        19 => group_of::<19, 20>(tape, fir, span),
-        20 => group_of::<20, 20>(tape, fir, span),
-        21 => group_of::<21, 21>(tape, fir, span),
-        22 => group_of::<22, 22>(tape, fir, span),
-        23 => group_of::<23, 24>(tape, fir, span),
-        24 => group_of::<24, 24>(tape, fir, span),
-        25 => group_of::<25, 25>(tape, fir, span),
-        26 => group_of::<26, 26>(tape, fir, span),
-        27 => group_of::<27, 28>(tape, fir, span),
-        _ => group_of::<28, 28>(tape, fir, span),
+        16 => group_of::<16, 16>(tape, *fir, span),
+        17 => group_of::<17, 17>(tape, *fir, span),
+        18 => group_of::<18, 18>(tape, *fir, span),
+        19 => group_of::<19, 20>(tape, *fir, span),
+        20 => group_of::<20, 20>(tape, *fir, span),
+        21 => group_of::<21, 21>(tape, *fir, span),
+        22 => group_of::<22, 22>(tape, *fir, span),
+        23 => group_of::<23, 24>(tape, *fir, span),
+        _ => group_of::<24, 24>(tape, *fir, span),
     }
+}
+
+// As many as are made at once. Two calls, so that neither saves what the other takes.
+#[inline(always)]
+pub(crate) fn outputs_once(tape: &[f32], fir: &Folded<'_>, span: &mut [f32])
+    requires { (fir.now.long + length span.old < length tape.now) × (length span.old ≤ 24) }
+    ensures { span.new ≡ H.values_of fir.now tape.now (length span.old) }
+{
+    if span.len() < LANES {
+        return few_outputs(tape, fir, span);
+    }
+    more_outputs(tape, fir, span);
 }

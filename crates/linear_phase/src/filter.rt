@@ -4,9 +4,9 @@ ghost use Rattle.theory.specs.Sections.{state, outs};
 ghost use Rattle.linear_phase.specs.inner.Handed as H;
 ghost use Rattle.linear_phase.specs.inner.Lanes as A;
 
-use crate::few::few_outputs;
+use crate::few::outputs_once;
 use crate::kinds::Folded;
-use crate::lanes::{LANES, outputs_back, put_all, samples_of};
+use crate::lanes::{LANES, MORE, outputs_back, put_all, samples_of};
 use crate::limits::LINEAR_PHASE_DELAYS;
 use crate::moves::{copy_few, move_past, taken};
 use float::span::{lay, put_at_end};
@@ -32,14 +32,14 @@ fn last_in(delay: &mut [f32], tape: &[f32], samples: &[f32])
 
 // The lent samples, or else those of the span itself, go through the filter, and their outputs into the span.
 #[inline(never)]
-pub(crate) fn filter(delay: &mut [f32], fir: Folded<'_>, src: Option<&[f32]>, span: &mut [f32])
-    requires whole { length delay.old ≡ fir.long }
-    requires many { (16 < fir.long) × (16 ≤ length span.old) }
+pub(crate) fn filter(delay: &mut [f32], fir: &Folded<'_>, src: Option<&[f32]>, span: &mut [f32])
+    requires whole { length delay.old ≡ fir.now.long }
+    requires many { (16 < fir.now.long) × (16 ≤ length span.old) }
     requires src_len { length (unwrap_or (option_copied src) span.old) ≡ length span.old }
     ensures delay { let samples = unwrap_or (option_copied src.entry) span.old in
-        delay.new ≡ state (H.by fir.entry) delay.old samples }
+        delay.new ≡ state (H.by fir.now) delay.old samples }
     ensures span { let samples = unwrap_or (option_copied src.entry) span.old in
-        span.new ≡ outs (H.by fir.entry) delay.old samples }
+        span.new ≡ outs (H.by fir.now) delay.old samples }
 {
     let head = span.len().min(fir.long + LANES);
     let samples = samples_of(src, span);
@@ -79,16 +79,16 @@ fn lay_groups(tape: &mut [f32], delay: &[f32], long: usize, samples: &[f32])
 #[inline(never)]
 pub(crate) fn filter_short(
     delay: &mut [f32; LINEAR_PHASE_DELAYS],
-    fir: Folded<'_>,
+    fir: &Folded<'_>,
     src: Option<&[f32]>,
     span: &mut [f32],
 )
-    requires long_bound { fir.long ≤ 16 }
+    requires long_bound { fir.now.long ≤ 16 }
     requires src_len { (length (unwrap_or (option_copied src) span.old) ≡ length span.old) × (16 ≤ length span.old) }
     ensures delay { let samples = unwrap_or (option_copied src.entry) span.old in
-        delay.new ≡ H.left_of (H.by fir.entry) fir.entry.long delay.old samples }
+        delay.new ≡ H.left_of (H.by fir.now) fir.now.long delay.old samples }
     ensures span { let samples = unwrap_or (option_copied src.entry) span.old in
-        span.new ≡ H.made_of (H.by fir.entry) fir.entry.long delay.old samples }
+        span.new ≡ H.made_of (H.by fir.now) fir.now.long delay.old samples }
 {
     let long = fir.long;
     let line = samples_of(src, span);
@@ -99,10 +99,15 @@ pub(crate) fn filter_short(
     outputs_back(&tape, src, fir, span);
 }
 
-// Places of a tape for a delay of one group and fewer samples than that, and for the longest delay.
-pub(crate) const NARROW: usize = 2 * LANES;
+// Places of a tape for fewer samples than a group behind a delay of one group, of two, and of the longest, and for the most samples that are made into outputs at once behind that.
+const NARROW: usize = 2 * LANES;
 
-pub(crate) const WIDE: usize = 4 * LANES;
+const WIDER: usize = 3 * LANES;
+
+const WIDE: usize = 4 * LANES;
+
+// Whole fours.
+const WIDEST: usize = LINEAR_PHASE_DELAYS + MORE + 2;
 
 // The first places of the delay, in whole groups: what the first of them has behind these is put over.
 #[inline(always)]
@@ -117,25 +122,28 @@ fn lay_delay(tape: &mut [f32], delay: &[f32; LINEAR_PHASE_DELAYS], long: usize)
     }
     let middle = taken(&delay[LANES..]);
     put_all(&mut tape[LANES..], middle);
+    if long <= 2 * LANES {
+        return;
+    }
     let last = long - LANES;
     let late = taken(&delay[last..]);
     put_all(&mut tape[last..], late);
 }
 
-// `filter` for fewer samples than a group and a delay in front of the lent places, along a tape of T places: the delay goes there in whole groups, and all outputs are one group.
+// `filter` for a few samples and a delay in front of the lent places, along a tape of T places: the delay goes there in whole groups, and all outputs are one group.
 #[inline(always)]
-pub(crate) fn filter_few<const T: usize>(
+fn filter_few<const T: usize>(
     delay: &mut [f32; LINEAR_PHASE_DELAYS],
-    fir: Folded<'_>,
+    fir: &Folded<'_>,
     src: Option<&[f32]>,
     span: &mut [f32],
 )
-    requires places { (fir.long + 16 ≤ T) × (T ≤ 64) }
-    requires src_len { (length (unwrap_or (option_copied src) span.old) ≡ length span.old) × (length span.old < 16) }
+    requires places { (fir.now.long + 16 ≤ T) × (fir.now.long + length span.old < T) × (T ≤ 72) }
+    requires src_len { (length (unwrap_or (option_copied src) span.old) ≡ length span.old) × (length span.old ≤ 24) }
     ensures delay { let samples = unwrap_or (option_copied src.entry) span.old in
-        delay.new ≡ H.left_of (H.by fir.entry) fir.entry.long delay.old samples }
+        delay.new ≡ H.left_of (H.by fir.now) fir.now.long delay.old samples }
     ensures span { let samples = unwrap_or (option_copied src.entry) span.old in
-        span.new ≡ H.made_of (H.by fir.entry) fir.entry.long delay.old samples }
+        span.new ≡ H.made_of (H.by fir.now) fir.now.long delay.old samples }
 {
     let long = fir.long;
     let past = long + span.len();
@@ -145,5 +153,52 @@ pub(crate) fn filter_few<const T: usize>(
     lay_delay(tape, delay, long);
     copy_few(&mut tape[long..past], lent);
     move_past(&mut delay[..long], lent);
-    few_outputs(tape, fir, span);
+    outputs_once(tape, fir, span);
+}
+
+// The same of lent samples, by a tape for the delay. A call of its own, as the next: so their tapes are no part of the stack that the other roads take. The filter is lent, which is one word: handed on, it is copied for each call.
+#[inline(never)]
+pub(crate) fn few_of(
+    delay: &mut [f32; LINEAR_PHASE_DELAYS],
+    fir: &Folded<'_>,
+    src: &[f32],
+    span: &mut [f32],
+)
+    requires { (length span.old ≡ length src.now) × (length span.old ≤ 24) }
+    ensures delay { delay.new ≡ H.left_of (H.by fir.now) fir.now.long delay.old src.now }
+    ensures span { span.new ≡ H.made_of (H.by fir.now) fir.now.long delay.old src.now }
+{
+    if LANES <= span.len() {
+        return filter_few::<WIDEST>(delay, fir, Some(src), span);
+    }
+    if is_short(fir.long) {
+        return filter_few::<NARROW>(delay, fir, Some(src), span);
+    }
+    if fir.long <= 2 * LANES {
+        return filter_few::<WIDER>(delay, fir, Some(src), span);
+    }
+    filter_few::<WIDE>(delay, fir, Some(src), span);
+}
+
+// And of those of the span.
+#[inline(never)]
+pub(crate) fn few_inplace(
+    delay: &mut [f32; LINEAR_PHASE_DELAYS],
+    fir: &Folded<'_>,
+    span: &mut [f32],
+)
+    requires { length span.old ≤ 24 }
+    ensures delay { delay.new ≡ H.left_of (H.by fir.now) fir.now.long delay.old span.old }
+    ensures span { span.new ≡ H.made_of (H.by fir.now) fir.now.long delay.old span.old }
+{
+    if LANES <= span.len() {
+        return filter_few::<WIDEST>(delay, fir, None, span);
+    }
+    if is_short(fir.long) {
+        return filter_few::<NARROW>(delay, fir, None, span);
+    }
+    if fir.long <= 2 * LANES {
+        return filter_few::<WIDER>(delay, fir, None, span);
+    }
+    filter_few::<WIDE>(delay, fir, None, span);
 }

@@ -3,14 +3,14 @@ ghost use Rattle.std.specs.Prelude.{◌≡◌, false, ◌++◌, ◌+◌, ◌≤�
 ghost use Rattle.linear_phase.specs.inner.Handed as H;
 ghost use Rattle.linear_phase.specs.inner.Lanes as A;
 
-use crate::few::more_outputs;
+use crate::few::outputs_once;
 use crate::kinds::{Folded, pair};
 
 // The sums of a whole group, which go side by side.
 pub(crate) const LANES: usize = 16;
 
 // The most outputs that are made at once.
-const MORE: usize = 28;
+pub(crate) const MORE: usize = 24;
 
 // One pair more for each sum: (new[j] ± old[j]) × tap. Here and below the number reads the other lists: of what stands behind `iter_mut` in a zip a proof knows the lengths alone.
 fn add_pairs(acc: &mut [f32], old: &[f32], new: &[f32], tap: f32, minus: bool)
@@ -116,16 +116,16 @@ fn window_start(front: bool, at: usize, long: usize) -> usize
 pub(crate) fn outputs_back<'a>(
     tape: &'a [f32],
     src: Option<&'a [f32]>,
-    fir: Folded<'_>,
+    fir: &Folded<'_>,
     span: &mut [f32],
 )
-    requires in_bounds { (fir.long + min (length span.old) (fir.long + 16) ≤ length tape.now) × (fir.long + 32 ≤ length tape.now) × (16 ≤ length span.old) }
+    requires in_bounds { (fir.now.long + min (length span.old) (fir.now.long + 16) ≤ length tape.now) × (fir.now.long + 32 ≤ length tape.now) × (16 ≤ length span.old) }
     requires ahead { let samples = unwrap_or (option_copied src) span.old in
         let n = min (length span.old) 32 in
-        take n (drop fir.long tape.now) ≡ take n samples }
-    requires on_tape { A.OnTape fir.long tape.now (unwrap_or (option_copied src) span.old) (length span.old) }
-    ensures { let z = take fir.entry.long tape.now ++ unwrap_or (option_copied src.entry) span.old in
-        span.new ≡ H.values_of fir.entry z (length span.old) }
+        take n (drop fir.now.long tape.now) ≡ take n samples }
+    requires on_tape { A.OnTape fir.now.long tape.now (unwrap_or (option_copied src) span.old) (length span.old) }
+    ensures { let z = take fir.now.long tape.now ++ unwrap_or (option_copied src.entry) span.old in
+        span.new ≡ H.values_of fir.now z (length span.old) }
 {
     // By hand: it goes by groups from the end on, and while one is written the samples before it are read; `end` tells what is left in front.
     let mut end = span.len();
@@ -135,9 +135,9 @@ pub(crate) fn outputs_back<'a>(
         let from = window_start(front, at, fir.long);
         let samples = samples_of(src, span);
         let line = picked(front, tape, samples);
-        let y = group_at(line, from, fir);
+        let y = group_at(line, from, *fir);
         put_all(&mut span[at..end], y);
         end = at;
     }
-    more_outputs(tape, fir, &mut span[..end]);
+    outputs_once(tape, fir, &mut span[..end]);
 }

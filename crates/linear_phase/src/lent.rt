@@ -1,14 +1,14 @@
 // Samples through a filter inside its limits, whose taps and delay are lent: the roads that they take, by how many they are.
-ghost use Rattle.std.specs.Prelude.{◌≡◌, length, take, unwrap_or, option_copied};
+ghost use Rattle.std.specs.Prelude.{◌≡◌, ◌≤◌, length, take, unwrap_or, option_copied};
 ghost use Rattle.theory.specs.Sections.{state, outs};
 ghost use Rattle.linear_phase.specs.inner.Handed as H;
 ghost use Rattle.linear_phase.specs.LinearPhase.{reach};
 ghost use Rattle.linear_phase.specs.LinearPhaseFir as P;
 
 use crate::brief::{filter_brief, is_brief};
-use crate::filter::{NARROW, WIDE, filter, filter_few, filter_short, is_short};
+use crate::filter::{few_inplace, few_of, filter, filter_short, is_short};
 use crate::kinds::{Folded, Half};
-use crate::lanes::LANES;
+use crate::lanes::MORE;
 use crate::limits::{LINEAR_PHASE_DELAYS, MOST_LINEAR_PHASE_TAPS};
 use crate::one::filter_one;
 use crate::straight::{filter_straight, is_straight};
@@ -60,6 +60,10 @@ impl Half {
             span[0] = self.process(taps, delay, span[0]);
             return;
         }
+        if span.len() <= MORE {
+            let fir = self.folded(taps);
+            return few_inplace(delay, &fir, span);
+        }
         self.along(taps, delay, None, span);
     }
 
@@ -86,10 +90,10 @@ impl Half {
         if self.m <= FEW_TAPS {
             let long = self.kind.reach(self.m);
             if is_straight(self.m, long, src.len()) {
-                return filter_straight(self, taps, delay, src, span);
+                return filter_straight(self.m, self.kind, taps, delay, src, span);
             }
             if is_brief(self.m, src.len()) {
-                return filter_brief(self, taps, delay, src, span);
+                return filter_brief(self.m, self.kind, taps, delay, src, span);
             }
         }
         if src.len() == 2 {
@@ -99,10 +103,14 @@ impl Half {
             span[1] = z;
             return;
         }
+        if src.len() <= MORE {
+            let fir = self.folded(taps);
+            return few_of(delay, &fir, src, span);
+        }
         self.along(taps, delay, Some(src), span);
     }
 
-    // The lent samples, or else those of the span itself, likewise, along a tape. Two calls, and by itself the compiler inlines neither: that is some 80 instructions of a short block.
+    // A group of samples and more, the lent ones or else those of the span itself, likewise, along a tape. Two calls, and by itself the compiler inlines neither.
     #[inline(always)]
     fn along(
         self,
@@ -111,7 +119,7 @@ impl Half {
         src: Option<&[f32]>,
         span: &mut [f32],
     )
-        requires { length (unwrap_or (option_copied src) span.old) ≡ length span.old }
+        requires { (length (unwrap_or (option_copied src) span.old) ≡ length span.old) × (16 ≤ length span.old) }
         ensures delay { let before = H.lent_state self taps.now delay.old in
             let after = H.lent_state self taps.now delay.new in
             after ≡ state P.phase_fir before (unwrap_or (option_copied src.entry) span.old) }
@@ -119,16 +127,9 @@ impl Half {
             span.new ≡ outs P.phase_fir before (unwrap_or (option_copied src.entry) span.old) }
     {
         let fir = self.folded(taps);
-        let short = is_short(fir.long);
-        if span.len() < LANES {
-            if short {
-                return filter_few::<NARROW>(delay, fir, src, span);
-            }
-            return filter_few::<WIDE>(delay, fir, src, span);
+        if is_short(fir.long) {
+            return filter_short(delay, &fir, src, span);
         }
-        if short {
-            return filter_short(delay, fir, src, span);
-        }
-        filter(&mut delay[..fir.long], fir, src, span);
+        filter(&mut delay[..fir.long], &fir, src, span);
     }
 }

@@ -32,7 +32,7 @@ fn put_both(span: &mut [f32], y: &[f32], z: &[f32])
     put_group(&mut span[last..], z);
 }
 
-// The samples into a span of as many places, by their first N and their last N, which are all of them.
+// The samples into a span of as many places, by their first N and their last N, which are all of them. The last are read when the first are written: so neither waits in memory.
 #[inline(always)]
 fn copy_ends<const N: usize>(span: &mut [f32], src: &[f32])
     requires { (length src.now ≡ length span.old) × (N ≤ length span.old) × (length span.old ≤ N + N) }
@@ -40,17 +40,21 @@ fn copy_ends<const N: usize>(span: &mut [f32], src: &[f32])
 {
     let last = span.len() - N;
     let y = taken::<N>(src);
+    put_group(span, &y);
     let z = taken::<N>(&src[last..]);
-    put_both(span, &y, &z);
+    put_group(&mut span[last..], &z);
 }
 
-// At most sixteen samples into a span of as many places. By `if`s, the largest first: of a `match` the compiler compares the smallest first, which costs a block of four a tenth.
+// At most two groups of samples into a span of as many places. By `if`s, the largest first: of a `match` the compiler compares the smallest first, which costs a block of four a tenth.
 #[inline(always)]
 pub(crate) fn copy_few(span: &mut [f32], src: &[f32])
-    requires { (length src.now ≡ length span.old) × (length span.old ≤ 16) }
+    requires { (length src.now ≡ length span.old) × (length span.old ≤ 32) }
     ensures { span.new ≡ src.now }
 {
     let n = span.len();
+    if LANES <= n {
+        return copy_ends::<LANES>(span, src);
+    }
     if 8 <= n {
         return copy_ends::<8>(span, src);
     }
@@ -134,10 +138,10 @@ pub(crate) fn move_down(delay: &mut [f32], n: usize)
     move_rest(&mut delay[first..], n);
 }
 
-// The last of the delay and of at most sixteen samples behind it are the next delay.
+// The last of the delay and of at most two groups of samples behind it are the next delay.
 #[inline(always)]
 pub(crate) fn move_past(delay: &mut [f32], samples: &[f32])
-    requires { (1 ≤ length delay.old) × (length samples.now ≤ 16) }
+    requires { (1 ≤ length delay.old) × (length samples.now ≤ 32) }
     ensures { delay.new ≡ drop (length samples.now) (delay.old ++ samples.now) }
 {
     let n = samples.len();

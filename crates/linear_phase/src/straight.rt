@@ -7,7 +7,7 @@ ghost use Rattle.linear_phase.specs.LinearPhase as P;
 ghost use Rattle.linear_phase.specs.inner.Lanes as A;
 
 use crate::few::{group_of, singles};
-use crate::kinds::{Folded, Half, Kind};
+use crate::kinds::{Folded, Kind};
 use crate::lanes::{LANES, group_at, put_all};
 use crate::limits::{LINEAR_PHASE_DELAYS, MOST_LINEAR_PHASE_TAPS};
 use crate::moves::{copy_taken, taken};
@@ -67,23 +67,24 @@ fn straight<const M: usize, const LONG: usize, const ODD: bool, const MINUS: boo
     group_of::<LONG, LONG>(&tape, fir, &mut span[..LONG]);
 }
 
-// A copy for each length, and for each kind; a delay's length is named beside M, since a const argument is never computed. Lent a half, as `filter_brief`.
+// A copy for each length, and for each kind; a delay's length is named beside M, since a const argument is never computed. Handed the same as `filter_brief`.
 #[tactic(auto, unfolding(crate::specs::LinearPhase::reach))]
 #[inline(never)]
 pub(crate) fn filter_straight(
-    half: Half,
+    m: usize,
+    kind: Kind,
     taps: &[f32; MOST_LINEAR_PHASE_TAPS],
     delay: &mut [f32; LINEAR_PHASE_DELAYS],
     src: &[f32],
     span: &mut [f32],
 )
-    requires few_taps { (2 ≤ half.m) × (half.m ≤ 5) }
-    requires lent { (length span.old ≡ length src.now) × (H.half_long half ≤ length src.now) }
-    ensures delay { delay.new ≡ H.left_of (H.half_by half taps.now) (H.half_long half) delay.old src.now }
-    ensures span { span.new ≡ H.made_of (H.half_by half taps.now) (H.half_long half) delay.old src.now }
+    requires few_taps { (2 ≤ m) × (m ≤ 5) }
+    requires lent { (length span.old ≡ length src.now) × (H.kind_long m kind ≤ length src.now) }
+    ensures delay { delay.new ≡ H.left_of (H.kind_by m kind taps.now) (H.kind_long m kind) delay.old src.now }
+    ensures span { span.new ≡ H.made_of (H.kind_by m kind taps.now) (H.kind_long m kind) delay.old src.now }
 {
-    let taps = &taps[..half.m];
-    match (half.kind.odd, half.kind.antisymmetric, half.m) {
+    let taps = &taps[..m];
+    match (kind.odd, kind.antisymmetric, m) {
         (false, false, 2) => straight::<2, 3, false, false>(taps, delay, src, span),
         (false, false, 3) => straight::<3, 5, false, false>(taps, delay, src, span),
         (false, false, 4) => straight::<4, 7, false, false>(taps, delay, src, span),

@@ -1,4 +1,4 @@
--- For the contracts of private functions: the filter of a `Folded`, and of a `Half` with the taps and the delay that are lent.
+-- For the contracts of private functions: the filter of a `Folded`, and of a number of taps and a kind with the taps and the delay that are lent.
 use Rattle.std.specs.Prelude.{List, ℕ, Float, take, drop, ◌++◌}
 use Rattle.theory.specs.Sections.{Section, state, outs}
 use Rattle.linear_phase.specs.LinearPhase.{reach}
@@ -7,6 +7,7 @@ use Rattle.linear_phase.specs.inner.Lanes.{linear_phase, window_values}
 use Rattle.linear_phase.specs.LinearPhaseFir.{phase_of}
 use Rattle.linear_phase.specs.declared.kinds.Folded.{Folded}
 use Rattle.linear_phase.specs.declared.kinds.Half.{Half}
+use Rattle.linear_phase.specs.declared.kinds.Kind.{Kind}
 use Rattle.linear_phase.specs.declared.linear_phase_fir.LinearPhaseFir.{LinearPhaseFir}
 
 -- sample by sample
@@ -27,12 +28,13 @@ left_of f long delay v = state f (take long delay) v ++ drop long delay
 abbrev pub made_of : Section (List Float) Float Float → ℕ → List Float → List Float → List Float
 made_of f long delay v = outs f (take long delay) v
 
--- of a half: the filter of the taps in front of those lent, how long its delay is, and the lent state
-abbrev pub half_by : Half → List Float → Section (List Float) Float Float
-half_by h taps = linear_phase h.kind.odd h.kind.antisymmetric (take h.m taps)
+-- of m taps in front of those lent: the filter, and how long its delay is
+abbrev pub kind_by : ℕ → Kind → List Float → Section (List Float) Float Float
+kind_by m k taps = linear_phase k.odd k.antisymmetric (take m taps)
 
-abbrev pub half_long : Half → ℕ
-half_long h = reach h.kind.odd h.m
+abbrev pub kind_long : ℕ → Kind → ℕ
+kind_long m k = reach k.odd m
 
+-- the lent state
 abbrev pub lent_state : Half → List Float → List Float → LinearPhaseFir
 lent_state h taps delay = phase_of h.m h.kind.odd h.kind.antisymmetric taps delay

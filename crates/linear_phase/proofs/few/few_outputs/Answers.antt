@@ -7,5 +7,5 @@ use Rattle.linear_phase.proofs.few.few_outputs.Goals as goal
 pub returns-in-0 : goal.returns-in-0
 unfolding window_values
 returns-in-0 c =
-    let f = c.args.fir in
+    let f = c.args.fir.now in
     nil_from_length c.args.span.now c.in-0.is ∙ ap (λ (n : ℕ). window_values f.kind.odd f.kind.antisymmetric f.taps.now f.long c.args.tape.now n) (sym c.in-0.is)

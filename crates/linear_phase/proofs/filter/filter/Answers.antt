@@ -16,33 +16,33 @@ row {tape} {d} {samples} {v} {long} {head} {n} is most e l h whole =
 
 pub last_in-requires : goal.last_in-requires
 last_in-requires c =
-    let most : c.args.fir.long ≤ 46 = omega (arith, c.args.fir.inside, c.args.fir.reach) in
-    record { room = omega (arith, c.args.fir.inside, c.args.fir.reach, c.requires.whole, c.lay.auto.tape); on_tape = row c.requires.whole most c.samples_of-samples.ensures c.requires.src_len c.min-head.ensures c.lay.ensures }
+    let most : c.args.fir.now.long ≤ 46 = omega (arith, c.args.fir.now.inside, c.args.fir.now.reach) in
+    record { room = omega (arith, c.args.fir.now.inside, c.args.fir.now.reach, c.requires.whole, c.lay.auto.tape); on_tape = row c.requires.whole most c.samples_of-samples.ensures c.requires.src_len c.min-head.ensures c.lay.ensures }
 
 pub outputs_back-requires-clause-in_bounds : goal.outputs_back-requires-clause-in_bounds
 outputs_back-requires-clause-in_bounds c =
-    (omega (arith, c.args.fir.inside, c.args.fir.reach, c.lay.auto.tape), omega (arith, c.args.fir.inside, c.args.fir.reach, c.lay.auto.tape), c.requires.many.1)
+    (omega (arith, c.args.fir.now.inside, c.args.fir.now.reach, c.lay.auto.tape), omega (arith, c.args.fir.now.inside, c.args.fir.now.reach, c.lay.auto.tape), c.requires.many.1)
 
 pub outputs_back-requires-clause-ahead : goal.outputs_back-requires-clause-ahead
 outputs_back-requires-clause-ahead c =
     let a = c.args in
-    let most : c.args.fir.long ≤ 46 = omega (arith, c.args.fir.inside, c.args.fir.reach) in
+    let most : c.args.fir.now.long ≤ 46 = omega (arith, c.args.fir.now.inside, c.args.fir.now.reach) in
     let on = (renamed c.samples_of-samples.ensures c.requires.src_len c.requires.whole (row c.requires.whole most c.samples_of-samples.ensures c.requires.src_len c.min-head.ensures c.lay.ensures).on).same in
     let n = length a.span.now in
-    let few : min (length c.args.span.now) 32 ≤ min (length c.args.span.now) (c.args.fir.long + 16) = omega (arith, c.requires.many) in
-    laid_less _ _ (min n 32) (min n (a.fir.long + 16)) few on
+    let few : min (length c.args.span.now) 32 ≤ min (length c.args.span.now) (c.args.fir.now.long + 16) = omega (arith, c.requires.many) in
+    laid_less _ _ (min n 32) (min n (a.fir.now.long + 16)) few on
 
 pub outputs_back-requires-clause-on_tape : goal.outputs_back-requires-clause-on_tape
 outputs_back-requires-clause-on_tape c =
-    let most : c.args.fir.long ≤ 46 = omega (arith, c.args.fir.inside, c.args.fir.reach) in
+    let most : c.args.fir.now.long ≤ 46 = omega (arith, c.args.fir.now.inside, c.args.fir.now.reach) in
     renamed c.samples_of-samples.ensures c.requires.src_len c.requires.whole (row c.requires.whole most c.samples_of-samples.ensures c.requires.src_len c.min-head.ensures c.lay.ensures).on
 
 pub returns-clause-delay : goal.returns-clause-delay
 returns-clause-delay c =
-    next_of _ _ _ _ c.samples_of-samples.ensures (omega (arith, c.args.fir.inside, c.args.fir.reach, c.requires.whole)) c.last_in.ensures
+    next_of _ _ _ _ c.samples_of-samples.ensures (omega (arith, c.args.fir.now.inside, c.args.fir.now.reach, c.requires.whole)) c.last_in.ensures
 
 pub returns-clause-span : goal.returns-clause-span
 returns-clause-span c =
-    let most : c.args.fir.long ≤ 46 = omega (arith, c.args.fir.inside, c.args.fir.reach) in
-    outs_of _ _ _ _ _ (sym c.requires.whole) c.requires.src_len (omega (arith, c.args.fir.inside, c.args.fir.reach, c.requires.whole))
+    let most : c.args.fir.now.long ≤ 46 = omega (arith, c.args.fir.now.inside, c.args.fir.now.reach) in
+    outs_of _ _ _ _ _ (sym c.requires.whole) c.requires.src_len (omega (arith, c.args.fir.now.inside, c.args.fir.now.reach, c.requires.whole))
     (row c.requires.whole most c.samples_of-samples.ensures c.requires.src_len c.min-head.ensures c.lay.ensures).front c.outputs_back.ensures

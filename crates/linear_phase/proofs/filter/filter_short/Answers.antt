@@ -42,7 +42,7 @@ outputs_back-requires-clause-in_bounds c =
 
 pub outputs_back-requires-clause-ahead : goal.outputs_back-requires-clause-ahead
 outputs_back-requires-clause-ahead c =
-    first_of c.args.fir.long _ c.args.delay.now (c.requires.long_bound, c.told-delay) c.samples_of-line.ensures c.requires.src_len.0 c.lay_groups.ensures
+    first_of c.args.fir.now.long _ c.args.delay.now (c.requires.long_bound, c.told-delay) c.samples_of-line.ensures c.requires.src_len.0 c.lay_groups.ensures
 
 pub outputs_back-requires-clause-on_tape : goal.outputs_back-requires-clause-on_tape
 outputs_back-requires-clause-on_tape c =
@@ -52,11 +52,11 @@ outputs_back-requires-clause-on_tape c =
 pub returns-clause-delay : goal.returns-clause-delay
 returns-clause-delay c =
     let is = long_is _ (c.requires.long_bound, c.told-delay) in
-    let fits : c.args.fir.long ≤ length c.samples_of-line.result.now = omega (arith, ap length c.samples_of-line.ensures, c.requires.src_len, c.requires.long_bound) in
-    ap (λ (l : List Float). l ++ drop c.args.fir.long c.args.delay.now) (next_of _ _ _ _ c.samples_of-line.ensures (omega (arith, is, c.args.fir.inside, c.args.fir.reach)) (last _ _ c.args.fir.long is fits c.copy_few.ensures))
+    let fits : c.args.fir.now.long ≤ length c.samples_of-line.result.now = omega (arith, ap length c.samples_of-line.ensures, c.requires.src_len, c.requires.long_bound) in
+    ap (λ (l : List Float). l ++ drop c.args.fir.now.long c.args.delay.now) (next_of _ _ _ _ c.samples_of-line.ensures (omega (arith, is, c.args.fir.now.inside, c.args.fir.now.reach)) (last _ _ c.args.fir.now.long is fits c.copy_few.ensures))
 
 pub returns-clause-span : goal.returns-clause-span
 returns-clause-span c =
     let is = long_is _ (c.requires.long_bound, c.told-delay) in
     let row = laid _ (c.requires.long_bound, c.told-delay) c.samples_of-line.ensures c.requires.src_len c.lay_groups.ensures in
-    outs_of _ _ _ _ _ (sym is) c.requires.src_len.0 (omega (arith, is, c.args.fir.inside, c.args.fir.reach)) row.front c.outputs_back.ensures
+    outs_of _ _ _ _ _ (sym is) c.requires.src_len.0 (omega (arith, is, c.args.fir.now.inside, c.args.fir.now.reach)) row.front c.outputs_back.ensures

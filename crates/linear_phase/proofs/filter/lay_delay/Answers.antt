@@ -15,6 +15,20 @@ returns-then-long-le-LANES c =
     let e = put_first 16 c.taken-early.result d c.args.tape.now _ c.taken-early.ensures whole (omega (arith, c.requires.0)) c.put_all.ensures in
     (laid_less _ d c.args.long 16 c.if-long-le-LANES.true (first _ d c.args.tape.now _ c.taken-early.ensures e whole), c.put_all.auto.span)
 
+pub returns-then-long : goal.returns-then-long
+returns-then-long c =
+    let d = c.args.delay.now in
+    let t = c.put_all.new.span in
+    let many : 16 ≤ c.args.long = omega (arith, c.if-long-le-LANES.false) in
+    let whole : 16 ≤ length c.args.delay.now = omega (arith, c.told-delay) in
+    let e = put_first 16 c.taken-early.result d c.args.tape.now _ c.taken-early.ensures whole (omega (arith, c.requires.0)) c.put_all.ensures in
+    let room : 16 + 16 ≤ length c.put_all.new.span = omega (arith, c.put_all.auto.span, c.requires, many) in
+    let read : 16 + 16 ≤ length c.args.delay.now = omega (arith, c.told-delay) in
+    let early = first _ d c.args.tape.now _ c.taken-early.ensures e whole in
+    let two = more_laid t d _ _ 16 early room read (c.taken-middle.ensures ∙ ap (λ (n : ℕ). take 16 (take (n - 16) (drop 16 d))) (sym c.told-delay)) c.put_all-2.ensures in
+    let two_long = more_long t d _ _ 16 room read (c.taken-middle.ensures ∙ ap (λ (n : ℕ). take 16 (take (n - 16) (drop 16 d))) (sym c.told-delay)) c.put_all-2.ensures in
+    (laid_less _ d c.args.long 32 c.if-long.true two, two_long ∙ c.put_all.auto.span)
+
 pub returns : goal.returns
 returns c =
     let d = c.args.delay.now in

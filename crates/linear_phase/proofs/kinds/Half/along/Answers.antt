@@ -5,34 +5,8 @@ use Rattle.linear_phase.specs.LinearPhaseFir.{phase_of}
 use Rattle.linear_phase.proofs.Filters.{state_is, outs_are}
 use Rattle.linear_phase.proofs.kinds.Half.along.Goals as goal
 
-pub returns-then-short : goal.returns-then-short
-returns-then-short c =
-    let a = c.args in
-    let s = a.self in
-    let v = unwrap_or (option_copied a.src) a.span.now in
-    let o = rw (c.folded-fir.ensures.0, c.folded-fir.ensures.2) at c.filter_few.ensures in
-    record {
-      delay =
-          ap (phase_of s.m s.kind.odd s.kind.antisymmetric a.taps.now) o.delay
-          ∙ state_is _ _ _ _ _ s.inside c.told-taps c.told-delay _ c.folded-fir.ensures.1 v _ refl;
-      span = outs_are _ _ _ _ _ s.inside c.told-taps c.told-delay _ c.folded-fir.ensures.1 v _ o.span;
-    }
-
-pub returns-then-span-lt-LANES : goal.returns-then-span-lt-LANES
-returns-then-span-lt-LANES c =
-    let a = c.args in
-    let s = a.self in
-    let v = unwrap_or (option_copied a.src) a.span.now in
-    let o = rw (c.folded-fir.ensures.0, c.folded-fir.ensures.2) at c.filter_few-then-span-lt-LANES.ensures in
-    record {
-      delay =
-          ap (phase_of s.m s.kind.odd s.kind.antisymmetric a.taps.now) o.delay
-          ∙ state_is _ _ _ _ _ s.inside c.told-taps c.told-delay _ c.folded-fir.ensures.1 v _ refl;
-      span = outs_are _ _ _ _ _ s.inside c.told-taps c.told-delay _ c.folded-fir.ensures.1 v _ o.span;
-    }
-
-pub returns-then-short-2 : goal.returns-then-short-2
-returns-then-short-2 c =
+pub returns-then-is_short : goal.returns-then-is_short
+returns-then-is_short c =
     let a = c.args in
     let s = a.self in
     let v = unwrap_or (option_copied a.src) a.span.now in
