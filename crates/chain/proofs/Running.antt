@@ -37,7 +37,6 @@ use Rattle.q15.specs.FirDecimator.{fir, summing}
 use Rattle.q15.specs.FirBlock.{block_fits, fir_block_state, fir_block_outs, fir_block_cuts}
 use Rattle.q15.specs.declared.fir_decimator.FirDecimator.{FirDecimator}
 use Rattle.q15.proofs.CutFilling.{count_few}
-use Rattle.q15.proofs.FirBlocks.{block_fits_lem}
 use Rattle.half_band.specs.HbfStream.{hbf_stream}
 use Rattle.half_band.specs.HbfStreamBlock.{stream_block_fits, stream_block_state, stream_block_outs}
 use Rattle.half_band.specs.declared.hbf_stream.HbfStream.{HbfStream}
@@ -179,33 +178,26 @@ module _ (h h' : HbfStream) (r r' : PolyphaseResampF32) (values : List ℤ) (zer
       batched_each level from4 (h, r) values (map level values) o o' (h', r') w refl whole (batched_before hbf_stream from5 h r (map level values) o o' h' r' w whole4 next behind)
 
 -- ---- section 3
-module _ (s : FirDecimator) (values : List ℤ) (places : ℕ) (few : length values ≤ 128) (long : places ≡ 128) where
-  fir_fits : block_fits (length values) places ≡ true
-  fir_fits = block_fits_lem (length values) places few (omega (arith, few, long))
+module _ (s : FirDecimator) (values : List ℤ) (few : length values ≤ 128) where
+  fir_fits : block_fits (length values) ≡ true
+  fir_fits = le-leb (length values) 128 few
 
-  pub filtered_state : fir_block_state s values places ≡ state fir s values
+  pub filtered_state : fir_block_state s values ≡ state fir s values
   filtered_state = ap (λ (b : Bool). cond b (state fir s values) s) fir_fits
 
-  pub filtered_outs : fir_block_outs s values places ≡ outs fir s values
+  filtered_outs : fir_block_outs s values ≡ outs fir s values
   filtered_outs = ap (λ (b : Bool). cond b (outs fir s values) []) fir_fits
 
-  pub filtered_cuts : (cuts : ℕ) → cuts ≡ fir_block_cuts s values places → cuts ≡ cut_count w16 (outs summing s values)
+  pub filtered_cuts : (cuts : ℕ) → cuts ≡ fir_block_cuts s values → cuts ≡ cut_count w16 (outs summing s values)
   filtered_cuts cuts e = e ∙ ap (λ (b : Bool). cond b (cut_count w16 (outs summing s values)) 0) fir_fits
 
-  -- no more outputs than values
-  pub filtered_within : (made : ℕ) → made ≡ length (fir_block_outs s values places) → made ≤ length values
-  filtered_within made e = omega (arith, e, ap length filtered_outs, outs_few fir s values)
+  -- they stand in front
+  pub filtered_front : (made : ℕ) (after : List ℤ) → (made ≡ length (fir_block_outs s values)) × (after ≡ fir_block_outs s values ++ drop made values) → take made after ≡ outs fir s values
+  filtered_front made after told = ap (take made) told.1 ∙ take_at (fir_block_outs s values) (drop made values) made (sym told.0) ∙ filtered_outs
 
--- and no more cuts
+-- no more cuts than values
 pub few_cuts : (s : FirDecimator) (values : List ℤ) (cuts : ℕ) → length values ≤ 128 → cuts ≡ cut_count w16 (outs summing s values) → cuts ≤ 128
 few_cuts s values cuts few e = let k = le_trans (count_few (outs summing s values)) (outs_few summing s values) in omega (arith, e, k, few)
-
--- the outputs put back in front of the values
-pub put_back :
-    (values zeros dst y ys : List ℤ) (made : ℕ) → (made ≡ length ys) × (dst ≡ ys ++ drop made zeros) → y ≡ take made dst → take made (y ++ drop made values) ≡ ys
-put_back values zeros dst y ys made (em, ed) ey =
-    let front : take made dst ≡ ys = ap (take made) ed ∙ take_at ys (drop made zeros) made (sym em) in
-    take_at y (drop made values) made (ap length (ey ∙ front) ∙ sym em) ∙ ey ∙ front
 
 pub filter_batched :
     (s s' : FirDecimator) (h h' : HbfStream) (r r' : PolyphaseResampF32) (values front : List ℤ) (w : ℕ) (o o' : List Float) → s' ≡ state fir s values → front ≡ outs fir s values
