@@ -74,7 +74,7 @@ module _ {S A C : Type 0} (m : Machine S A C) where
           of None = ih (m.next s a) ys (suc n) (omega arith)
           of (Some c) = suc-le-suc (ih (m.next s a) ys n (omega arith))
 
-  feed_room : (s : S) (xs : List A) (n : ℕ) → length (feed m s xs n).written ≤ n
+  pub feed_room : (s : S) (xs : List A) (n : ℕ) → length (feed m s xs n).written ≤ n
   feed_room s xs n = room (length xs + n) s xs n (omega arith)
 
 -- ---- section 5
@@ -127,22 +127,22 @@ module _ (s : PolyphaseResampF32) (xs o : List Float) where
     moved_batched o' eo on v whole = batched_on t m.written o' (is_on_lem s on) v wrote (ap (λ (o : Outcome Moved PolyphaseResampF32). o.state) told) eo
 
 -- ---- section 4: the levels y are put at the end of a tape
-module _ (h h' : HbfStream) (r r' : PolyphaseResampF32) (values : List ℤ) (zeros y tape₂ : List Float) (m w : ℕ) (o o' : List Float) (few : length values ≤ 128)
-    (long : length zeros ≡ 224) (laid : y ≡ map level values ++ drop (length values) (take (224 - (224 - length values)) (drop (224 - length values) zeros))) where
+module _ (h h' : HbfStream) (r r' : PolyphaseResampF32) (values : List ℤ) (zeros y tape₂ : List Float) (m w : ℕ) (o o' : List Float) (few : length values ≤ 64)
+    (long : length zeros ≡ 160) (laid : y ≡ map level values ++ drop (length values) (take (160 - (160 - length values)) (drop (160 - length values) zeros))) where
   abbrev n : ℕ
   n = length values
 
   abbrev tape₁ : List Float
-  tape₁ = put_mid (224 - n) (224 - (224 - n)) zeros y
+  tape₁ = put_mid (160 - n) (160 - (160 - n)) zeros y
 
   y_is : y ≡ map level values
   y_is =
       laid
-      ∙ ap (λ (l : List Float). map level values ++ l) (drop_of_length-le (take (224 - (224 - n)) (drop (224 - n) zeros)) {i = n} (omega (arith, length-take (224 - (224 - n)) (drop (224 - n) zeros), few)))
+      ∙ ap (λ (l : List Float). map level values ++ l) (drop_of_length-le (take (160 - (160 - n)) (drop (160 - n) zeros)) {i = n} (omega (arith, length-take (160 - (160 - n)) (drop (160 - n) zeros), few)))
       ∙ append-nil (map level values)
 
-  put : (length tape₁ ≡ 224) × (drop (224 - n) tape₁ ≡ y)
-  put = end_put 224 (224 - n) zeros y long (omega arith) (ap length y_is ∙ length-map values level ∙ omega (arith, few))
+  put : (length tape₁ ≡ 160) × (drop (160 - n) tape₁ ≡ y)
+  put = end_put 160 (160 - n) zeros y long (omega arith) (ap length y_is ∙ length-map values level ∙ omega (arith, few))
 
   last : drop (length tape₁ - n) tape₁ ≡ map level values
   last = ap (λ (k : ℕ). drop (k - n) tape₁) put.0 ∙ put.1 ∙ y_is
@@ -154,14 +154,14 @@ module _ (h h' : HbfStream) (r r' : PolyphaseResampF32) (values : List ℤ) (zer
   fits = ap stream_block_fits last ∙ le-leb (length (map level values)) 192 (let e = length-map values level in omega arith)
 
   abbrev slice : List Float
-  slice = take (224 - (224 - m)) (drop (224 - m) tape₂)
+  slice = take (160 - (160 - m)) (drop (160 - m) tape₂)
 
   pub levels_batched :
       (n + 96 ≤ length tape₁ → h' ≡ stream_block_state h (drop (length tape₁ - n) tape₁)) → (n + 96 ≤ length tape₁ → drop (length tape₁ - m) tape₂ ≡ stream_block_outs h (drop (length tape₁ - n) tape₁))
       → length tape₂ ≡ length tape₁ → (valid_in_line r ≡ true → Whole from5 r slice (length o) → Batched from5 r slice o o' r' w)
       → valid_in_line r ≡ true → Whole from_levels (levels_on h r) values (length o) → Batched from_levels (levels_on h r) values o o' (levels_on h' r') w
   levels_batched eh em same on v whole =
-      let all : slice ≡ drop (224 - m) tape₂ = take_all (224 - (224 - m)) (drop (224 - m) tape₂) (omega (arith, length-drop (224 - m) tape₂, same, put.0)) in
+      let all : slice ≡ drop (160 - m) tape₂ = take_all (160 - (160 - m)) (drop (160 - m) tape₂) (omega (arith, length-drop (160 - m) tape₂, same, put.0)) in
       let made : slice ≡ outs hbf_stream h (map level values) =
       all
       ∙ ap (λ (k : ℕ). drop (k - m) tape₂) (sym put.0)

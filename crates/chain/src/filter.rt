@@ -39,5 +39,17 @@ pub(crate) fn filter(
     let settings = f.settings.fir(f.tap_count);
     let at = fir_block_at(lent.fir_delay, lent.taps, settings, &mut clock.wait, values);
     clock.cuts = held_sum(clock.cuts, at.cuts as u32);
-    levels_in(f, &mut clock.mu, lent, &values[..at.written], out)
+    let setting = f.settings.resampler();
+    levels_in(
+        f.settings.depth,
+        setting,
+        &mut clock.mu,
+        lent.delays,
+        lent.held,
+        lent.counts,
+        lent.delay,
+        lent.prototype,
+        &values[..at.written],
+        out,
+    )
 }

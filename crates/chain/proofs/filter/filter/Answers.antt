@@ -9,7 +9,6 @@ overflow_cast-at c = omega (arith, few_cuts _ _ _ c.requires (filtered_cuts _ _ 
 pub returns-clause-batched : goal.returns-clause-batched
 returns-clause-batched c =
     let told = rw c.fir-settings.ensures at c.fir_block_at-at.ensures in
-    let on = c.levels_in.ensures in
+    let on = rw c.resampler-setting.ensures at c.levels_in.ensures.batched in
     let few = c.requires in
-    rw (on.same.taps, on.stays.1)
-    (filter_batched _ _ _ _ _ _ _ _ _ _ _ (told.state ∙ filtered_state _ c.args.values.now few) (filtered_front _ c.args.values.now few _ _ told.outputs) on.batched)
+    filter_batched _ _ _ _ _ _ _ _ _ _ _ (told.state ∙ filtered_state _ c.args.values.now few) (filtered_front _ c.args.values.now few _ _ told.outputs) on
