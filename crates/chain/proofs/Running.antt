@@ -1,6 +1,6 @@
 -- What the functions of this crate leave is a batch of the machine from their section on: each section's block in its laws, one section before the other.
 use mathlib.Core.Path.{◌≡◌, refl, sym, ap, ap₂, ◌∙◌, subst, subst⁻¹}
-use mathlib.Core.Bool.{Bool, true, false, cond}
+use mathlib.Core.Bool.{Bool, true, false, cond, ◌&&◌}
 use mathlib.Core.List.{List, [], ◌∷◌, ◌++◌, map, append-nil}
 use Rattle.std.specs.Prelude.{Option, None, Some, Result, Ok, Err}
 use Rattle.std.specs.Result.{result_unwrap_or}
@@ -10,7 +10,7 @@ use native.Mathlib.Omega.{arith}
 use borrow.Author.Tests.{le-leb}
 use borrow.Rule.Slice.PartMut.{put_mid}
 use lib.IntN.{ℤ, pos}
-use lib.Ieee.{Float}
+use lib.Ieee.{Float, lt}
 use lib.ListN.{length, take, drop, length-drop, length-map, length-take, drop_of_length-le}
 use lib.Seq.{take_at, take_all}
 use mir.Syntax.{w16}
@@ -41,6 +41,7 @@ use Rattle.half_band.specs.HbfStream.{hbf_stream}
 use Rattle.half_band.specs.HbfStreamBlock.{stream_block_fits, stream_block_state, stream_block_outs}
 use Rattle.half_band.specs.declared.hbf_stream.HbfStream.{HbfStream}
 use Rattle.half_band.proofs.InPlace.{end_put}
+use Rattle.float.specs.F32.{one32}
 use Rattle.float.specs.Level.{level}
 use Rattle.float.specs.PolyphaseResamp.{is_on, in_line, resampler, valid, valid_in_line, block, block_outcome, block_span}
 use Rattle.float.specs.declared.polyphase_resamp.PolyphaseResampF32.{PolyphaseResampF32}
@@ -85,6 +86,23 @@ module _ (s : PolyphaseResampF32) (xs o : List Float) (off : s.phases ≡ 0) (v 
 
   pub off_batched : Batched from5 s xs o (xs ++ drop (length xs) o) s (length xs)
   off_batched = batched_off s xs o (is_off s off) whole
+
+-- on, with nothing due, it makes nothing of no levels
+pub none_batched :
+    (s : PolyphaseResampF32) (xs o : List Float) → length xs ≡ 0 → lt s.mu one32 ≡ false → Batched from5 s xs o o s 0
+unfolding in_line
+none_batched s [] o e quiet =
+    let i = feed_end in_line s (length o) (and_false (is_on s) quiet) in
+    record {
+      state = sym (ap (λ (g : Fed PolyphaseResampF32 Float). g.line) i);
+      wrote = sym (ap (λ (g : Fed PolyphaseResampF32 Float). length g.written) i);
+      span = sym (ap (λ (g : Fed PolyphaseResampF32 Float). g.written ++ drop (length g.written) o) i);
+    }
+  where
+    and_false : (b : Bool) {c : Bool} → c ≡ false → b && c ≡ false
+    and_false true e = e
+    and_false false e = refl
+none_batched s (x ∷ xs) o e quiet = absurd (omega (arith, e))
 
 -- a refused block moves nothing
 moved_as : (r : Result Moved Refusal) → result_unwrap_or r none_moved ≡ value_in none_moved r

@@ -30,6 +30,10 @@ pub(crate) fn resample(
         out[..count].copy_from_slice(levels);
         return count;
     }
+    // Nothing comes in and nothing is due: the block would make its tape ready for it.
+    if levels.is_empty() && !(*mu < 1.0) {
+        return 0;
+    }
     let moved = setting.block(mu, delay, prototype, levels, out);
     moved.unwrap_or(NONE_MOVED).written
 }

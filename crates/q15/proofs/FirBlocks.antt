@@ -18,6 +18,7 @@ use mir.Syntax.{w16}
 use mir.Val.{bool_byte}
 use borrow.Rule.Slice.PartMut.{put_mid}
 use Rattle.std.proofs.lemmas.Slice.{take-put_mid}
+use Rattle.std.proofs.lemmas.List.{drop-take}
 use Rattle.theory.specs.Lists.{listed}
 use Rattle.theory.specs.Sections.{onto, outs, state}
 use Rattle.theory.proofs.Sections.{onto_append, state_append, outs_append}
@@ -501,3 +502,35 @@ tape_laid d zeros front ys src kept k l e f =
     let n : length front ≡ kept = ap length e ∙ length-take-le kept d l in
     take-put_mid kept k (front ++ zeros) ys (kept + length src) (ap (λ (m : ℕ). kept + m) (ap length (sym f))) (omega (arith, length-append front zeros, n))
     ∙ ap₂ {C = List ℤ} (λ (x y : List ℤ). x ++ y) (take_at front zeros kept n ∙ e) f
+
+-- the window that begins at `last` of a tape Z, put into the delay d moved down by D: what stands behind its first D samples, and then its last D
+pub window_moved :
+    (T D last a b n : ℕ) (Z d y z : List ℤ) → D ≤ T → T ≤ length d → last + T ≤ length Z → a ≡ T - D → b ≡ D → n ≡ D
+    → y ≡ take a (drop (last + D) Z) → z ≡ take b (drop (last + T - D) Z)
+    → put_mid (T - D) n (y ++ drop (T - D) d) z ≡ moved T D (take T (drop last Z) ++ drop T d)
+unfolding moved
+window_moved T D last a b n Z d y z l m inside ea eb en ey ez =
+    let W : List ℤ = take T (drop last Z) in
+    let R : List ℤ = drop T d in
+    let long : length (take T (drop last Z)) ≡ T = length-take-le T (drop last Z) (omega (arith, length-drop last Z)) in
+    let whole : T - D + D ≡ T = omega arith in
+    let turned : D + (T - D) ≡ T = omega arith in
+    let there : last + (T - D) ≡ last + T - D = omega arith in
+    let y_is : y ≡ drop D W =
+    ey ∙ ap₂ {C = List ℤ} (λ (n : ℕ) (x : List ℤ). take n x) ea (sym (drop-drop D last Z)) ∙ sym (drop-take D (T - D) (drop last Z)) ∙ ap (λ (n : ℕ). drop D (take n (drop last Z))) turned
+    in
+    let z_is : z ≡ drop (T - D) W =
+    ez ∙ ap₂ {C = List ℤ} (λ (n : ℕ) (x : List ℤ). take n x) eb (ap (λ (n : ℕ). drop n Z) (sym there) ∙ sym (drop-drop (T - D) last Z))
+    ∙ sym (drop-take (T - D) D (drop last Z)) ∙ ap (λ (n : ℕ). drop (T - D) (take n (drop last Z))) whole
+    in
+    let y_long : length y ≡ T - D = ap length y_is ∙ length-drop D W ∙ ap (λ (n : ℕ). n - D) long in
+    let moved_long : length (drop D (take T (drop last Z))) ≡ T - D = length-drop D W ∙ ap (λ (n : ℕ). n - D) long in
+    let behind : drop D (drop (T - D) (y ++ drop (T - D) d)) ≡ R =
+    ap (drop D) (drop_at y (drop (T - D) d) (T - D) y_long) ∙ drop-drop D (T - D) d ∙ ap (λ (n : ℕ). drop n d) whole
+    in
+    ap (λ (k : ℕ). put_mid (T - D) k (y ++ drop (T - D) d) z) en
+    ∙ ap₂ {C = List ℤ} (λ (p q : List ℤ). p ++ (z ++ q)) (take_at y (drop (T - D) d) (T - D) y_long) behind
+    ∙ ap₂ {C = List ℤ} (λ (p q : List ℤ). p ++ (q ++ R)) y_is z_is
+    ∙ sym (ap₂ {C = List ℤ} (λ (p q : List ℤ). p ++ q)
+    (ap (take (T - D)) (drop-append-le D W R (omega (arith, long))) ∙ take_at (drop D W) R (T - D) moved_long)
+    (drop-append-le (T - D) W R (omega (arith, long))))

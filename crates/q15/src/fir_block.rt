@@ -10,7 +10,7 @@ ghost use Rattle.q15.specs.FirDecimator.{most_taps, fir_state, moved};
 ghost use Rattle.q15.specs.FirBlock.{most_fir_block, fir_block_state, fir_block_outs, fir_block_cuts, Ran, OnTape, stored_run};
 
 use crate::block::{FirBlock, NONE_WRITTEN};
-use crate::fir_decimator::{fir_at, move_down};
+use crate::fir_decimator::fir_at;
 use crate::fir_settings::{FirSettings, MOST_TAPS};
 use crate::fixed::Q15;
 use crate::polyphase_decimate::decimate;
@@ -22,7 +22,7 @@ pub const MOST_FIR_BLOCK: usize = 128;
 const TAPE: usize = MOST_TAPS + MOST_FIR_BLOCK;
 
 // No bound stands in the settings: they are the numbers of any state, also of one that row 15 refuses, so each function below asks for the bounds that it needs. No struct of
-// bounds that `is_on_tape` makes: `move_down`, `fir_output` and `windows_of` need the taps' alone, and the first two have it of states off the tape too.
+// bounds that `is_on_tape` makes: `fir_output` and `windows_of` need the taps' alone, and the first two have it of states off the tape too.
 impl FirSettings {
     // Whether the windows stand on a tape without gaps.
     fn is_on_tape(self, wait: usize) -> bool
@@ -74,7 +74,8 @@ fn windows_of(
     decimate(tape, &taps[..settings.tap_count], settings.factor, places) as usize
 }
 
-// The window that begins at `last` is the last: it is moved down, and the samples behind it are stored. What it returns is the wait.
+// The window that begins at `last` is the last: it is put into the delay moved down, its last samples once more behind it as moving leaves them, and the samples behind
+// it are stored. What it returns is the wait.
 fn after_last(
     delay: &mut [i16; MOST_TAPS],
     settings: FirSettings,
@@ -89,8 +90,9 @@ fn after_last(
 {
     let t = settings.tap_count;
     let end = last + t;
-    delay[..t].copy_from_slice(&tape[last..end]);
-    move_down(delay, t, settings.factor);
+    let kept = t - settings.factor;
+    delay[..kept].copy_from_slice(&tape[last + settings.factor..end]);
+    delay[kept..t].copy_from_slice(&tape[end - settings.factor..end]);
     store_run(delay, t, settings.factor, &tape[end..]);
     settings.factor - (tape.len() - end)
 }
