@@ -3,3 +3,4 @@ pub mod Batching
 pub mod Sections
 pub mod Leaving
 pub mod Running
+pub mod TwoParts

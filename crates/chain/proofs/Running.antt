@@ -1,6 +1,6 @@
 -- What the functions of this crate leave is a batch of the machine from their section on: each section's block in its laws, one section before the other.
 use mathlib.Core.Path.{◌≡◌, refl, sym, ap, ap₂, ◌∙◌, subst, subst⁻¹}
-use mathlib.Core.Bool.{Bool, true, false, cond}
+use mathlib.Core.Bool.{Bool, true, false, cond, ◌&&◌}
 use mathlib.Core.List.{List, [], ◌∷◌, ◌++◌, map, append-nil}
 use Rattle.std.specs.Prelude.{Option, None, Some, Result, Ok, Err}
 use Rattle.std.specs.Result.{result_unwrap_or}
@@ -10,7 +10,7 @@ use native.Mathlib.Omega.{arith}
 use borrow.Author.Tests.{le-leb}
 use borrow.Rule.Slice.PartMut.{put_mid}
 use lib.IntN.{ℤ, pos}
-use lib.Ieee.{Float}
+use lib.Ieee.{Float, lt}
 use lib.ListN.{length, take, drop, length-drop, length-map, length-take, drop_of_length-le}
 use lib.Seq.{take_at, take_all}
 use mir.Syntax.{w16}
@@ -37,11 +37,11 @@ use Rattle.q15.specs.FirDecimator.{fir, summing}
 use Rattle.q15.specs.inner.FirBlock.{block_fits, fir_block_state, fir_block_outs, fir_block_cuts}
 use Rattle.q15.specs.declared.fir_decimator.FirDecimator.{FirDecimator}
 use Rattle.q15.proofs.CutFilling.{count_few}
-use Rattle.q15.proofs.FirBlocks.{block_fits_lem}
 use Rattle.half_band.specs.HbfStream.{hbf_stream}
 use Rattle.half_band.specs.inner.HbfStreamBlock.{stream_block_fits, stream_block_state, stream_block_outs}
 use Rattle.half_band.specs.declared.hbf_stream.HbfStream.{HbfStream}
 use Rattle.half_band.proofs.InPlace.{end_put}
+use Rattle.float.specs.F32.{one32}
 use Rattle.float.specs.Level.{level}
 use Rattle.float.specs.PolyphaseOpening.{valid, valid_in_line}
 use Rattle.float.specs.PolyphaseResamp.{is_on, in_line, resampler, block, block_outcome, block_span}
@@ -76,7 +76,7 @@ module _ {S A C : Type 0} (m : Machine S A C) where
           of None = ih (m.next s a) ys (suc n) (omega arith)
           of (Some c) = suc-le-suc (ih (m.next s a) ys n (omega arith))
 
-  feed_room : (s : S) (xs : List A) (n : ℕ) → length (feed m s xs n).written ≤ n
+  pub feed_room : (s : S) (xs : List A) (n : ℕ) → length (feed m s xs n).written ≤ n
   feed_room s xs n = room (length xs + n) s xs n (omega arith)
 
 -- ---- section 5
@@ -87,6 +87,23 @@ module _ (s : PolyphaseResampF32) (xs o : List Float) (off : s.phases ≡ 0) (v 
 
   pub off_batched : Batched from5 s xs o (xs ++ drop (length xs) o) s (length xs)
   off_batched = batched_off s xs o (is_off s off) whole
+
+-- on, with nothing due, it makes nothing of no levels
+pub none_batched :
+    (s : PolyphaseResampF32) (xs o : List Float) → length xs ≡ 0 → lt s.mu one32 ≡ false → Batched from5 s xs o o s 0
+unfolding in_line
+none_batched s [] o e quiet =
+    let i = feed_end in_line s (length o) (and_false (is_on s) quiet) in
+    record {
+      state = sym (ap (λ (g : Fed PolyphaseResampF32 Float). g.line) i);
+      wrote = sym (ap (λ (g : Fed PolyphaseResampF32 Float). length g.written) i);
+      span = sym (ap (λ (g : Fed PolyphaseResampF32 Float). g.written ++ drop (length g.written) o) i);
+    }
+  where
+    and_false : (b : Bool) {c : Bool} → c ≡ false → b && c ≡ false
+    and_false true e = e
+    and_false false e = refl
+none_batched s (x ∷ xs) o e quiet = absurd (omega (arith, e))
 
 -- a refused block moves nothing
 moved_as : (r : Result Moved Refusal) → result_unwrap_or r none_moved ≡ value_in none_moved r
@@ -129,22 +146,22 @@ module _ (s : PolyphaseResampF32) (xs o : List Float) where
     moved_batched o' eo on v whole = batched_on t m.written o' (is_on_lem s on) v wrote (ap (λ (o : Outcome Moved PolyphaseResampF32). o.state) told) eo
 
 -- ---- section 4: the levels y are put at the end of a tape
-module _ (h h' : HbfStream) (r r' : PolyphaseResampF32) (values : List ℤ) (zeros y tape₂ : List Float) (m w : ℕ) (o o' : List Float) (few : length values ≤ 128)
-    (long : length zeros ≡ 224) (laid : y ≡ map level values ++ drop (length values) (take (224 - (224 - length values)) (drop (224 - length values) zeros))) where
+module _ (h h' : HbfStream) (r r' : PolyphaseResampF32) (values : List ℤ) (zeros y tape₂ : List Float) (m w : ℕ) (o o' : List Float) (few : length values ≤ 64)
+    (long : length zeros ≡ 160) (laid : y ≡ map level values ++ drop (length values) (take (160 - (160 - length values)) (drop (160 - length values) zeros))) where
   abbrev n : ℕ
   n = length values
 
   abbrev tape₁ : List Float
-  tape₁ = put_mid (224 - n) (224 - (224 - n)) zeros y
+  tape₁ = put_mid (160 - n) (160 - (160 - n)) zeros y
 
   y_is : y ≡ map level values
   y_is =
       laid
-      ∙ ap (λ (l : List Float). map level values ++ l) (drop_of_length-le (take (224 - (224 - n)) (drop (224 - n) zeros)) {i = n} (omega (arith, length-take (224 - (224 - n)) (drop (224 - n) zeros), few)))
+      ∙ ap (λ (l : List Float). map level values ++ l) (drop_of_length-le (take (160 - (160 - n)) (drop (160 - n) zeros)) {i = n} (omega (arith, length-take (160 - (160 - n)) (drop (160 - n) zeros), few)))
       ∙ append-nil (map level values)
 
-  put : (length tape₁ ≡ 224) × (drop (224 - n) tape₁ ≡ y)
-  put = end_put 224 (224 - n) zeros y long (omega arith) (ap length y_is ∙ length-map values level ∙ omega (arith, few))
+  put : (length tape₁ ≡ 160) × (drop (160 - n) tape₁ ≡ y)
+  put = end_put 160 (160 - n) zeros y long (omega arith) (ap length y_is ∙ length-map values level ∙ omega (arith, few))
 
   last : drop (length tape₁ - n) tape₁ ≡ map level values
   last = ap (λ (k : ℕ). drop (k - n) tape₁) put.0 ∙ put.1 ∙ y_is
@@ -156,14 +173,14 @@ module _ (h h' : HbfStream) (r r' : PolyphaseResampF32) (values : List ℤ) (zer
   fits = ap stream_block_fits last ∙ le-leb (length (map level values)) 192 (let e = length-map values level in omega arith)
 
   abbrev slice : List Float
-  slice = take (224 - (224 - m)) (drop (224 - m) tape₂)
+  slice = take (160 - (160 - m)) (drop (160 - m) tape₂)
 
   pub levels_batched :
       (n + 96 ≤ length tape₁ → h' ≡ stream_block_state h (drop (length tape₁ - n) tape₁)) → (n + 96 ≤ length tape₁ → drop (length tape₁ - m) tape₂ ≡ stream_block_outs h (drop (length tape₁ - n) tape₁))
       → length tape₂ ≡ length tape₁ → (valid_in_line r ≡ true → Whole from5 r slice (length o) → Batched from5 r slice o o' r' w)
       → valid_in_line r ≡ true → Whole from_levels (levels_on h r) values (length o) → Batched from_levels (levels_on h r) values o o' (levels_on h' r') w
   levels_batched eh em same on v whole =
-      let all : slice ≡ drop (224 - m) tape₂ = take_all (224 - (224 - m)) (drop (224 - m) tape₂) (omega (arith, length-drop (224 - m) tape₂, same, put.0)) in
+      let all : slice ≡ drop (160 - m) tape₂ = take_all (160 - (160 - m)) (drop (160 - m) tape₂) (omega (arith, length-drop (160 - m) tape₂, same, put.0)) in
       let made : slice ≡ outs hbf_stream h (map level values) =
       all
       ∙ ap (λ (k : ℕ). drop (k - m) tape₂) (sym put.0)
@@ -180,33 +197,26 @@ module _ (h h' : HbfStream) (r r' : PolyphaseResampF32) (values : List ℤ) (zer
       batched_each level from4 (h, r) values (map level values) o o' (h', r') w refl whole (batched_before hbf_stream from5 h r (map level values) o o' h' r' w whole4 next behind)
 
 -- ---- section 3
-module _ (s : FirDecimator) (values : List ℤ) (places : ℕ) (few : length values ≤ 128) (long : places ≡ 128) where
-  fir_fits : block_fits (length values) places ≡ true
-  fir_fits = block_fits_lem (length values) places few (omega (arith, few, long))
+module _ (s : FirDecimator) (values : List ℤ) (few : length values ≤ 128) where
+  fir_fits : block_fits (length values) ≡ true
+  fir_fits = le-leb (length values) 128 few
 
-  pub filtered_state : fir_block_state s values places ≡ state fir s values
+  pub filtered_state : fir_block_state s values ≡ state fir s values
   filtered_state = ap (λ (b : Bool). cond b (state fir s values) s) fir_fits
 
-  pub filtered_outs : fir_block_outs s values places ≡ outs fir s values
+  filtered_outs : fir_block_outs s values ≡ outs fir s values
   filtered_outs = ap (λ (b : Bool). cond b (outs fir s values) []) fir_fits
 
-  pub filtered_cuts : (cuts : ℕ) → cuts ≡ fir_block_cuts s values places → cuts ≡ cut_count w16 (outs summing s values)
+  pub filtered_cuts : (cuts : ℕ) → cuts ≡ fir_block_cuts s values → cuts ≡ cut_count w16 (outs summing s values)
   filtered_cuts cuts e = e ∙ ap (λ (b : Bool). cond b (cut_count w16 (outs summing s values)) 0) fir_fits
 
-  -- no more outputs than values
-  pub filtered_within : (made : ℕ) → made ≡ length (fir_block_outs s values places) → made ≤ length values
-  filtered_within made e = omega (arith, e, ap length filtered_outs, outs_few fir s values)
+  -- they stand in front
+  pub filtered_front : (made : ℕ) (after : List ℤ) → (made ≡ length (fir_block_outs s values)) × (after ≡ fir_block_outs s values ++ drop made values) → take made after ≡ outs fir s values
+  filtered_front made after told = ap (take made) told.1 ∙ take_at (fir_block_outs s values) (drop made values) made (sym told.0) ∙ filtered_outs
 
--- and no more cuts
+-- no more cuts than values
 pub few_cuts : (s : FirDecimator) (values : List ℤ) (cuts : ℕ) → length values ≤ 128 → cuts ≡ cut_count w16 (outs summing s values) → cuts ≤ 128
 few_cuts s values cuts few e = let k = le_trans (count_few (outs summing s values)) (outs_few summing s values) in omega (arith, e, k, few)
-
--- the outputs put back in front of the values
-pub put_back :
-    (values zeros dst y ys : List ℤ) (made : ℕ) → (made ≡ length ys) × (dst ≡ ys ++ drop made zeros) → y ≡ take made dst → take made (y ++ drop made values) ≡ ys
-put_back values zeros dst y ys made (em, ed) ey =
-    let front : take made dst ≡ ys = ap (take made) ed ∙ take_at ys (drop made zeros) made (sym em) in
-    take_at y (drop made values) made (ap length (ey ∙ front) ∙ sym em) ∙ ey ∙ front
 
 pub filter_batched :
     (s s' : FirDecimator) (h h' : HbfStream) (r r' : PolyphaseResampF32) (values front : List ℤ) (w : ℕ) (o o' : List Float) → s' ≡ state fir s values → front ≡ outs fir s values

@@ -1,10 +1,10 @@
 // 01, section 3: the values of a block through the FIR.
-ghost use Rattle.std.specs.Prelude.{◌≡◌, true, ◌≤◌, length, take};
+ghost use Rattle.std.specs.Prelude.{◌≡◌, true, ◌≤◌, length};
 ghost use Rattle.std.specs.Int.{w16};
 ghost use Rattle.theory.specs.Tally.{held_sum};
-ghost use Rattle.theory.specs.Sections.{state, outs};
+ghost use Rattle.theory.specs.Sections.{outs};
 ghost use Rattle.q15.specs.Fixed.{cut_count};
-ghost use Rattle.q15.specs.FirDecimator.{fir, fir_state, summing};
+ghost use Rattle.q15.specs.FirDecimator.{summing};
 ghost use Rattle.float.specs.PolyphaseOpening.{valid_in_line};
 ghost use Rattle.chain.specs.Chain.{from3};
 ghost use Rattle.chain.specs.Cuts.{most_cuts};
@@ -14,31 +14,9 @@ ghost use Rattle.chain.specs.inner.Batched.{most_sums, Whole, Batched};
 
 use crate::arrays::Arrays;
 use crate::clock::{Clock, held_sum};
-use crate::fixed::{Fixed, MOST_SUMS};
+use crate::fixed::Fixed;
 use crate::levels::levels_in;
-use q15::{FirBlock, FirSettings, MOST_TAPS, fir_block_at};
-
-// Values through the FIR; what it makes stands in front of them. Its tape and its outputs stand in a frame of their own, which the sections behind do not carry.
-#[inline(never)]
-fn fir_block(
-    settings: FirSettings,
-    wait: &mut usize,
-    delay: &mut [i16; MOST_TAPS],
-    taps: &[i16; MOST_TAPS],
-    values: &mut [i16],
-) -> FirBlock
-    requires { length values.old ≤ most_sums }
-    ensures state { fir_state taps.now settings.tap_count settings.factor delay.new wait.new
-        ≡ state fir (fir_state taps.now settings.tap_count settings.factor delay.old wait.old) values.old }
-    ensures outputs { let made = outs fir (fir_state taps.now settings.tap_count settings.factor delay.old wait.old) values.old in
-        (result.written ≡ length made) × (take result.written values.new ≡ made) }
-    ensures cuts { result.cuts ≡ cut_count w16 (outs summing (fir_state taps.now settings.tap_count settings.factor delay.old wait.old) values.old) }
-{
-    let mut filtered = [0i16; MOST_SUMS];
-    let at = fir_block_at(delay, taps, settings, wait, values, &mut filtered);
-    values[..at.written].copy_from_slice(&filtered[..at.written]);
-    at
-}
+use q15::fir_block_at;
 
 // Values into the FIR, and what it makes, counted where it was cut, into the half-band stages. Answers how many places of the span are written.
 pub(crate) fn filter(
@@ -60,7 +38,19 @@ pub(crate) fn filter(
     ensures counter { clock.new.sample_counter ≡ clock.old.sample_counter }
 {
     let settings = f.settings.fir(f.tap_count);
-    let at = fir_block(settings, &mut clock.wait, lent.fir_delay, lent.taps, values);
+    let at = fir_block_at(lent.fir_delay, lent.taps, settings, &mut clock.wait, values);
     clock.cuts = held_sum(clock.cuts, at.cuts as u32);
-    levels_in(f, &mut clock.mu, lent, &values[..at.written], out)
+    let setting = f.settings.resampler();
+    levels_in(
+        f.settings.depth,
+        setting,
+        &mut clock.mu,
+        lent.delays,
+        lent.held,
+        lent.counts,
+        lent.delay,
+        lent.prototype,
+        &values[..at.written],
+        out,
+    )
 }

@@ -2,21 +2,23 @@
 ghost use Rattle.std.specs.Prelude.{◌≡◌, true, ◌++◌, map, ◌≤◌, length, drop};
 ghost use Rattle.float.specs.Level.{level};
 ghost use Rattle.float.specs.PolyphaseOpening.{valid_in_line};
+ghost use Rattle.float.specs.PolyphaseResamp.{state_of};
+ghost use Rattle.half_band.specs.HbfStream.{stream_of};
 ghost use Rattle.chain.specs.Chain.{from_levels};
-ghost use Rattle.chain.specs.inner.Lending as N;
-ghost use Rattle.chain.specs.Same.{Same};
-ghost use Rattle.chain.specs.inner.Lending.{ThinnerStays};
-ghost use Rattle.chain.specs.inner.Batched.{most_sums, Whole, Batched};
+ghost use Rattle.chain.specs.inner.Parts.{levels_on};
+ghost use Rattle.chain.specs.inner.Batched.{most_levels, most_sums, Whole, Batched};
 
-use crate::arrays::Arrays;
-use crate::fixed::{Fixed, MOST_SUMS};
 use crate::resample::resample;
 use float::q15_to_f32;
-use half_band::{DEC_DELAYS, hbf_stream_block_at};
+use float::settings::{MOST_CELLS, MOST_PHASE_TAPS, Setting};
+use half_band::{DEC_CASCADE_DELAYS, DEC_DELAYS, MOST_DEPTH, hbf_stream_block_at};
 use q15::Q15;
 
-// The levels of a block at the end of a tape, and the places before them that the half-band stages want.
-const TAPE: usize = DEC_DELAYS + MOST_SUMS;
+// The most levels of a tape: a block of more goes in two parts.
+const MOST_LEVELS: usize = 64;
+
+// The levels at the end of a tape, and the places before them that the half-band stages want.
+const TAPE: usize = DEC_DELAYS + MOST_LEVELS;
 
 // The values as levels, in front of a span.
 fn put_levels(span: &mut [f32], values: &[i16])
@@ -29,32 +31,84 @@ fn put_levels(span: &mut [f32], values: &[i16])
     }
 }
 
-// Values into the half-band stages, and what these make into the resampler. Answers how many places of the span are written.
-pub(crate) fn levels_in(
-    f: Fixed,
+// So many values as a tape takes into the half-band stages, and what these make into the resampler. Answers how many places of the span are written. The tape stands in a frame of its own, which a
+// feed of few samples does not carry; the arrays go one by one, since of references in memory the compiler does not know that they are none to the tape.
+#[inline(never)]
+fn part_in(
+    depth: usize,
+    setting: Setting,
     mu: &mut f32,
-    lent: &mut Arrays<'_>,
+    delays: &mut [f32; DEC_CASCADE_DELAYS],
+    held: &mut [f32; MOST_DEPTH],
+    counts: &mut [usize; MOST_DEPTH],
+    delay: &mut [f32; MOST_PHASE_TAPS],
+    prototype: &[f32; MOST_CELLS],
+    values: &[i16],
+    out: &mut [f32],
+) -> usize
+    requires { length values.now ≤ most_levels }
+    ensures within { result ≤ length out.old }
+    ensures batched { let resampler = state_of setting mu.old delay.old prototype.now in
+        let before = levels_on (stream_of depth delays.old held.old counts.old) resampler in
+        let after = levels_on (stream_of depth delays.new held.new counts.new) (state_of setting mu.new delay.new prototype.now) in
+        valid_in_line resampler ≡ true → Whole from_levels before values.now (length out.old)
+        → Batched from_levels before values.now out.old out.new after result }
+{
+    let n = values.len();
+    let mut tape = [0.0f32; TAPE];
+    put_levels(&mut tape[TAPE - n..], values);
+    let made = hbf_stream_block_at(depth, delays, held, counts, &mut tape, n);
+    resample(setting, mu, delay, prototype, &tape[TAPE - made..], out)
+}
+
+// Values into the half-band stages, and what these make into the resampler, in two parts where a tape does not take them. Answers how many places of the span are written.
+pub(crate) fn levels_in(
+    depth: usize,
+    setting: Setting,
+    mu: &mut f32,
+    delays: &mut [f32; DEC_CASCADE_DELAYS],
+    held: &mut [f32; MOST_DEPTH],
+    counts: &mut [usize; MOST_DEPTH],
+    delay: &mut [f32; MOST_PHASE_TAPS],
+    prototype: &[f32; MOST_CELLS],
     values: &[i16],
     out: &mut [f32],
 ) -> usize
     requires { length values.now ≤ most_sums }
     ensures within { result ≤ length out.old }
-    ensures same { Same lent.old lent.new }
-    ensures stays { ThinnerStays lent.old lent.new × (lent.new.fir_delay.now ≡ lent.old.fir_delay.now) }
-    ensures batched { let before = N.levels_in f mu.old lent.old in
-        valid_in_line (N.resampler_in f mu.old lent.old) ≡ true → Whole from_levels before values.now (length out.old)
-        → Batched from_levels before values.now out.old out.new (N.levels_in f mu.new lent.new) result }
+    ensures batched { let resampler = state_of setting mu.old delay.old prototype.now in
+        let before = levels_on (stream_of depth delays.old held.old counts.old) resampler in
+        let after = levels_on (stream_of depth delays.new held.new counts.new) (state_of setting mu.new delay.new prototype.now) in
+        valid_in_line resampler ≡ true → Whole from_levels before values.now (length out.old)
+        → Batched from_levels before values.now out.old out.new after result }
 {
-    let n = values.len();
-    let mut tape = [0.0f32; TAPE];
-    put_levels(&mut tape[TAPE - n..], values);
-    let made = hbf_stream_block_at(
-        f.settings.depth,
-        lent.delays,
-        lent.held,
-        lent.counts,
-        &mut tape,
-        n,
+    let first = values.len().min(MOST_LEVELS);
+    let begun = part_in(
+        depth,
+        setting,
+        mu,
+        delays,
+        held,
+        counts,
+        delay,
+        prototype,
+        &values[..first],
+        out,
     );
-    resample(f, mu, lent.delay, lent.prototype, &tape[TAPE - made..], out)
+    if values.len() == first {
+        return begun;
+    }
+    let rest = part_in(
+        depth,
+        setting,
+        mu,
+        delays,
+        held,
+        counts,
+        delay,
+        prototype,
+        &values[first..],
+        &mut out[begun..],
+    );
+    begun + rest
 }

@@ -21,6 +21,7 @@ use crate::filter::filter;
 use crate::fixed::{Fixed, MOST_SUMS};
 use integer::gain::scaled;
 use integer::limits::MOST_STAGES;
+use nonrecursive::Thinning;
 use nonrecursive::nonrecursive_decimator::MOST_NEIGHBOURS;
 use nonrecursive::thinning::thin_block_at;
 use q15::cut_q15;
@@ -44,10 +45,13 @@ fn cut_sums(bits: u32, sums: &[i32], dst: &mut [i16]) -> u32
 }
 
 // Samples up to `most` sums through section 1, and the sums, scaled and cut, in front of `values`. Answers how many were taken and made, and how many were cut. The
-// sums stand in a frame of their own, which the sections behind do not carry.
+// sums stand in a frame of their own, which the sections behind do not carry; the numbers of section 1 go one by one, since `Fixed` would be put into memory for the call.
 #[inline(never)]
 fn values_in(
-    f: Fixed,
+    thinning: Thinning,
+    stages: usize,
+    r: usize,
+    bits: u32,
     sample_counter: &mut usize,
     integrators: &mut [i32; MOST_STAGES],
     combs: &mut [i32; MOST_STAGES],
@@ -57,23 +61,19 @@ fn values_in(
     values: &mut [i16; MOST_SUMS],
 ) -> (Moved, u32)
     requires { most ≤ most_sums }
-    ensures counts { let s = f.settings in
-        let fed = thin_fed (thinner_of s.thinning s.stages s.r integrators.old combs.old neighbours.old sample_counter.old) samples.now most in
+    ensures counts { let fed = thin_fed (thinner_of thinning stages r integrators.old combs.old neighbours.old sample_counter.old) samples.now most in
         (result.0.taken ≡ fed.taken) × (result.0.written ≡ length fed.written) }
-    ensures state { let s = f.settings in
-        let fed = thin_fed (thinner_of s.thinning s.stages s.r integrators.old combs.old neighbours.old sample_counter.old) samples.now most in
-        thinner_of s.thinning s.stages s.r integrators.new combs.new neighbours.new sample_counter.new ≡ fed.line }
-    ensures cut { let s = f.settings in
-        let fed = thin_fed (thinner_of s.thinning s.stages s.r integrators.old combs.old neighbours.old sample_counter.old) samples.now most in
-        let scaled = map (λ y. floor_div y (2 ^ f.bits)) fed.written in
+    ensures state { let fed = thin_fed (thinner_of thinning stages r integrators.old combs.old neighbours.old sample_counter.old) samples.now most in
+        thinner_of thinning stages r integrators.new combs.new neighbours.new sample_counter.new ≡ fed.line }
+    ensures cut { let fed = thin_fed (thinner_of thinning stages r integrators.old combs.old neighbours.old sample_counter.old) samples.now most in
+        let scaled = map (λ y. floor_div y (2 ^ bits)) fed.written in
         (take result.0.written values.new ≡ map (cut w16) scaled) × (result.1 ≡ cut_count w16 scaled) }
 {
-    let s = f.settings;
     let mut sums = [0i32; MOST_SUMS];
     let moved = thin_block_at(
-        s.thinning,
-        s.stages,
-        s.r,
+        thinning,
+        stages,
+        r,
         sample_counter,
         integrators,
         combs,
@@ -81,7 +81,7 @@ fn values_in(
         samples,
         &mut sums[..most],
     );
-    let cuts = cut_sums(f.bits, &sums[..moved.written], values);
+    let cuts = cut_sums(bits, &sums[..moved.written], values);
     (moved, cuts)
 }
 
@@ -111,9 +111,13 @@ pub fn take_batch(
         × (clock.new.cuts ≡ held_sum most_cuts clock.old.cuts cuts) }
 {
     let most = count.min(MOST_SUMS);
+    let s = f.settings;
     let mut values = [0i16; MOST_SUMS];
     let (moved, cuts) = values_in(
-        f,
+        s.thinning,
+        s.stages,
+        s.r,
+        f.bits,
         &mut clock.sample_counter,
         lent.integrators,
         lent.combs,

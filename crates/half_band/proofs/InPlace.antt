@@ -40,7 +40,7 @@ end_put m at l y e h long =
     (ap length is ∙ length-append (take at l) y ∙ omega (arith, front, long, h), ap (drop at) is ∙ drop_at (take at l) y at front)
 
 -- places of a list that are places of its front
-places_in : (n a m : ℕ) (l : List Float) → a + n ≤ m → take n (drop a l) ≡ take n (drop a (take m l))
+pub places_in : (n a m : ℕ) (l : List Float) → a + n ≤ m → take n (drop a l) ≡ take n (drop a (take m l))
 places_in n a m l h =
     let sum : a + (m - a) ≡ m = omega arith in
     sym (take-take n (m - a) (drop a l) (omega arith)) ∙ ap (take n) (sym (drop-take a (m - a) l) ∙ ap (λ (k : ℕ). drop a (take k l)) sum)

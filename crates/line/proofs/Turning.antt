@@ -1,20 +1,21 @@
 -- A turn of the loop that feeds sample by sample: the outputs that are due, the samples that complete no sum and the next sample each have their law, joined here.
-use mathlib.Core.Path.{◌≡◌, refl, sym, ap, ◌∙◌}
+use mathlib.Core.Path.{◌≡◌, refl, sym, ap, ap₂, ◌∙◌}
 use mathlib.Core.Bool.{Bool, true, false}
-use mathlib.Core.List.{List, ◌++◌}
+use mathlib.Core.List.{List, ◌++◌, append-nil}
 use Rattle.std.specs.Prelude.{Option, None, Some}
-use Prim.Native.Nat.{ℕ, ◌+◌, ◌≤◌, ◌<◌}
+use Prim.Native.Nat.{ℕ, ◌+◌, ◌-◌, ◌≤◌, ◌<◌}
 use borrow.Author.Tests.{le-ltb, lt-ltb}
 use lib.Dec.{ltb}
-use lib.Seq.{take_all}
-use native.Mathlib.Nat.{zero-add}
+use lib.Seq.{take_all, length-take-le}
+use native.Mathlib.Nat.{zero-add, add-zero}
 use native.Mathlib.Omega.{arith}
 use lib.IntN.{ℤ, pos}
 use lib.Ieee.{Float}
-use lib.ListN.{length, take, drop, set, get_or}
+use lib.ListN.{length, take, drop, set, get_or, take-append-drop, drop_of_length-le}
 use Rattle.theory.specs.Feeds.{Stepped, taking, head_of, step}
 use Rattle.theory.specs.Feeds as F
 use Rattle.theory.proofs.FeedLoop.{Midway, start, after_took, after_both, after_stopped}
+use Rattle.theory.proofs.FeedRules.{feed_end}
 use Rattle.theory.proofs.Steps.{step_full, step_ended, step_took}
 use Rattle.integer.specs.Stages.{ran}
 use Rattle.nonrecursive.specs.EitherKind.{kind_of, next_by, out_by}
@@ -35,7 +36,7 @@ use Rattle.chain.specs.declared.fixed.Fixed.{Fixed}
 use Rattle.nonrecursive.specs.declared.thinning.Thinning.TheVariants as thinning
 use Rattle.line.specs.Openings.{valid}
 use Rattle.line.specs.Line.{line, fed_line}
-use Rattle.line.specs.inner.Together.{Takes, RanTo, line_held, due_at}
+use Rattle.line.specs.inner.Together.{Takes, Begun, RanTo, line_held, due_at}
 use Rattle.line.specs.declared.gauge_line.Line.{Line}
 use Rattle.line.proofs.Lawful.{Good, line_lawful}
 use Rattle.line.proofs.Left.{left, left_are, left_long}
@@ -153,3 +154,23 @@ module _ {l₀ : Line} {xs : List ℤ} {out₀ out : List Float} {l : Line} {t w
 
       pub both : {y : Float} → o ≡ Some y → Midway line 64 Good line_lawful l₀ xs out₀ (set e.span e.written y) k (t + m + 1) (e.written + 1)
       both {y} v = (after_both line 64 Good line_lawful l₀ xs out₀ e.span sped_line (t + m) e.written sped _ stepped y (ap taking v)).2
+
+-- no sample is left and nothing is due: the feed has ended where the batches did
+pub ended_here :
+    (f : Fixed) (c : Clock) (lent : Arrays) (l : Line) (xs : List ℤ) (before after : List Float) (t w : ℕ) → length xs ≤ t → due_at f c.mu ≡ false
+    → Begun l xs before after t w (line_held f c lent) → RanTo l xs before after t w (line_held f c lent)
+unfolding in_line is_on due_at fed_line
+ended_here f c lent l xs before after t w none still b =
+    let k = line_held f c lent in
+    let places = length before - w in
+    let idles : F.feed line k (drop t xs) (length before - w) ≡ F.idle k = ap (λ (v : List ℤ). F.feed line k v places) (drop_of_length-le xs none) ∙ feed_end line k places still in
+    let front : length (take w after) ≡ w = length-take-le w after (let s = b.same in let q = b.some_written in omega (arith, s, q)) in
+    let wrote : (fed_line l xs (length before)).written ≡ take w after = b.wrote ∙ ap (λ (g : F.Fed Line Float). take w after ++ g.written) idles ∙ append-nil (take w after) in
+    record {
+      took = sym (b.took ∙ ap (λ (g : F.Fed Line Float). t + g.taken) idles ∙ add-zero t);
+      wrote = sym (ap length wrote ∙ front);
+      line = sym (b.line ∙ ap (λ (g : F.Fed Line Float). g.line) idles);
+      span =
+          sym (take-append-drop w after)
+          ∙ ap₂ {C = List Float} (λ (x y : List Float). x ++ y) (sym wrote) (b.rest ∙ ap (λ (n : ℕ). drop n before) (sym (ap length wrote ∙ front)));
+    }

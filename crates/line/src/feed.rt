@@ -145,7 +145,7 @@ fn integrate_all(
     *sample_counter += samples.len();
 }
 
-// Steps until stopped: one sample alone, or by batches as long as one is worth it, and the rest sample by sample.
+// Steps until stopped: one sample alone, or by batches as long as one is worth it, and the rest sample by sample, if anything is left.
 fn feed_through(
     own: Checked,
     clock: &mut Clock,
@@ -162,6 +162,9 @@ fn feed_through(
         return feed_one(own, clock, lent, samples, out);
     }
     let begun = feed_batches(own, clock, lent, samples, out);
+    if samples.len() <= begun.taken && !due(own.fixed, clock.mu) {
+        return begun;
+    }
     let rest = feed_singly(
         own,
         clock,

@@ -1,7 +1,7 @@
 -- The streaming FIR over a block, from any state: the sums are those of the window's samples so far and then the block, as if it had been opened and had taken these; the state
 -- is that of the last window moved down, with the samples behind it stored. Where the windows leave gaps, and in states that no opening gives, sample by sample.
 use mathlib.Core.Path.{◌≡◌, refl, sym, ap, ap₂, ◌∙◌, subst}
-use mathlib.Core.Bool.{Bool, true, false, cond, ◌&&◌, true≢false, false≢true}
+use mathlib.Core.Bool.{Bool, true, false, cond, ◌&&◌, true≢false}
 use mathlib.Core.List.{List, [], ◌∷◌, ◌++◌, append-nil, append_assoc, map}
 use Rattle.std.specs.Prelude.{Option, None, Some}
 use Prim.Native.Nat.{ℕ, suc, ◌+◌, ◌*◌, ◌/◌, ◌%◌, ◌-◌, ◌≤◌, ◌<◌}
@@ -9,15 +9,16 @@ use native.Mathlib.Nat.{zero-mul, one-mul, add-zero, sub-zero, add-mul, mul-le-m
 use native.Mathlib.Numerals.{add-one}
 use native.Mathlib.Omega.{arith}
 use native.Mathlib.Decide.{dec_le}
-use borrow.Author.Tests.{le-leb, lt-leb, leb-true, eq-eqb, ne_eqb, le-ltb}
+use borrow.Author.Tests.{le-leb, lt-leb, eq-eqb, ne_eqb, le-ltb}
 use lib.IntN.{ℤ, pos}
 use lib.Dec.{leb, eqb}
 use lib.ListN.{length, get_or, set, take, drop, replicate, length-append, length-drop, length-set, take-append-drop}
-use lib.Seq.{take-suc-set, get_or-take, get_or-drop, length-take-le, take_all, take-suc, take_at, take-append-le, drop-append-le, drop-append-add, drop-set-lt, drop-drop, drop_at, set_split, ext_get_or}
+use lib.Seq.{take-suc-set, get_or-take, get_or-drop, length-take-le, take_all, take-suc, take_at, take-append-le, drop-append-le, drop-append-add, drop-set-lt, drop-drop, drop_at, drop-length, set_split, ext_get_or}
 use mir.Syntax.{w16}
 use mir.Val.{bool_byte}
 use borrow.Rule.Slice.PartMut.{put_mid}
 use Rattle.std.proofs.lemmas.Slice.{take-put_mid}
+use Rattle.std.proofs.lemmas.List.{drop-take}
 use Rattle.theory.specs.Lists.{listed}
 use Rattle.theory.specs.Sections.{onto, outs, state}
 use Rattle.theory.proofs.Sections.{onto_append, state_append, outs_append}
@@ -26,7 +27,7 @@ use Rattle.theory.proofs.Decimation.{fir_fires}
 use Rattle.q15.specs.Fixed.{cut, is_cut, cut_one, cut_count, at}
 use Rattle.q15.specs.PolyphaseDecimate.{window_sum, filtered, decimated_count}
 use Rattle.q15.specs.FirDecimator.{most_taps, fir_state, stored, moved, fir_next, fir_out, fir_sum_out, cut_in, summing, fir, made_value, made_cut}
-use Rattle.q15.specs.inner.FirBlock.{most_fir_block, block_fits, fir_block_state, fir_block_outs, fir_block_cuts, Ran, stored_run}
+use Rattle.q15.specs.inner.FirBlock.{most_fir_block, fir_block_state, fir_block_outs, fir_block_cuts, Ran, stored_run}
 use Rattle.q15.specs.declared.fixed.Cut.{Cut}
 use Rattle.q15.specs.declared.fir_decimator.FirDecimator.{FirDecimator}
 use Rattle.q15.specs.declared.block.FirBlock.{FirBlock}
@@ -35,28 +36,14 @@ use Rattle.q15.proofs.Windows.{length_stored}
 use Rattle.q15.proofs.FirSteps.{quiet, makes}
 use Rattle.q15.proofs.FirStream.{outs_by, length_snoc, base, Held, more, rests, held_next, held_out, opened, last_sum, summed, off, off_sums, cut_sums}
 
--- ---- whether a block is taken
-pub block_fits_lem : (n places : ℕ) → n ≤ most_fir_block → n ≤ places → block_fits n places ≡ true
-unfolding block_fits
-block_fits_lem n places l m = rw (le-leb n most_fir_block l, le-leb n places m)
+-- what the contract says of a block
+abbrev pub Answers : FirDecimator → List ℤ → FirBlock → FirDecimator → List ℤ → Type 0
+Answers s xs r after span =
+    (after ≡ fir_block_state s xs)
+    × (((r.written ≡ length (fir_block_outs s xs)) × (span ≡ fir_block_outs s xs ++ drop r.written xs)) × (r.cuts ≡ fir_block_cuts s xs))
 
-pub fits_in : (n places : ℕ) → block_fits n places ≡ true → (n ≤ most_fir_block) × (n ≤ places)
-unfolding block_fits
-fits_in n places e = go (leb n most_fir_block) refl (leb n places) refl e
-  where
-    go : (a : Bool) → leb n most_fir_block ≡ a → (b : Bool) → leb n places ≡ b → a && b ≡ true → (n ≤ most_fir_block) × (n ≤ places)
-    go true p true q e = (leb-true n most_fir_block p, leb-true n places q)
-    go true p false q e = absurd (false≢true e)
-    go false p b q e = absurd (false≢true e)
-
--- what the contract says of a block, by the place that it has
-abbrev pub Answers : FirDecimator → List ℤ → List ℤ → FirBlock → FirDecimator → List ℤ → Type 0
-Answers s xs dst r after span =
-    (after ≡ fir_block_state s xs (length dst))
-    × (((r.written ≡ length (fir_block_outs s xs (length dst))) × (span ≡ fir_block_outs s xs (length dst) ++ drop r.written dst)) × (r.cuts ≡ fir_block_cuts s xs (length dst)))
-
-taken : (s : FirDecimator) (xs dst : List ℤ) (r : FirBlock) (after : FirDecimator) (span : List ℤ) → block_fits (length xs) (length dst) ≡ true → Ran s xs dst r after span → Answers s xs dst r after span
-taken s xs dst r after span e h = rw e (h.0, ((h.1, h.2), h.3))
+taken : (s : FirDecimator) (xs : List ℤ) (r : FirBlock) (after : FirDecimator) (span : List ℤ) → length xs ≤ most_fir_block → Ran s xs r after span → Answers s xs r after span
+taken s xs r after span l h = rw (le-leb (length xs) most_fir_block l) (h.0, ((h.1, h.2), h.3))
 
 -- ---- off
 off_state : (w : List ℤ) (s : FirDecimator) → s.tap_count ≡ 0 → state fir s w ≡ s
@@ -64,14 +51,12 @@ unfolding fir_next
 off_state [] s e = refl
 off_state (a ∷ w) s e = rw (eq-eqb s.tap_count 0 e) (off_state w s e)
 
-pub off_taken :
-    (s : FirDecimator) (xs dst front : List ℤ) → true ≡ block_fits (length xs) (length dst) → s.tap_count ≡ 0 → front ≡ xs
-    → Answers s xs dst (record { written = length xs; cuts = 0 }) s (front ++ drop (length xs) dst)
-off_taken s xs dst front fits e h =
-    taken s xs dst (record { written = length xs; cuts = 0 }) s (front ++ drop (length xs) dst) (sym fits) (
+pub off_taken : (s : FirDecimator) (xs : List ℤ) → length xs ≤ most_fir_block → s.tap_count ≡ 0 → Answers s xs (record { written = length xs; cuts = 0 }) s xs
+off_taken s xs l e =
+    taken s xs (record { written = length xs; cuts = 0 }) s xs l (
       sym (off_state xs s e),
       sym (ap length (off xs s e)),
-      ap (λ (x : List ℤ). x ++ drop (length xs) dst) (h ∙ sym (off xs s e)),
+      sym (ap (λ (x : List ℤ). x ++ drop (length xs) xs) (off xs s e) ∙ ap (λ (x : List ℤ). xs ++ x) (drop-length xs) ∙ append-nil xs),
       sym (ap (cut_count w16) (off_sums xs s e)),
     )
 
@@ -103,24 +88,36 @@ put_value :
     → (i + 1 ≡ i + length (onto o [])) × (set d i v ≡ take i d ++ (onto o [] ++ drop (i + 1) d))
 put_value d i o y v l e f = rw (e, f) (refl, set_split d i y l ∙ ap (λ (k : ℕ). take i d ++ (y ∷ drop k d)) (sym (add-one i)))
 
-module _ (s : FirDecimator) (xs dst : List ℤ) where
+module _ (s : FirDecimator) (xs : List ℤ) where
   -- i samples are taken, with the state and the span that they leave
   pub record Taken (after : FirDecimator) (span : List ℤ) (i made cuts : ℕ) : Type 0 where
     pub within : i ≤ length xs
     pub state_is : after ≡ state fir s (take i xs)
     pub made_is : made ≡ length (outs fir s (take i xs))
-    pub span_is : span ≡ outs fir s (take i xs) ++ drop made dst
+    pub span_is : span ≡ outs fir s (take i xs) ++ drop made xs
     pub cuts_is : cuts ≡ cut_count w16 (outs summing s (take i xs))
     pub few : made ≤ i
     pub few_cuts : cuts ≤ i
-    pub long : length span ≡ length dst
+    pub long : length span ≡ length xs
+
+  -- a sample that is not taken stands at its place
+  pub still_there : (after : FirDecimator) (span : List ℤ) (i made cuts : ℕ) → Taken after span i made cuts → at span i ≡ at xs i
+  still_there after span i made cuts h =
+      let O : List ℤ = outs fir s (take i xs) in
+      let on : made + (i - made) ≡ i = omega (arith, h.few) in
+      let rest : drop made span ≡ drop made xs = ap (drop made) h.span_is ∙ drop_at O (drop made xs) made (sym h.made_is) in
+      ap (at span) (sym on)
+      ∙ sym (get_or-drop made span (i - made) (pos 0))
+      ∙ ap (λ (l : List ℤ). at l (i - made)) rest
+      ∙ get_or-drop made xs (i - made) (pos 0)
+      ∙ ap (at xs) on
 
   next_taken :
       (after : FirDecimator) (span : List ℤ) (i made cuts : ℕ) (x : ℤ) (o : Option ℤ) (k : Bool) (after' : FirDecimator) (span' : List ℤ) (made' cuts' : ℕ)
-      → i < length xs → length xs ≤ length dst → x ≡ at xs i → o ≡ fir_out after x → after' ≡ fir_next after x → k ≡ cut_in (fir_sum_out after x)
+      → i < length xs → x ≡ at xs i → o ≡ fir_out after x → after' ≡ fir_next after x → k ≡ cut_in (fir_sum_out after x)
       → made' ≡ made + length (onto o []) → span' ≡ take made span ++ (onto o [] ++ drop made' span) → cuts' ≡ cuts + cond k 1 0
       → Taken after span i made cuts → Taken after' span' (i + 1) made' cuts'
-  next_taken after span i made cuts x o k after' span' made' cuts' l room x_is o_is next_is k_is made_next span_next cuts_next h =
+  next_taken after span i made cuts x o k after' span' made' cuts' l x_is o_is next_is k_is made_next span_next cuts_next h =
       record {
         within = omega arith;
         state_is = next_is ∙ ap₂ {C = FirDecimator} fir_next h.state_is x_is ∙ sym (state_append fir s front (y ∷ [])) ∙ ap (state fir s) (sym snoc);
@@ -129,8 +126,8 @@ module _ (s : FirDecimator) (xs dst : List ℤ) where
         cuts_is = cuts_next ∙ ap₂ {C = ℕ} (λ (n : ℕ) (b : Bool). n + cond b 1 0) h.cuts_is k_is ∙ cuts_on;
         few = omega (arith, made_next, one_most o, h.few);
         few_cuts = omega (arith, cuts_next, flag_most k, h.few_cuts);
-        long = ap length span_is ∙ ap (λ (q : List ℤ). length (q ++ drop made' dst)) outs_next ∙ length-append (O ++ onto o []) (drop made' dst)
-            ∙ (let q : length (O ++ onto o []) + length (drop made' dst) ≡ length dst = omega (arith, length-drop made' dst, length-append O (onto o []), h.made_is, made_next, h.few, one_most o) in q);
+        long = ap length span_is ∙ ap (λ (q : List ℤ). length (q ++ drop made' xs)) outs_next ∙ length-append (O ++ onto o []) (drop made' xs)
+            ∙ (let q : length (O ++ onto o []) + length (drop made' xs) ≡ length xs = omega (arith, length-drop made' xs, length-append O (onto o []), h.made_is, made_next, h.few, one_most o) in q);
       }
     where
       front : List ℤ
@@ -151,18 +148,18 @@ module _ (s : FirDecimator) (xs dst : List ℤ) where
       outs_next : outs fir s (take (i + 1) xs) ≡ O ++ onto o []
       outs_next = ap (outs fir s) snoc ∙ outs_append fir s front (y ∷ []) ∙ ap (λ (q : Option ℤ). O ++ onto q []) (sym out_is)
 
-      behind : drop made' span ≡ drop made' dst
+      behind : drop made' span ≡ drop made' xs
       behind =
           let e : made' ≡ length O + length (onto o []) = made_next ∙ ap (λ (n : ℕ). n + length (onto o [])) h.made_is in
           ap₂ {C = List ℤ} (λ (n : ℕ) (q : List ℤ). drop n q) e h.span_is
-          ∙ drop-append-add O (drop made dst) (length (onto o []))
-          ∙ drop-drop (length (onto o [])) made dst ∙ ap (λ (n : ℕ). drop n dst) (sym made_next)
+          ∙ drop-append-add O (drop made xs) (length (onto o []))
+          ∙ drop-drop (length (onto o [])) made xs ∙ ap (λ (n : ℕ). drop n xs) (sym made_next)
 
-      span_is : span' ≡ outs fir s (take (i + 1) xs) ++ drop made' dst
+      span_is : span' ≡ outs fir s (take (i + 1) xs) ++ drop made' xs
       span_is =
           span_next
-          ∙ ap₂ {C = List ℤ} (λ (p q : List ℤ). p ++ (onto o [] ++ q)) (ap (take made) h.span_is ∙ take_at O (drop made dst) made (sym h.made_is)) behind
-          ∙ sym (append_assoc O (onto o []) (drop made' dst)) ∙ ap (λ (q : List ℤ). q ++ drop made' dst) (sym outs_next)
+          ∙ ap₂ {C = List ℤ} (λ (p q : List ℤ). p ++ (onto o [] ++ q)) (ap (take made) h.span_is ∙ take_at O (drop made xs) made (sym h.made_is)) behind
+          ∙ sym (append_assoc O (onto o []) (drop made' xs)) ∙ ap (λ (q : List ℤ). q ++ drop made' xs) (sym outs_next)
 
       sum_is : fir_sum_out after x ≡ fir_sum_out (state summing s front) y
       sum_is = ap₂ {C = Option ℤ} fir_sum_out (h.state_is ∙ sym (same_state s front)) x_is
@@ -177,23 +174,23 @@ module _ (s : FirDecimator) (xs dst : List ℤ) where
   -- a sample of which nothing comes, and one that makes an output
   pub quiet_taken :
       (after : FirDecimator) (span : List ℤ) (i made cuts : ℕ) (x : ℤ) (m : Option Cut) (after' : FirDecimator) (span' : List ℤ) (made' cuts' : ℕ)
-      → i < length xs → length xs ≤ length dst → x ≡ at xs i → m ≡ None
+      → i < length xs → x ≡ at xs i → m ≡ None
       → made_value m ≡ fir_out after x → after' ≡ fir_next after x → made_cut m ≡ cut_in (fir_sum_out after x)
       → made' ≡ made → span' ≡ span → cuts' ≡ cuts → Taken after span i made cuts → Taken after' span' (i + 1) made' cuts'
-  quiet_taken after span i made cuts x m after' span' made' cuts' l room e is out next cut f g k h =
+  quiet_taken after span i made cuts x m after' span' made' cuts' l e is out next cut f g k h =
       let p = put_none span made (made_value m) (ap made_value is) in
-      next_taken after span i made cuts x (made_value m) (made_cut m) after' span' made' cuts' l room e out next cut (f ∙ p.0)
+      next_taken after span i made cuts x (made_value m) (made_cut m) after' span' made' cuts' l e out next cut (f ∙ p.0)
       (g ∙ p.1 ∙ ap (λ (n : ℕ). take made span ++ (onto (made_value m) [] ++ drop n span)) (sym f))
       (k ∙ sym (add-zero cuts) ∙ ap (λ (q : Option Cut). cuts + cond (made_cut q) 1 0) (sym is)) h
 
   pub value_taken :
       (after : FirDecimator) (span : List ℤ) (i made cuts : ℕ) (x : ℤ) (m : Option Cut) (y : Cut) (v : ℤ) (n : ℕ) (after' : FirDecimator) (span' : List ℤ) (made' cuts' : ℕ)
-      → i < length xs → length xs ≤ length dst → x ≡ at xs i → m ≡ Some y → v ≡ y.value.0 → n ≡ bool_byte y.cut
+      → i < length xs → x ≡ at xs i → m ≡ Some y → v ≡ y.value.0 → n ≡ bool_byte y.cut
       → made_value m ≡ fir_out after x → after' ≡ fir_next after x → made_cut m ≡ cut_in (fir_sum_out after x)
       → made' ≡ made + 1 → span' ≡ set span made v → cuts' ≡ cuts + n → Taken after span i made cuts → Taken after' span' (i + 1) made' cuts'
-  value_taken after span i made cuts x m y v n after' span' made' cuts' l room e is value count out next cut f g k h =
+  value_taken after span i made cuts x m y v n after' span' made' cuts' l e is value count out next cut f g k h =
       let p = put_value span made (made_value m) y.value.0 v (omega (arith, h.few, h.long)) (ap made_value is) value in
-      next_taken after span i made cuts x (made_value m) (made_cut m) after' span' made' cuts' l room e out next cut (f ∙ p.0)
+      next_taken after span i made cuts x (made_value m) (made_cut m) after' span' made' cuts' l e out next cut (f ∙ p.0)
       (g ∙ p.1 ∙ ap (λ (n : ℕ). take made span ++ (onto (made_value m) [] ++ drop n span)) (sym f))
       (k ∙ ap (λ (n : ℕ). cuts + n) (count ∙ byte_one y.cut) ∙ ap (λ (q : Option Cut). cuts + cond (made_cut q) 1 0) (sym is)) h
 
@@ -252,14 +249,14 @@ module _ (c : List ℤ) (T D : ℕ) (pt : 0 < T) (small : T ≤ most_taps) (pd :
       )
 
   pub quiet_ran :
-      (zs d : List ℤ) (w : ℕ) (e dst : List ℤ) → length zs < w → e ≡ stored_run T w zs d
-      → Ran (fir_state c T D d w) zs dst (record { written = 0; cuts = 0 }) (fir_state c T D e (w - length zs)) dst
-  quiet_ran zs d w e dst l h =
+      (zs d : List ℤ) (w : ℕ) (e : List ℤ) → length zs < w → e ≡ stored_run T w zs d
+      → Ran (fir_state c T D d w) zs (record { written = 0; cuts = 0 }) (fir_state c T D e (w - length zs)) zs
+  quiet_ran zs d w e l h =
       let q = quiet_run zs d w l in
       let none : outs fir (fir_state c T D d w) zs ≡ [] = cut_sums zs (fir_state c T D d w) on ∙ ap (map (cut w16)) q.1 in (
         ap (λ (x : List ℤ). fir_state c T D x (w - length zs)) h ∙ sym q.0,
         sym (ap length none),
-        ap (λ (o : List ℤ). o ++ dst) (sym none),
+        ap (λ (o : List ℤ). o ++ zs) (sym none),
         sym (ap (cut_count w16) q.1),
       )
 
@@ -485,15 +482,15 @@ module _ (c : List ℤ) (T D : ℕ) (pt : 0 < T) (small : T ≤ most_taps) (pd :
         sym (map_listed (cut w16) (k + 1) (λ i. window_sum c T X (i * D))) ∙ ap (map (cut w16)) tape_sums ∙ sym (cut_sums xs (fir_state c T D d w) on)
 
     pub tape_ran :
-        D ≤ T → (e dst part : List ℤ) (r cuts : ℕ) → length xs ≤ length dst
+        D ≤ T → (e part : List ℤ) (r cuts : ℕ)
         → (e ≡ stored_run T D (drop (k * D + T) X) (moved T D (take T (drop (k * D) X) ++ drop T d))) × (r + length X ≡ k * D + T + D)
-        → part ≡ listed (length (take (k + 1) dst)) (λ i. filtered c T X (i * D)) → cuts ≡ cut_count w16 (listed (length (take (k + 1) dst)) (λ i. window_sum c T X (i * D)))
-        → Ran (fir_state c T D d w) xs dst (record { written = k + 1; cuts = cuts }) (fir_state c T D e r) (part ++ drop (k + 1) dst)
-    tape_ran dt e dst part r cuts room h g q =
-        let n : length (take (k + 1) dst) ≡ k + 1 = length-take-le (k + 1) dst (let m : k * 1 ≤ k * D = mul-le-mul_left k pd in omega arith) in (
+        → part ≡ listed (length (take (k + 1) xs)) (λ i. filtered c T X (i * D)) → cuts ≡ cut_count w16 (listed (length (take (k + 1) xs)) (λ i. window_sum c T X (i * D)))
+        → Ran (fir_state c T D d w) xs (record { written = k + 1; cuts = cuts }) (fir_state c T D e r) (part ++ drop (k + 1) xs)
+    tape_ran dt e part r cuts h g q =
+        let n : length (take (k + 1) xs) ≡ k + 1 = length-take-le (k + 1) xs (let m : k * 1 ≤ k * D = mul-le-mul_left k pd in omega arith) in (
           tape_state dt e r h.0 h.1,
           sym (length_listed (k + 1) (λ i. filtered c T X (i * D))) ∙ ap length tape_outs,
-          ap (λ (o : List ℤ). o ++ drop (k + 1) dst) (g ∙ ap (λ (z : ℕ). listed z (λ i. filtered c T X (i * D))) n ∙ tape_outs),
+          ap (λ (o : List ℤ). o ++ drop (k + 1) xs) (g ∙ ap (λ (z : ℕ). listed z (λ i. filtered c T X (i * D))) n ∙ tape_outs),
           q ∙ ap (λ (z : ℕ). cut_count w16 (listed z (λ i. window_sum c T X (i * D)))) n ∙ ap (cut_count w16) tape_sums,
         )
 
@@ -505,3 +502,35 @@ tape_laid d zeros front ys src kept k l e f =
     let n : length front ≡ kept = ap length e ∙ length-take-le kept d l in
     take-put_mid kept k (front ++ zeros) ys (kept + length src) (ap (λ (m : ℕ). kept + m) (ap length (sym f))) (omega (arith, length-append front zeros, n))
     ∙ ap₂ {C = List ℤ} (λ (x y : List ℤ). x ++ y) (take_at front zeros kept n ∙ e) f
+
+-- the window that begins at `last` of a tape Z, put into the delay d moved down by D: what stands behind its first D samples, and then its last D
+pub window_moved :
+    (T D last a b n : ℕ) (Z d y z : List ℤ) → D ≤ T → T ≤ length d → last + T ≤ length Z → a ≡ T - D → b ≡ D → n ≡ D
+    → y ≡ take a (drop (last + D) Z) → z ≡ take b (drop (last + T - D) Z)
+    → put_mid (T - D) n (y ++ drop (T - D) d) z ≡ moved T D (take T (drop last Z) ++ drop T d)
+unfolding moved
+window_moved T D last a b n Z d y z l m inside ea eb en ey ez =
+    let W : List ℤ = take T (drop last Z) in
+    let R : List ℤ = drop T d in
+    let long : length (take T (drop last Z)) ≡ T = length-take-le T (drop last Z) (omega (arith, length-drop last Z)) in
+    let whole : T - D + D ≡ T = omega arith in
+    let turned : D + (T - D) ≡ T = omega arith in
+    let there : last + (T - D) ≡ last + T - D = omega arith in
+    let y_is : y ≡ drop D W =
+    ey ∙ ap₂ {C = List ℤ} (λ (n : ℕ) (x : List ℤ). take n x) ea (sym (drop-drop D last Z)) ∙ sym (drop-take D (T - D) (drop last Z)) ∙ ap (λ (n : ℕ). drop D (take n (drop last Z))) turned
+    in
+    let z_is : z ≡ drop (T - D) W =
+    ez ∙ ap₂ {C = List ℤ} (λ (n : ℕ) (x : List ℤ). take n x) eb (ap (λ (n : ℕ). drop n Z) (sym there) ∙ sym (drop-drop (T - D) last Z))
+    ∙ sym (drop-take (T - D) D (drop last Z)) ∙ ap (λ (n : ℕ). drop (T - D) (take n (drop last Z))) whole
+    in
+    let y_long : length y ≡ T - D = ap length y_is ∙ length-drop D W ∙ ap (λ (n : ℕ). n - D) long in
+    let moved_long : length (drop D (take T (drop last Z))) ≡ T - D = length-drop D W ∙ ap (λ (n : ℕ). n - D) long in
+    let behind : drop D (drop (T - D) (y ++ drop (T - D) d)) ≡ R =
+    ap (drop D) (drop_at y (drop (T - D) d) (T - D) y_long) ∙ drop-drop D (T - D) d ∙ ap (λ (n : ℕ). drop n d) whole
+    in
+    ap (λ (k : ℕ). put_mid (T - D) k (y ++ drop (T - D) d) z) en
+    ∙ ap₂ {C = List ℤ} (λ (p q : List ℤ). p ++ (z ++ q)) (take_at y (drop (T - D) d) (T - D) y_long) behind
+    ∙ ap₂ {C = List ℤ} (λ (p q : List ℤ). p ++ (q ++ R)) y_is z_is
+    ∙ sym (ap₂ {C = List ℤ} (λ (p q : List ℤ). p ++ q)
+    (ap (take (T - D)) (drop-append-le D W R (omega (arith, long))) ∙ take_at (drop D W) R (T - D) moved_long)
+    (drop-append-le (T - D) W R (omega (arith, long))))

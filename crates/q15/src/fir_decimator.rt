@@ -36,7 +36,7 @@ fn store(delay: &mut [i16; MOST_TAPS], t: usize, wait: usize, x: i16)
 }
 
 // Moves the window down by the factor.
-pub(crate) fn move_down(delay: &mut [i16; MOST_TAPS], t: usize, factor: usize)
+fn move_down(delay: &mut [i16; MOST_TAPS], t: usize, factor: usize)
     requires { t ≤ most_taps }
     ensures { delay.new ≡ moved t factor delay.old }
 {

@@ -8,6 +8,10 @@ use Rattle.theory.specs.Feeds as F
 abbrev pub most_sums : ℕ
 most_sums = 128
 
+-- the most of its values that go through section 4 at once
+abbrev pub most_levels : ℕ
+most_levels = 64
+
 -- the machine takes all of xs, with so many places
 abbrev pub Whole : {S A : Type 0} → Machine S A Float → S → List A → ℕ → Type 0
 Whole m s xs places = (F.feed m s xs places).taken ≡ length xs

@@ -1,5 +1,5 @@
 -- The line's streaming FIR over a block of samples: what the section makes of them one after the other, where the block is taken.
-use Rattle.std.specs.Prelude.{◌≡◌, Bool, ◌&&◌, cond, List, [], ◌∷◌, ◌++◌, ℕ, ◌-◌, ◌≤◌, leb, ℤ, length, drop}
+use Rattle.std.specs.Prelude.{◌≡◌, Bool, cond, List, [], ◌∷◌, ◌++◌, ℕ, ◌-◌, ◌≤◌, leb, ℤ, length, drop}
 use Rattle.std.specs.Int.{w16}
 use Rattle.theory.specs.Sections.{state, outs}
 use Rattle.q15.specs.Fixed.{cut_count}
@@ -12,27 +12,27 @@ use Rattle.q15.specs.declared.fir_settings.FirSettings.{FirSettings}
 abbrev pub most_fir_block : ℕ
 most_fir_block = 128
 
--- a block of n samples is taken whole, where there is a place for each, or not at all
-unfoldable pub block_fits : ℕ → ℕ → Bool
-block_fits n places = leb n most_fir_block && leb n places
+-- a block of n samples is taken whole or not at all
+abbrev pub block_fits : ℕ → Bool
+block_fits n = leb n most_fir_block
 
-module _ (s : FirDecimator) (xs : List ℤ) (places : ℕ) where
+module _ (s : FirDecimator) (xs : List ℤ) where
   -- the state after a block
   abbrev pub fir_block_state : FirDecimator
-  fir_block_state = cond (block_fits (length xs) places) (state fir s xs) s
+  fir_block_state = cond (block_fits (length xs)) (state fir s xs) s
 
   -- its outputs
   abbrev pub fir_block_outs : List ℤ
-  fir_block_outs = cond (block_fits (length xs) places) (outs fir s xs) []
+  fir_block_outs = cond (block_fits (length xs)) (outs fir s xs) []
 
   -- 02, §4: how many of them were cut
   abbrev pub fir_block_cuts : ℕ
-  fir_block_cuts = cond (block_fits (length xs) places) (cut_count w16 (outs summing s xs)) 0
+  fir_block_cuts = cond (block_fits (length xs)) (cut_count w16 (outs summing s xs)) 0
 
--- For the contracts of private functions: a block that is taken, from the state s and the span dst to the state after and the span at exit
-abbrev pub Ran : FirDecimator → List ℤ → List ℤ → FirBlock → FirDecimator → List ℤ → Type 0
-Ran s xs dst r after span =
-    (after ≡ state fir s xs) × (r.written ≡ length (outs fir s xs)) × (span ≡ outs fir s xs ++ drop r.written dst) × (r.cuts ≡ cut_count w16 (outs summing s xs))
+-- For the contracts of private functions: a block that is taken, from the state s to the state after; at exit its outputs stand in front of the span that held its samples
+abbrev pub Ran : FirDecimator → List ℤ → FirBlock → FirDecimator → List ℤ → Type 0
+Ran s xs r after span =
+    (after ≡ state fir s xs) × (r.written ≡ length (outs fir s xs)) × (span ≡ outs fir s xs ++ drop r.written xs) × (r.cuts ≡ cut_count w16 (outs summing s xs))
 
 -- windows that stand on a tape without gaps: D is not above T, and the wait is for the window in the delay
 abbrev pub OnTape : ℕ → ℕ → ℕ → Type 0

@@ -1,11 +1,7 @@
--- `levels::levels_in` meets its contract: the levels stand at the end of a tape, the half-band stages go over it, and what they make goes into the resampler.
-use lib.ListN.{replicate, length-replicate}
-use Rattle.float.specs.F32.{zero32}
-use Rattle.chain.proofs.Running.{levels_batched}
+-- `levels::levels_in` meets its contract: a block of no more values than a tape takes is one part; else the second part goes on from what the first leaves.
+use Rattle.chain.proofs.TwoParts.{two_parts}
 use Rattle.chain.proofs.levels.levels_in.Goals as goal
 
 pub returns-clause-batched : goal.returns-clause-batched
 returns-clause-batched c =
-    let told = c.hbf_stream_block_at-made.ensures in
-    levels_batched _ _ _ _ c.args.values.now (replicate 224 zero32) c.put_levels.new.span c.hbf_stream_block_at-made.new.tape _ _ _ _ c.requires (length-replicate 224 zero32) c.put_levels.ensures
-    told.next told.end c.hbf_stream_block_at-made.auto.tape c.resample.ensures.batched
+    two_parts _ _ _ c.args.values.now c.min-first.result c.args.out.now c.part_in-begun.new.out c.part_in-rest.new.out _ _ c.part_in-begun.ensures.batched c.part_in-rest.ensures.batched

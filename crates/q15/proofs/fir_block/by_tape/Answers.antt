@@ -8,7 +8,7 @@ returns-then-n-wait c =
     let a = c.args in
     let o = a.settings in
     let p = c.requires.0 in
-    quiet_ran a.taps.now o.tap_count o.factor (omega (arith, p.2, p.1)) p.0 p.1 a.src.now a.delay.now a.wait.now _ a.dst.now c.if-n-wait.true c.store_run.ensures
+    quiet_ran a.taps.now o.tap_count o.factor (omega (arith, p.2, p.1)) p.0 p.1 a.values.now a.delay.now a.wait.now _ c.if-n-wait.true c.store_run.ensures
 
 pub returns : goal.returns
 returns c =
@@ -16,6 +16,6 @@ returns c =
     let o = a.settings in
     let p = c.requires.0 in
     let w = c.windows_behind-more in
-    let tape : List ℤ = take (o.tap_count - a.wait.now + length a.src.now) c.laid-laid.result in
-    tape_ran a.taps.now o.tap_count o.factor (omega (arith, p.2, p.1)) p.0 p.1 a.delay.now a.wait.now a.src.now w.result c.told-delay p.3 p.4 w.ensures.0 w.ensures.1 tape
-    c.laid-laid.ensures p.2 _ a.dst.now _ _ _ c.requires.1.1 c.after_last.ensures c.windows_of-cuts.ensures.span c.windows_of-cuts.ensures.cuts
+    let tape : List ℤ = take (o.tap_count - a.wait.now + length a.values.now) c.lay.new.tape in
+    tape_ran a.taps.now o.tap_count o.factor (omega (arith, p.2, p.1)) p.0 p.1 a.delay.now a.wait.now a.values.now w.result c.told-delay p.3 p.4 w.ensures.0 w.ensures.1 tape
+    c.lay.ensures p.2 _ _ _ _ c.after_last.ensures c.windows_of-cuts.ensures.span c.windows_of-cuts.ensures.cuts

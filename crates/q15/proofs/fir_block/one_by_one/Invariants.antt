@@ -3,7 +3,7 @@ use Rattle.q15.specs.FirDecimator.{fir_state}
 use Rattle.q15.proofs.FirBlocks.{Taken}
 use Rattle.q15.proofs.fir_block.one_by_one.Given as goal
 
-abbrev pub invariant-loop-x : goal.invariant-loop-x
-invariant-loop-x l =
-    Taken (fir_state l.taps l.settings.tap_count l.settings.factor l.initial.delay l.initial.wait) l.src l.initial.dst
-    (fir_state l.taps l.settings.tap_count l.settings.factor l.delay l.wait) l.dst l.x-index l.written l.cuts
+abbrev pub invariant-loop-i : goal.invariant-loop-i
+invariant-loop-i l =
+    Taken (fir_state l.taps l.settings.tap_count l.settings.factor l.initial.delay l.initial.wait) l.initial.values
+    (fir_state l.taps l.settings.tap_count l.settings.factor l.delay l.wait) l.values l.i l.written l.cuts
