@@ -12,12 +12,12 @@ use refusal::{Moved, Refusal};
 
 // A run writes the samples it consumes one before the other on a tape, so that the delay need not be moved for each; what is on it goes back to its end
 // where no place is left before it.
-const TAPE: usize = 64 + MOST_PHASE_TAPS;
+const TAPE: usize = 64;
 
 // The sample x goes in before the newest on the tape; what it returns is x's place.
 fn take_in(tape: &mut [f32; TAPE], newest: usize, taps: usize, x: f32) -> usize
-    requires { (1 ≤ taps) × (taps ≤ R.most_taps) × (newest + taps ≤ 80) }
-    ensures { (result + taps ≤ 80) × (take taps (drop result tape.new) ≡ take taps (x ∷ drop newest tape.old)) }
+    requires { (1 ≤ taps) × (taps ≤ R.most_taps) × (newest + taps ≤ 64) }
+    ensures { (result + taps ≤ 64) × (take taps (drop result tape.new) ≡ take taps (x ∷ drop newest tape.old)) }
 {
     if newest == 0 {
         let before = TAPE - taps - 1;

@@ -16,9 +16,9 @@ loop-written-init c =
     let q = a.self.setting in
     let few = a.self.taps_inside.1 in
     let long : length (take q.taps a.delay.now) ≡ q.taps = length-take-le _ _ (omega (arith, few, c.told-delay)) in
-    let fits : length (take q.taps a.delay.now) ≤ 80 = omega (arith, long, few) in
-    let start : wound q.taps c.put_at_end.new.span (80 - q.taps) a.delay.now ≡ a.delay.now =
-    rw (c.put_at_end.ensures, ends_in (take q.taps a.delay.now) (replicate 80 zero32) fits, long) (wound_start q.taps a.delay.now (replicate 80 zero32) (omega arith)) in
+    let fits : length (take q.taps a.delay.now) ≤ 64 = omega (arith, long, few) in
+    let start : wound q.taps c.put_at_end.new.span (64 - q.taps) a.delay.now ≡ a.delay.now =
+    rw (c.put_at_end.ensures, ends_in (take q.taps a.delay.now) (replicate 64 zero32) fits, long) (wound_start q.taps a.delay.now (replicate 64 zero32) (omega arith)) in
     record {
       between = rw start (between_start resampler (state_of q a.mu.now a.delay.now a.self.prototype.now) a.src.now a.dst.now);
       whole = c.put_at_end.auto.span;
@@ -41,7 +41,7 @@ loop-written-preserved-then-at c =
     let d = wound q.taps l.tape l.newest a.delay.now in
     let some : 0 < q.phases = omega (arith, a.self.phases_inside) in
     let made = due_between q.straight q.phases q.taps q.step _ d a.self.prototype.now (state_of q a.mu.now a.delay.now a.self.prototype.now) a.src.now a.dst.now l.taken
-    (λ mu. outputs_alike q.phases q.taps a.self.prototype.now a.self.prototype.now _ _ some (λ i u. refl) (λ t u. wound_at q.taps a.delay.now l.tape l.newest (80 - l.newest) t (omega (arith, l.invariant)) (omega (arith, l.invariant)) u) q.straight mu)
+    (λ mu. outputs_alike q.phases q.taps a.self.prototype.now a.self.prototype.now _ _ some (λ i u. refl) (λ t u. wound_at q.taps a.delay.now l.tape l.newest (64 - l.newest) t (omega (arith, l.invariant)) (omega (arith, l.invariant)) u) q.straight mu)
     l.at l.written l.dst l.invariant.between (told_due c.write_due-due.result c.write_due-due.new.dst) c.write_due-due.ensures in
     record { between = made.0; whole = l.invariant.whole; on_tape = l.invariant.on_tape }
 
