@@ -6,7 +6,7 @@ ghost use Rattle.float.specs.PolyphaseOpening as O;
 ghost use Rattle.float.specs.PolyphaseResamp as R;
 ghost use Rattle.float.specs.inner.Running as N;
 
-use crate::due::shift_in;
+use crate::due::{cut_below, shift_in};
 use crate::interpolation::Reading;
 use crate::settings::{MOST_CELLS, MOST_PHASE_TAPS, Setting};
 use crate::span::put_at_end;
@@ -14,12 +14,12 @@ use refusal::{Moved, Refusal};
 
 // A run writes the samples it consumes one before the other on a tape, so that the delay need not be moved for each; what is on it goes back to its end
 // where no place is left before it.
-const TAPE: usize = 64 + MOST_PHASE_TAPS;
+const TAPE: usize = 64;
 
 // The sample x goes in before the newest on the tape; what it returns is x's place.
 fn take_in(tape: &mut [f32; TAPE], newest: usize, taps: usize, x: f32) -> usize
-    requires { (1 ≤ taps) × (taps ≤ O.most_taps) × (newest + taps ≤ 80) }
-    ensures { (result + taps ≤ 80) × (take taps (drop result tape.new) ≡ take taps (x ∷ drop newest tape.old)) }
+    requires { (1 ≤ taps) × (taps ≤ O.most_taps) × (newest + taps ≤ 64) }
+    ensures { (result + taps ≤ 64) × (take taps (drop result tape.new) ≡ take taps (x ∷ drop newest tape.old)) }
 {
     if newest == 0 {
         let before = TAPE - taps - 1;
@@ -33,8 +33,8 @@ fn take_in(tape: &mut [f32; TAPE], newest: usize, taps: usize, x: f32) -> usize
 }
 
 impl Reading<'_> {
-    // Outputs that are due are written, then a sample is consumed, until dst is full or a sample is wanted and none is left. No range: mu says what a turn does. The
-    // outputs stand in a loop of their own so that the compiler inlines each into it.
+    // An output that is due is written, or else a sample is consumed, until dst is full or a sample is wanted and none is left. No range: mu says what a turn does. The
+    // output is inlined here by a word above it, since it is longer than what the compiler inlines of itself.
     fn run(
         self,
         mu: &mut f32,
@@ -53,9 +53,9 @@ impl Reading<'_> {
         let mut written = 0usize;
         while written < dst.len() {
             if at < 1.0 {
-                let due = self.write_due(&tape[newest..], at, dst, written);
-                at = due.mu;
-                written = due.written;
+                dst[written] = self.interpolate_here(&tape[newest..], cut_below(at));
+                written += 1;
+                at += self.setting.step;
             } else {
                 let Some(&x) = src.get(taken) else {
                     break;

@@ -11,8 +11,8 @@ invariant-loop-written l =
     let h = l.self.prototype.now in
     record {
       between : Between resampler (state_of q l.initial.at l.delay h) l.src l.initial.dst l.dst (state_of q l.at (wound q.phase_taps l.tape l.newest l.delay) h) l.taken l.written;
-      whole : length l.tape ≡ 80;
-      on_tape : l.newest + q.phase_taps ≤ 80;
+      whole : length l.tape ≡ 64;
+      on_tape : l.newest + q.phase_taps ≤ 64;
     }
 
 abbrev pub decreases-loop-written : goal.decreases-loop-written
