@@ -12,18 +12,18 @@ use lib.ListN.{length, take, drop, length-append, length-drop, take-append-drop,
 use lib.Seq.{take_at, drop_at, drop-drop, take_all}
 use Rattle.theory.specs.Sections.{each}
 use Rattle.theory.specs.Machines.{Machine}
-use Rattle.theory.specs.Feeds.{Fed, less, took_then, feed}
+use Rattle.theory.specs.Feeds.{Fed, took_then, feed}
 use Rattle.theory.proofs.Machines.{Lawful, lawful_before}
-use Rattle.theory.proofs.Feeds.{feed_right}
+use Rattle.theory.proofs.Feeds.{less, feed_right}
 use Rattle.theory.proofs.FeedRules.{feed_full, feed_due, feed_end}
 use Rattle.theory.proofs.Batches.{feed_takes, feed_append}
 use Rattle.half_band.specs.HbfStream.{hbf_stream}
 use Rattle.float.specs.Level.{level}
-use Rattle.float.specs.PolyphaseResamp.{valid_in_line}
+use Rattle.float.specs.PolyphaseOpening.{valid_in_line}
 use Rattle.float.specs.declared.polyphase_resamp.PolyphaseResampF32.{PolyphaseResampF32}
 use Rattle.float.proofs.PolyphaseRange as Res
 use Rattle.chain.specs.Chain.{Parts4, PartsLevels, from4, from5, from_levels}
-use Rattle.chain.specs.Batched.{Whole, Batched}
+use Rattle.chain.specs.inner.Batched.{Whole, Batched}
 
 module _ {S A : Type 0} (m : Machine S A Float) where
   -- ---- the front of a list that is taken whole is taken whole

@@ -163,9 +163,9 @@ due_between straight P T step d e h s₀ xs o₀ t alike mu w o b f q =
 -- an output carries it on, made of a delay d that gives those of the state's e
 pub output_between :
     (q : Setting) (d e h : List Float) (s₀ : PolyphaseResampF32) (xs o₀ o : List Float) (t w : ℕ) (mu : Float)
-    → ((m : Float) → output q.straight q.phases q.taps m d h ≡ output q.straight q.phases q.taps m e h)
+    → ((m : Float) → output q.straight q.phases q.phase_taps m d h ≡ output q.straight q.phases q.phase_taps m e h)
     → Between resampler s₀ xs o₀ o (state_of q mu e h) t w → lt mu one32 ≡ true → w < length o
-    → Between resampler s₀ xs o₀ (set o w (output q.straight q.phases q.taps mu d h)) (state_of q (add binary32 mu q.step) e h) t (w + 1)
+    → Between resampler s₀ xs o₀ (set o w (output q.straight q.phases q.phase_taps mu d h)) (state_of q (add binary32 mu q.step) e h) t (w + 1)
 unfolding resampler output_of passed
 output_between q d e h s₀ xs o₀ o t w mu alike b due place = rw (alike mu) (after_output resampler _ _ _ _ _ _ _ b due place)
 
