@@ -2,7 +2,7 @@
 use Rattle.std.proofs.Common.{◌≡◌, ℕ, ◌+◌, ◌<◌, ◌≤◌, List, [], ◌∷◌, ◌++◌, length, get_or, take, drop, set, sym, ap, ◌∙◌, subst, add-zero, zero-add, add-one, arith, append-nil, take-take, drop_of_length-le, le-leb, length-take-le, get_or-drop, get_or-append-add}
 use lib.Seq.{paste, paste-suc}
 use lib.Ieee.{Float, nan}
-use Rattle.float.specs.PolyphaseOpening.{most_taps}
+use Rattle.float.specs.PolyphaseOpening.{most_phase_taps}
 use Rattle.float.specs.PolyphaseResamp.{shifted_in}
 use Rattle.float.proofs.Tape.{one_more}
 
@@ -30,7 +30,7 @@ held_next d x t h = at_turn d x t h ∙ ap (λ (z : ℕ). get_or (x ∷ d) z nan
 
 -- a whole row of T, the places behind it as they were
 pub slid_row :
-    (T n : ℕ) (x : Float) (d : List Float) → n ≡ length (take T d) → T ≤ most_taps → most_taps ≤ length d → slid (take T d) x n ++ drop T d ≡ shifted_in T x d
+    (T n : ℕ) (x : Float) (d : List Float) → n ≡ length (take T d) → T ≤ most_phase_taps → most_phase_taps ≤ length d → slid (take T d) x n ++ drop T d ≡ shifted_in T x d
 unfolding shifted_in
 slid_row T n x d e few long =
     let all : length (take T d) ≡ T = length-take-le T d (omega (arith, few, long)) in

@@ -9,7 +9,7 @@ use lib.Ieee.Fits.{up_pos, down_pos, round_is, round-fits}
 use lib.Ieee.Positive.{num, den, den_pos}
 use Rattle.theory.proofs.FloatOrder.{nonneg, le→cross, round_below, value_nonneg, value→cross}
 use Rattle.float.specs.F32.{zero32, one32}
-use Rattle.float.specs.PolyphaseOutput.{cut_unit, place}
+use Rattle.float.specs.PolyphaseOutput.{cut_unit, phase_position}
 use Rattle.float.proofs.Flags.{is_not}
 
 -- a NaN, or from 0 to n, and not -0
@@ -144,8 +144,8 @@ times P (fin false m e) (fin false n d) h u v =
     le_trans (mul-le-mul_right (n * up d) w) (le_of_eq (ap (λ (k : ℕ). down e * k) y ∙ mul_left_comm (down e) P (down d))) in
     round_up_to _ _ P (mul-pos (down_pos e) (down_pos d)) (omega arith) a
 
-pub place_up_to : (P : ℕ) (mu : Float) → P ≤ 64 → UpTo P (place P mu)
-unfolding place of_int
+pub place_up_to : (P : ℕ) (mu : Float) → P ≤ 64 → UpTo P (phase_position P mu)
+unfolding phase_position of_int
 place_up_to P mu h = times P _ (round binary32 false P 1) h (less_cut _ (cut_unit_lem mu)) (round_whole binary32 false P (omega arith))
 
 -- ---- so the whole part is that of a value below 2^24, and at most P

@@ -6,7 +6,7 @@ use Rattle.std.proofs.lemmas.Nat.{mul-add-lt}
 use Rattle.std.proofs.lemmas.List.{get_or_default}
 use Rattle.std.proofs.Math.ListN.{get_or-eq_default}
 use Rattle.float.specs.F32.{one32, zero32, blend}
-use Rattle.float.specs.PolyphaseOutput.{tap, straight_tap, reading, cut_unit, place, phase0, phase1, first_place, second_place, fraction, phase_sum, output}
+use Rattle.float.specs.PolyphaseOutput.{tap, straight_tap, reading, cut_unit, phase_position, phase0, phase1, first_place, second_place, fraction, phase_sum, output}
 use Rattle.float.specs.PolyphaseOpening.{within, in_limits}
 use Rattle.float.specs.inner.Running.{Inside}
 use Rattle.std.proofs.lemmas.Bool.{and_parts}
@@ -137,7 +137,7 @@ past_places false P q w n e m a h = let t : to_unsigned 64 q ≡ P = omega (arit
 
 -- ---- the output at a mu that is cut
 pub output_cut : (straight : Bool) (P T : ℕ) (mu : Float) (d h : List Float) → output straight P T (cut_unit mu) d h ≡ output straight P T mu d h
-unfolding output place
+unfolding output phase_position
 output_cut straight P T mu d h = rw (← cut_cut mu)
 
 -- ---- the result, from what its parts ensure
@@ -146,7 +146,7 @@ whole :
     → cut ≡ cut_unit mu → p0 ≡ first_place straight P (mul binary32 (sub binary32 one32 cut) (of_int binary32 (pos P))) → p1 ≡ second_place straight P p0
     → r ≡ blend (phase_sum (reading straight h P T p0) d T) (phase_sum (reading straight h P T p1) d T) (sub binary32 (mul binary32 (sub binary32 one32 cut) (of_int binary32 (pos P))) (of_int binary32 (pos p0)))
     → r ≡ output straight P T mu d h
-unfolding output place fraction
+unfolding output phase_position fraction
 whole straight P T mu d h cut p0 p1 r c a b e = e ∙ rw (b, a, c)
 
 -- by the setting
@@ -205,13 +205,13 @@ module _
     pub outputs_alike : (straight : Bool) (mu : Float) → output straight P T mu d h ≡ output straight P T mu e k
     unfolding output reading first_place second_place phase0 phase1
     outputs_alike true mu =
-        let q : Float = place P mu in
+        let q : Float = phase_position P mu in
         let p : ℕ = to_unsigned 64 q in
         ap₂ {C = Float} (λ a b. blend a b (fraction q p))
         (sums_alike (straight_tap h P T p) (straight_tap k P T p) d e T (λ t a. straight_alike p t) delays T (omega arith))
         (sums_alike (straight_tap h P T (p + 1)) (straight_tap k P T (p + 1)) d e T (λ t a. straight_alike (p + 1) t) delays T (omega arith))
     outputs_alike false mu =
-        let q : Float = place P mu in
+        let q : Float = phase_position P mu in
         let p0 : ℕ = phase0 P q in
         let p1 : ℕ = phase1 P p0 in
         ap₂ {C = Float} (λ a b. blend a b (fraction q p0))

@@ -13,18 +13,18 @@ least_phases = 2
 abbrev pub most_phases : ℕ
 most_phases = 64
 
-abbrev pub least_taps : ℕ
-least_taps = 1
+abbrev pub least_phase_taps : ℕ
+least_phase_taps = 1
 
-abbrev pub most_taps : ℕ
-most_taps = 16
+abbrev pub most_phase_taps : ℕ
+most_phase_taps = 16
 
 unfoldable pub within : ℕ → ℕ → ℕ → Bool
 within least most n = nat_le least n && nat_le n most
 
 -- refusal 12, "P or T outside its limits"
 unfoldable pub in_limits : ℕ → ℕ → Bool
-in_limits P T = within least_phases most_phases P && within least_taps most_taps T
+in_limits P T = within least_phases most_phases P && within least_phase_taps most_phase_taps T
 
 -- refusal 15, "mu not in −2^24..1+step as rounded (line: 0..1+step)": from `low` up
 unfoldable pub mu_from : Float → Float → Float → Bool
@@ -61,7 +61,7 @@ valid_in_line s = valid_in_line_at s.phases s.taps s.step s.mu
 
 -- the prototype in front, zeros behind
 abbrev pub most_cells : ℕ
-most_cells = most_phases * most_taps
+most_cells = most_phases * most_phase_taps
 
 unfoldable pub packed : List Float → List Float
 packed h = take most_cells h ++ replicate (most_cells - length h) zero32
@@ -69,7 +69,7 @@ packed h = take most_cells h ++ replicate (most_cells - length h) zero32
 -- "mu starts at 1.0", "every delay at zero"
 unfoldable pub fresh : Bool → ℕ → ℕ → List Float → Float → PolyphaseResampF32
 fresh straight P T h step =
-    record { phases = P; taps = T; straight = straight; mu = one32; step = step; delay = replicate most_taps zero32; prototype = packed h }
+    record { phases = P; taps = T; straight = straight; mu = one32; step = step; delay = replicate most_phase_taps zero32; prototype = packed h }
 
 -- "a refused opening's state is all zeros"
 unfoldable pub zeros : PolyphaseResampF32
@@ -80,7 +80,7 @@ zeros =
       straight = false;
       mu = zero32;
       step = zero32;
-      delay = replicate most_taps zero32;
+      delay = replicate most_phase_taps zero32;
       prototype = replicate most_cells zero32;
     }
 

@@ -22,8 +22,8 @@ unfoldable pub cut_unit : Float → Float
 cut_unit x = cond (lt x zero32) zero32 (cond (lt one32 x) one32 x)
 
 -- "q = (1.0 − mu cut to 0..1) × P"
-unfoldable pub place : ℕ → Float → Float
-place P mu = mul binary32 (sub binary32 one32 (cut_unit mu)) (of_int binary32 (pos P))
+unfoldable pub phase_position : ℕ → Float → Float
+phase_position P mu = mul binary32 (sub binary32 one32 (cut_unit mu)) (of_int binary32 (pos P))
 
 -- "p0 = floor(q) modulo P"
 unfoldable pub phase0 : ℕ → Float → ℕ
@@ -52,6 +52,6 @@ phase_sum taps d (suc t) = add binary32 (phase_sum taps d t) (mul binary32 (taps
 -- "the result is y0 × (1.0 − f) + y1 × f"
 unfoldable pub output : Bool → ℕ → ℕ → Float → List Float → List Float → Float
 output straight P T mu d h =
-    let q = place P mu in
+    let q = phase_position P mu in
     let p = first_place straight P q in
     blend (phase_sum (reading straight h P T p) d T) (phase_sum (reading straight h P T (second_place straight P p)) d T) (fraction q p)

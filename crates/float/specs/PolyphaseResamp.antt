@@ -11,11 +11,11 @@ use Rattle.float.specs.F32.{one32}
 use Rattle.float.specs.PolyphaseOutput.{output}
 use Rattle.float.specs.declared.polyphase_resamp.PolyphaseResampF32.{PolyphaseResampF32}
 use Rattle.float.specs.declared.settings.Setting.{Setting}
-use Rattle.float.specs.PolyphaseOpening.{most_taps, valid}
+use Rattle.float.specs.PolyphaseOpening.{most_phase_taps, valid}
 
 -- "newest at delay 0": x goes in at the front of the T places, and the oldest falls out
 unfoldable pub shifted_in : ℕ → Float → List Float → List Float
-shifted_in T x d = cond (nat_le T most_taps) (take T (x ∷ d) ++ drop T d) d
+shifted_in T x d = cond (nat_le T most_phase_taps) (take T (x ∷ d) ++ drop T d) d
 
 -- a consumed sample: "newest at delay 0, mu falls by 1.0"
 unfoldable pub consumed : PolyphaseResampF32 → Float → PolyphaseResampF32

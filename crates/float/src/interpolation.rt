@@ -16,7 +16,7 @@ pub(crate) struct Reading<'a> {
     pub prototype: &'a [f32; MOST_CELLS],
     pub setting: Setting,
     ghost phases_inside: { (R.least_phases ≤ setting.phases) × (setting.phases ≤ R.most_phases) },
-    ghost taps_inside: { (R.least_taps ≤ setting.phase_taps) × (setting.phase_taps ≤ R.most_taps) },
+    ghost taps_inside: { (R.least_phase_taps ≤ setting.phase_taps) × (setting.phase_taps ≤ R.most_phase_taps) },
 }
 
 // The first places: P in wrapped phase; one more in straight phase, at q = P.
@@ -84,7 +84,7 @@ impl Reading<'_> {
     #[tactic(auto, unfolding(crate::specs::PolyphaseOutput::phase_sum, crate::specs::PolyphaseOutput::tap, crate::specs::inner::Running::Inside))]
     fn summed(self, delay: &[f32], p0: usize, p1: usize) -> (f32, f32)
         requires { let n = length delay.now in
-            (n ≤ R.most_taps) × N.Inside self.setting.phases n p0 × N.Inside self.setting.phases n p1 × (p0 ≤ R.most_cells) × (p1 ≤ R.most_cells) }
+            (n ≤ R.most_phase_taps) × N.Inside self.setting.phases n p0 × N.Inside self.setting.phases n p1 × (p0 ≤ R.most_cells) × (p1 ≤ R.most_cells) }
         ensures { let r = self.entry in
             let h = r.prototype.now in
             let d = delay.now in

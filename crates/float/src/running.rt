@@ -18,7 +18,7 @@ const TAPE: usize = 64;
 
 // The sample x goes in before the newest on the tape; what it returns is x's place.
 fn take_in(tape: &mut [f32; TAPE], newest: usize, taps: usize, x: f32) -> usize
-    requires { (1 ≤ taps) × (taps ≤ O.most_taps) × (newest + taps ≤ 64) }
+    requires { (1 ≤ taps) × (taps ≤ O.most_phase_taps) × (newest + taps ≤ 64) }
     ensures { (result + taps ≤ 64) × (take taps (drop result tape.new) ≡ take taps (x ∷ drop newest tape.old)) }
 {
     if newest == 0 {

@@ -12,8 +12,8 @@ use Rattle.linear_phase.specs.Windows.{window_value}
 use Rattle.linear_phase.specs.declared.linear_phase_fir.LinearPhaseFir.{LinearPhaseFir}
 
 -- "M from 1 to 23"
-abbrev pub most_taps : ℕ
-most_taps = 23
+abbrev pub most_linear_phase_taps : ℕ
+most_linear_phase_taps = 23
 
 -- the longest LEN
 abbrev pub most_delays : ℕ
@@ -44,20 +44,20 @@ phase_fir = record { next = phase_next; out = λ d x. Some (phase_out d x) }
 
 -- all zeros, and an opening with the taps c
 abbrev pub phase_none : LinearPhaseFir
-phase_none = record { m = 0; odd = false; antisymmetric = false; taps = replicate most_taps zero32; delay = replicate most_delays zero32 }
+phase_none = record { m = 0; odd = false; antisymmetric = false; taps = replicate most_linear_phase_taps zero32; delay = replicate most_delays zero32 }
 
 abbrev pub phase_fresh : Bool → Bool → List Float → LinearPhaseFir
 phase_fresh odd antisymmetric c =
-    record { m = length c; odd = odd; antisymmetric = antisymmetric; taps = padded_to most_taps zero32 c; delay = replicate most_delays zero32 }
+    record { m = length c; odd = odd; antisymmetric = antisymmetric; taps = padded_to most_linear_phase_taps zero32 c; delay = replicate most_delays zero32 }
 
 -- "19 when M is outside its limits", "M from 1 to 23"
 abbrev pub phase_opening : Bool → Bool → List Float → Opened LinearPhaseFir
 phase_opening odd antisymmetric c =
-    cond (outside (length c) 1 most_taps) (record { number = 19; state = phase_none }) (record { number = 0; state = phase_fresh odd antisymmetric c })
+    cond (outside (length c) 1 most_linear_phase_taps) (record { number = 19; state = phase_none }) (record { number = 0; state = phase_fresh odd antisymmetric c })
 
 -- 15: "settings that its opening refuses"
 abbrev pub phase_refused : LinearPhaseFir → Bool
-phase_refused d = outside d.m 1 most_taps
+phase_refused d = outside d.m 1 most_linear_phase_taps
 
 -- "Reset equals a fresh opening", with the state's own taps and kind
 abbrev pub phase_reset : LinearPhaseFir → Opened LinearPhaseFir

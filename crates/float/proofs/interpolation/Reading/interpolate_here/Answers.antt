@@ -2,7 +2,7 @@
 use Rattle.std.proofs.Common.{ℕ, ◌≡◌, ◌<◌, ◌≤◌, Bool, List, length, take, pos, refl, sym, subst, ◌∙◌, ap₂, le_trans, arith, length-take-le}
 use lib.Ieee.{Float, binary32, of_int, sub, mul}
 use Rattle.float.specs.F32.{one32, blend}
-use Rattle.float.specs.PolyphaseOutput.{phase_sum, cut_unit, place, first_place}
+use Rattle.float.specs.PolyphaseOutput.{phase_sum, cut_unit, phase_position, first_place}
 use Rattle.float.specs.inner.Running.{Inside}
 use Rattle.float.proofs.Place.{UpTo, place_up_to, below_all_whole, whole_up_to}
 use Rattle.float.proofs.PolyphaseOutput.{Limits, inside, phase_inside, sum_front, exact, first_below, first_up_to, whole_straight, whole_before, whole_last}
@@ -10,7 +10,7 @@ use Rattle.float.proofs.interpolation.Reading.interpolate_here.Goals as goal
 
 -- q is from 0 to P
 placed : (P : ℕ) (mu : Float) → mu ≡ cut_unit mu → P ≤ 64 → UpTo P (mul binary32 (sub binary32 one32 mu) (of_int binary32 (pos P)))
-unfolding place
+unfolding phase_position
 placed P mu cut few = subst (λ (x : Float). UpTo P (mul binary32 (sub binary32 one32 x) (of_int binary32 (pos P)))) (sym cut) (place_up_to P mu few)
 
 pub first_place-place-requires : goal.first_place-place-requires
