@@ -3,7 +3,7 @@ use Rattle.std.proofs.Common.{◌≡◌, ℕ, zero, suc, ◌+◌, ◌-◌, ◌<�
 use lib.Ieee.{Float, binary32, add, lt}
 use Rattle.float.specs.F32.{one32}
 use Rattle.float.specs.PolyphaseOutput.{output}
-use Rattle.float.specs.inner.Running.{emitted}
+use Rattle.float.specs.inner.Running.{Emitted, emitted}
 
 module _ (straight : Bool) (P T : ℕ) (step : Float) (d h : List Float) where
   abbrev made : Float → Float
@@ -38,6 +38,13 @@ module _ (straight : Bool) (P T : ℕ) (step : Float) (d h : List Float) where
           → let e = emitted straight P T step d h (suc n) mu w o in K e.mu e.written e.span
       go true e ih = rw e (ih (add binary32 mu step) (w + 1) (set o w (made mu)) (omega (arith, length-set o w (made mu))) (keep mu w o k e (omega arith)))
       go false e ih = rw e k
+
+  -- where one is due and has a place, it is written
+  pub due_grows : (mu : Float) (w : ℕ) (o : List Float) (f : Emitted) → f ≡ emitted straight P T step d h (length o - w) mu w o → w < length o → lt mu one32 ≡ true → w < f.written
+  due_grows mu w o f q place e =
+      let one : length o - w ≡ suc (length o - (w + 1)) = omega arith in
+      rw (q, one, one_due (length o - (w + 1)) mu w o e)
+      (emitted_keeps (λ mu' w' o'. w < w') (λ mu' w' o' k due room. omega arith) (length o - (w + 1)) (add binary32 mu step) (w + 1) (set o w (made mu)) (omega (arith, length-set o w (made mu))) (omega arith))
 
   -- where a place is left, nothing is due
   pub emitted_all : (n : ℕ) (mu : Float) (w : ℕ) (o : List Float) → n ≡ length o - w → let e = emitted straight P T step d h n mu w o in e.written < length e.span → lt e.mu one32 ≡ false

@@ -1,9 +1,9 @@
 -- What the contracts of the opening, `process_block` and `push` claim follows from the equations they state: an opened state is valid and its runs are
 -- the whole list's, and a feed of the machine keeps validity and conserves its run.
-use Rattle.std.proofs.Common.{◌≡◌, ℕ, ◌+◌, ◌-◌, ◌*◌, ◌<◌, ◌≤◌, Bool, true, false, cond, ap, eqb, ltb, List, [], length, take, drop, set, sym, refl, ◌∙◌, subst, arith, ltb-false, ltb-true, eq-eqb, eqb-true}
+use Rattle.std.proofs.Common.{◌≡◌, ℕ, ◌-◌, ◌*◌, ◌<◌, ◌≤◌, Bool, true, false, cond, ap, eqb, ltb, List, [], length, take, drop, sym, refl, ◌∙◌, subst, arith, ltb-false, ltb-true, eq-eqb, eqb-true}
 use mathlib.Core.Path.{subst⁻¹}
 use lib.Seq.{take-append_seam, drop-nil}
-use lib.Ieee.{Float, binary32, add, sub, lt}
+use lib.Ieee.{Float, binary32, sub, lt}
 use Rattle.theory.specs.Feeds.{Fed, feed}
 use Rattle.theory.specs.Runs.{Runs}
 use Rattle.theory.proofs.FeedRules.{Between, Ended, between_start, after_output, ended_full, ended_dry, feed_keeps, feed_short, feed_conserves}
@@ -159,15 +159,6 @@ due_between straight P T step d e h s₀ xs o₀ t alike mu w o b f q =
           (length o - w) mu w o refl b,
       emitted_all straight P T step d h (length o - w) mu w o refl,
     )
-
--- an output carries it on, made of a delay d that gives those of the state's e
-pub output_between :
-    (q : Setting) (d e h : List Float) (s₀ : PolyphaseResampF32) (xs o₀ o : List Float) (t w : ℕ) (mu : Float)
-    → ((m : Float) → output q.straight q.phases q.phase_taps m d h ≡ output q.straight q.phases q.phase_taps m e h)
-    → Between resampler s₀ xs o₀ o (state_of q mu e h) t w → lt mu one32 ≡ true → w < length o
-    → Between resampler s₀ xs o₀ (set o w (output q.straight q.phases q.phase_taps mu d h)) (state_of q (add binary32 mu q.step) e h) t (w + 1)
-unfolding resampler output_of passed
-output_between q d e h s₀ xs o₀ o t w mu alike b due place = rw (alike mu) (after_output resampler _ _ _ _ _ _ _ b due place)
 
 -- and with no samples to consume they are a run
 pub emitted_ran :

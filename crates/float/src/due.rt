@@ -18,7 +18,7 @@ pub struct Due {
 
 // An x below 1.0 cut to 0.0..1.0; a NaN would stay one. `clamp` would test the upper end again for each output.
 #[tactic(auto, unfolding(crate::specs::PolyphaseOutput::cut_unit), using(crate::proofs::Place::below_one))]
-pub(crate) fn cut_below(x: f32) -> f32
+fn cut_below(x: f32) -> f32
     requires { lt x one32 ≡ true }
     ensures { result ≡ cut_unit x }
 {

@@ -129,8 +129,7 @@ impl Reading<'_> {
 
     // One output at a mu that is cut, by the setting. Below the last phase both settings read the same cells. There and at the end in straight phase the two places
     // are neighbours, which the compiler reads as pairs: so these calls say `p + 1`, and wrapped phase, which goes back to the first, has one of its own.
-    #[inline(always)]
-    pub(crate) fn interpolate_here(self, delay: &[f32], mu: f32) -> f32
+    pub(crate) fn interpolate(self, delay: &[f32], mu: f32) -> f32
         requires { (self.setting.phase_taps ≤ length delay.now) × (mu ≡ cut_unit mu) }
         ensures { let r = self.entry in
             result ≡ output r.setting.straight r.setting.phases r.setting.phase_taps mu delay.now r.prototype.now }
@@ -149,15 +148,6 @@ impl Reading<'_> {
             return self.blended_at_the_end(window, p, f);
         }
         blend_of(self.summed(window, p, 0), f)
-    }
-
-    // The same as a function of its own, for callers that the compiler is to inline it into only where that costs little.
-    pub(crate) fn interpolate(self, delay: &[f32], mu: f32) -> f32
-        requires { (self.setting.phase_taps ≤ length delay.now) × (mu ≡ cut_unit mu) }
-        ensures { let r = self.entry in
-            result ≡ output r.setting.straight r.setting.phases r.setting.phase_taps mu delay.now r.prototype.now }
-    {
-        self.interpolate_here(delay, mu)
     }
 }
 

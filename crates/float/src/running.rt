@@ -6,7 +6,7 @@ ghost use Rattle.float.specs.PolyphaseOpening as O;
 ghost use Rattle.float.specs.PolyphaseResamp as R;
 ghost use Rattle.float.specs.inner.Running as N;
 
-use crate::due::{cut_below, shift_in};
+use crate::due::shift_in;
 use crate::interpolation::Reading;
 use crate::settings::{MOST_CELLS, MOST_PHASE_TAPS, Setting};
 use crate::span::put_at_end;
@@ -33,8 +33,8 @@ fn take_in(tape: &mut [f32; TAPE], newest: usize, taps: usize, x: f32) -> usize
 }
 
 impl Reading<'_> {
-    // An output that is due is written, or else a sample is consumed, until dst is full or a sample is wanted and none is left. No range: mu says what a turn does. The
-    // output is inlined here by a word above it, since it is longer than what the compiler inlines of itself.
+    // Outputs that are due are written, then a sample is consumed, until dst is full or a sample is wanted and none is left. No range: mu says what a turn does. The
+    // outputs stand in a loop of their own so that the compiler inlines each into it.
     fn run(
         self,
         mu: &mut f32,
@@ -53,9 +53,9 @@ impl Reading<'_> {
         let mut written = 0usize;
         while written < dst.len() {
             if at < 1.0 {
-                dst[written] = self.interpolate_here(&tape[newest..], cut_below(at));
-                written += 1;
-                at += self.setting.step;
+                let due = self.write_due(&tape[newest..], at, dst, written);
+                at = due.mu;
+                written = due.written;
             } else {
                 let Some(&x) = src.get(taken) else {
                     break;

@@ -1,13 +1,12 @@
--- `run` meets its contract: an output carries `Between` on (`output_between`), and so does a sample.
-use Rattle.std.proofs.Common.{◌≡◌, ◌+◌, ◌-◌, ◌<◌, ◌≤◌, length, take, drop, replicate, refl, sym, ap, ◌∙◌, arith, length-drop, length-take-le, ltb-true, ltb-false}
+-- `run` meets its contract: the outputs that are due carry `Between` on (`due_between`), and so does a sample.
+use Rattle.std.proofs.Common.{◌≡◌, ◌+◌, ◌-◌, ◌<◌, ◌≤◌, length, take, replicate, refl, sym, arith, length-take-le, ltb-true, ltb-false}
 use Rattle.theory.proofs.FeedRules.{between_start, after_input, Ended, ended_full, ended_dry}
-use lib.Ieee.{Float}
 use Rattle.float.specs.F32.{zero32}
-use Rattle.float.specs.PolyphaseOutput.{cut_unit, output}
+use Rattle.float.specs.inner.Running.{told_due}
 use Rattle.float.specs.PolyphaseResamp.{consumed, resampler, state_of}
-use Rattle.float.proofs.Place.{cut_cut}
-use Rattle.float.proofs.PolyphaseCalls.{finished, output_between}
-use Rattle.float.proofs.PolyphaseOutput.{output_cut, outputs_alike}
+use Rattle.float.proofs.DueOutputs.{due_grows}
+use Rattle.float.proofs.PolyphaseCalls.{finished, due_between}
+use Rattle.float.proofs.PolyphaseOutput.{outputs_alike}
 use Rattle.float.proofs.Tape.{ends_in, wound, wound_start, wound_in, wound_at, wound_front}
 use Rattle.float.proofs.interpolation.Reading.run.Goals.{else-loop-written-test, then-loop-written-test+else-at+in_default}
 use Rattle.float.proofs.interpolation.Reading.run.Goals as goal
@@ -27,32 +26,25 @@ loop-written-init c =
       on_tape = omega (arith, few);
     }
 
-pub interpolate_here-requires : goal.interpolate_here-requires
-interpolate_here-requires c =
+-- at least one was due
+pub loop-written-smaller-then-at : goal.loop-written-smaller-then-at
+loop-written-smaller-then-at c =
+    let q = c.args.self.setting in
     let l = c.loop-written in
-    let n : length (take (64 - l.newest) (drop l.newest l.tape)) ≡ 64 - l.newest = length-take-le _ _ (simp length-drop (omega (arith, l.invariant.whole))) in
-    let e = c.cut_below.ensures in
-    (omega (arith, n, l.invariant.on_tape), e ∙ cut_cut l.at ∙ ap cut_unit (sym e))
+    let due = due_grows q.straight q.phases q.phase_taps q.step _ c.args.self.prototype.now l.at l.written l.dst (told_due c.write_due-due.result c.write_due-due.new.dst) c.write_due-due.ensures c.loop-written-test.true c.if-at.true in
+    omega (arith, due, c.loop-written-test.true, c.loop-written.auto.dst)
 
 pub loop-written-preserved-then-at : goal.loop-written-preserved-then-at
 loop-written-preserved-then-at c =
     let a = c.args in
     let q = a.self.setting in
-    let h = a.self.prototype.now in
     let l = c.loop-written in
+    let d = wound q.phase_taps l.tape l.newest a.delay.now in
     let some : 0 < q.phases = omega (arith, a.self.phases_inside) in
-    let d = take (64 - l.newest) (drop l.newest l.tape) in
-    let made : c.interpolate_here.result ≡ output q.straight q.phases q.phase_taps l.at d h =
-    c.interpolate_here.ensures ∙ ap (λ (x : Float). output q.straight q.phases q.phase_taps x d h) c.cut_below.ensures ∙ output_cut _ _ _ l.at _ _ in
-    record {
-      between =
-          rw made
-          (output_between q d (wound q.phase_taps l.tape l.newest a.delay.now) h _ a.src.now _ l.dst l.taken l.written l.at
-          (λ mu. outputs_alike q.phases q.phase_taps h h _ _ some (λ i u. refl) (λ t u. wound_at q.phase_taps a.delay.now l.tape l.newest (64 - l.newest) t (omega (arith, l.invariant)) (omega (arith, l.invariant)) u) q.straight mu)
-          l.invariant.between c.if-at.true c.loop-written-test.true);
-      whole = l.invariant.whole;
-      on_tape = l.invariant.on_tape;
-    }
+    let made = due_between q.straight q.phases q.phase_taps q.step _ d a.self.prototype.now (state_of q a.mu.now a.delay.now a.self.prototype.now) a.src.now a.dst.now l.taken
+    (λ mu. outputs_alike q.phases q.phase_taps a.self.prototype.now a.self.prototype.now _ _ some (λ i u. refl) (λ t u. wound_at q.phase_taps a.delay.now l.tape l.newest (64 - l.newest) t (omega (arith, l.invariant)) (omega (arith, l.invariant)) u) q.straight mu)
+    l.at l.written l.dst l.invariant.between (told_due c.write_due-due.result c.write_due-due.new.dst) c.write_due-due.ensures in
+    record { between = made.0; whole = l.invariant.whole; on_tape = l.invariant.on_tape }
 
 pub loop-written-preserved : goal.loop-written-preserved
 unfolding resampler consumed

@@ -1,4 +1,4 @@
--- `interpolate_here` meets its contract: q is from 0 to P, so the first place is at most P, and each way of reading on from it is one of `output`'s.
+-- `interpolate` meets its contract: q is from 0 to P, so the first place is at most P, and each way of reading on from it is one of `output`'s.
 use Rattle.std.proofs.Common.{ℕ, ◌≡◌, ◌<◌, ◌≤◌, Bool, List, length, take, pos, refl, sym, subst, ◌∙◌, ap₂, le_trans, arith, length-take-le}
 use lib.Ieee.{Float, binary32, of_int, sub, mul}
 use Rattle.float.specs.F32.{one32, blend}
@@ -6,7 +6,7 @@ use Rattle.float.specs.PolyphaseOutput.{phase_sum, cut_unit, phase_position, fir
 use Rattle.float.specs.inner.Running.{Inside}
 use Rattle.float.proofs.Place.{UpTo, place_up_to, below_all_whole, whole_up_to}
 use Rattle.float.proofs.PolyphaseOutput.{Limits, inside, phase_inside, sum_front, exact, first_below, first_up_to, whole_straight, whole_before, whole_last}
-use Rattle.float.proofs.interpolation.Reading.interpolate_here.Goals as goal
+use Rattle.float.proofs.interpolation.Reading.interpolate.Goals as goal
 
 -- q is from 0 to P
 placed : (P : ℕ) (mu : Float) → mu ≡ cut_unit mu → P ≤ 64 → UpTo P (mul binary32 (sub binary32 one32 mu) (of_int binary32 (pos P)))
