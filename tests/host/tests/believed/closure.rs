@@ -128,22 +128,28 @@ fn exported(source: &str) -> Vec<&str> {
     names.filter_map(|rest| rest.split('(').next()).collect()
 }
 
-/// What of specs/inner/ a contract of a function that C calls cites.
-fn inner_in_exports(top: &Path) -> Vec<String> {
+/// What of specs/inner/ a contract of a function that C calls cites, in one source.
+fn inner_cited(source: &str) -> Vec<String> {
+    let plain = source.replace("pub extern \"C\" fn ", "pub fn ");
     let mut found = Vec::new();
-    for file in files(&top.join("crates/gauge_line/src"), "rt") {
-        let source = read(&file).replace("pub extern \"C\" fn ", "pub fn ");
-        for call in exported(&read(&file)) {
-            let inner = cited(&source, call)
-                .into_iter()
-                .filter_map(|each| match each {
-                    Module::Specs(name) if name.contains("/inner/") => Some(name),
-                    _ => None,
-                });
-            found.extend(inner.map(|name| format!("{call} cites {name}")));
-        }
+    for call in exported(source) {
+        let inner = cited(&plain, call)
+            .into_iter()
+            .filter_map(|each| match each {
+                Module::Specs(name) if name.contains("/inner/") => Some(name),
+                _ => None,
+            });
+        found.extend(inner.map(|name| format!("{call} cites {name}")));
     }
     found
+}
+
+fn inner_in_exports(top: &Path) -> Vec<String> {
+    let sources = files(&top.join("crates/gauge_line/src"), "rt");
+    sources
+        .iter()
+        .flat_map(|file| inner_cited(&read(file)))
+        .collect()
 }
 
 /// Where something that is believed needs specs/inner/.
@@ -157,4 +163,17 @@ pub fn inner_believed(top: &Path) -> Vec<String> {
 fn exported_functions_are_found() {
     let source = "pub extern \"C\" fn a(\n    x: usize,\n) -> usize\n{\n}\nfn b() {}\npub extern \"C\" fn c()\n{\n}\n";
     assert_eq!(exported(source), ["a", "c"]);
+}
+
+#[test]
+fn a_citation_of_inner_is_found() {
+    let source = |clause: &str| {
+        let used = "ghost use Rattle.gauge_line.specs.inner.Numbers.{made_in};\n";
+        format!(
+            "{used}pub extern \"C\" fn a(x: usize) -> usize\n    ensures {{ {clause} }}\n{{\n}}\n"
+        )
+    };
+    let found = ["a cites gauge_line/inner/Numbers"];
+    assert_eq!(inner_cited(&source("result ≡ made_in x")), found);
+    assert!(inner_cited(&source("result ≡ x")).is_empty());
 }
