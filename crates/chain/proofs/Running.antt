@@ -290,9 +290,9 @@ taken_within t xs count taken made (e, f) = subst⁻¹ (λ (n : ℕ). n ≤ leng
     go false = omega arith
 
 -- and makes no more sums than it may
-made_within : (t : Thinner) (xs : List ℤ) (count : ℕ) → length (thin_fed t xs count).written ≤ count
+few_made : (t : Thinner) (xs : List ℤ) (count : ℕ) → length (thin_fed t xs count).written ≤ count
 unfolding thin_fed
-made_within t xs count = go (valid_at t.kind t.cic.stages t.cic.r t.cic.sample_counter)
+few_made t xs count = go (valid_at t.kind t.cic.stages t.cic.r t.cic.sample_counter)
   where
     go : (b : Bool) → length (cond b (feed (alone (pos 0) thin) t xs count) (idle t)).written ≤ count
     go true = feed_room (alone (pos 0) thin) t xs count
@@ -321,7 +321,7 @@ module _ (t : Thinner) (s : FirDecimator) (xs : List ℤ) (bits : ℕ) where
     where
       few : cuts_by most ≤ 256
       few =
-          let n = made_within t xs most in
+          let n = few_made t xs most in
           let sums = count_few (sums_by most) in
           let filtered = le_trans (count_few (outs summing s (map (cut w16) (sums_by most)))) (outs_few summing s (map (cut w16) (sums_by most))) in
           let l₁ = length-map (thin_fed t xs most).written (scaled_at bits) in
