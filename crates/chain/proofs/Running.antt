@@ -289,6 +289,45 @@ taken_within t xs count taken made (e, f) = subst⁻¹ (λ (n : ℕ). n ≤ leng
     go true = (feed_right (alone (pos 0) thin) 0 (λ x. Unit {0}) (lawful_alone (pos 0) thin 0 (λ x. Unit {0}) (λ x a g. g)) t xs count tt).within
     go false = omega arith
 
+-- and makes no more sums than it may
+few_made : (t : Thinner) (xs : List ℤ) (count : ℕ) → length (thin_fed t xs count).written ≤ count
+unfolding thin_fed
+few_made t xs count = go (valid_at t.kind t.cic.stages t.cic.r t.cic.sample_counter)
+  where
+    go : (b : Bool) → length (cond b (feed (alone (pos 0) thin) t xs count) (idle t)).written ≤ count
+    go true = feed_room (alone (pos 0) thin) t xs count
+    go false = omega arith
+
+module _ (t : Thinner) (s : FirDecimator) (xs : List ℤ) (bits : ℕ) where
+  abbrev sums_by : ℕ → List ℤ
+  sums_by n = map (scaled_at bits) (thin_fed t xs n).written
+
+  abbrev cuts_by : ℕ → ℕ
+  cuts_by n = cut_count w16 (sums_by n) + cut_count w16 (outs summing s (map (cut w16) (sums_by n)))
+
+  -- whatever the state, what is counted is what was cut of the sums and of the FIR's
+  pub batch_counted :
+      (vals : List ℤ) (taken made count most before first after : ℕ) → most ≡ min count 128
+      → (taken ≡ (thin_fed t xs most).taken) × (made ≡ length (thin_fed t xs most).written)
+      → (take made vals ≡ map (cut w16) (sums_by most)) × (first ≡ cut_count w16 (sums_by most))
+      → after ≡ held_sum most_cuts (held_sum most_cuts before first) (cut_count w16 (outs summing s (take made vals)))
+      → (cuts_by (min count 128) ≤ 256) × (after ≡ held_sum most_cuts before (cuts_by (min count 128)))
+  batch_counted vals taken made count most before first after em told (ev, ec) e =
+      subst (λ (n : ℕ). (cuts_by n ≤ 256) × (after ≡ held_sum most_cuts before (cuts_by n))) em (
+        few,
+        e ∙ held_more most_cuts before first (cut_count w16 (outs summing s (take made vals)))
+            ∙ ap₂ {C = ℕ} (λ (a b : ℕ). held_sum most_cuts before (a + b)) ec (ap (λ (l : List ℤ). cut_count w16 (outs summing s l)) ev),
+      )
+    where
+      few : cuts_by most ≤ 256
+      few =
+          let n = few_made t xs most in
+          let sums = count_few (sums_by most) in
+          let filtered = le_trans (count_few (outs summing s (map (cut w16) (sums_by most)))) (outs_few summing s (map (cut w16) (sums_by most))) in
+          let l₁ = length-map (thin_fed t xs most).written (scaled_at bits) in
+          let l₂ = length-map (sums_by most) (cut w16) in
+          omega (arith, n, sums, filtered, l₁, l₂, em)
+
 module _ (t t' : Thinner) (s s' : FirDecimator) (h h' : HbfStream) (r r' : PolyphaseResampF32) (xs sums vals : List ℤ) (taken made bits count w first before after : ℕ) (o o' : List Float) where
   abbrev zs : List ℤ
   zs = take taken xs

@@ -27,7 +27,7 @@ pub(crate) fn filter(
     out: &mut [f32],
 ) -> usize
     requires { length values.old ≤ most_sums }
-    ensures within { result ≤ length out.old }
+    ensures within { (result ≤ length out.old) × (cut_count w16 (outs summing (fir_in f clock.old.wait lent.old) values.old) ≤ most_sums) }
     ensures same { Same lent.old lent.new }
     ensures stays { ThinnerStays lent.old lent.new }
     ensures batched { let before = from_fir_in f clock.old lent.old in

@@ -10,7 +10,7 @@ ghost use Rattle.chain.specs.inner.Parts.{fir_of, half_band_of, resampler_of, cu
 ghost use Rattle.chain.specs.inner.Counting.{or_one, stages_left};
 ghost use Rattle.chain.specs.inner.Batched.{most_sums, Leaves};
 
-use crate::fixed::{FEW_SUMS, Fixed, MOST_SUMS};
+use crate::fixed::{FEW_SAMPLES, FEW_SUMS, Fixed, MOST_SUMS};
 use float::f32_to_usize_saturating;
 use half_band::MOST_DEPTH;
 use nonrecursive::Thinning;
@@ -89,13 +89,19 @@ fn sums_within(f: Fixed, wait: usize, counts: [usize; MOST_DEPTH], places: usize
     (first + values * period).min(MOST_SUMS)
 }
 
-// Fewer sums than these are not worth a block: samples of neighbours cost many times as much one by one.
-fn few_sums(thinning: Thinning) -> usize
+// Fewer sums than these are not worth a block. Of neighbours those of FEW_SAMPLES samples: there a sample costs many times as much by itself. Their factor is a power
+// of two, so no division is wanted.
+fn few_sums(thinning: Thinning, r: usize) -> usize
     ensures { 1 ≤ result }
 {
     match thinning {
         Thinning::Integrators => FEW_SUMS,
-        Thinning::Neighbours => 1,
+        Thinning::Neighbours => match r {
+            1 => FEW_SAMPLES,
+            2 => FEW_SAMPLES / 2,
+            4 => FEW_SAMPLES / 4,
+            _ => 1,
+        },
     }
 }
 
@@ -111,7 +117,7 @@ pub fn sums_for(f: Fixed, wait: usize, counts: [usize; MOST_DEPTH], places: usiz
         return 0;
     }
     let count = sums_within(f, wait, counts, places);
-    if count < few_sums(f.settings.thinning) {
+    if count < few_sums(f.settings.thinning, f.settings.r) {
         return 0;
     }
     count

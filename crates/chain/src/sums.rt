@@ -1,5 +1,5 @@
 // 01, sections 1 and 2: the sums of a block of samples, scaled and cut, and through the sections behind them.
-ghost use Rattle.std.specs.Prelude.{◌≡◌, true, ◌++◌, map, ◌+◌, ◌^◌, ◌≤◌, length, take, drop};
+ghost use Rattle.std.specs.Prelude.{◌≡◌, true, ◌++◌, map, ◌+◌, ◌^◌, ◌≤◌, min, length, take, drop};
 ghost use Rattle.std.specs.Int.{w16};
 ghost use Rattle.theory.specs.Floor.{floor_div};
 ghost use Rattle.theory.specs.Sections.{outs};
@@ -12,7 +12,7 @@ ghost use Rattle.float.specs.PolyphaseOpening.{valid_in_line};
 ghost use Rattle.chain.specs.Chain.{from2, chain};
 ghost use Rattle.chain.specs.Cuts.{most_cuts};
 ghost use Rattle.chain.specs.Same.{Same};
-ghost use Rattle.chain.specs.inner.Lending.{resampler_in, parts_in};
+ghost use Rattle.chain.specs.inner.Lending.{thinner_in, fir_in, resampler_in, parts_in};
 ghost use Rattle.chain.specs.inner.Batched.{most_sums, Whole, Leaves, Batched};
 
 use crate::arrays::Arrays;
@@ -86,7 +86,8 @@ fn values_in(
 }
 
 // Samples up to `count` sums, or all of them, through sections 1 to 5. The caller has looked at the numbers, and where fewer sums than `count` leave a place of the
-// span, that is what the machine does with the samples taken. More sums than MOST_SUMS are not made.
+// span, that is what the machine does with the samples taken. More sums than MOST_SUMS are not made. Whatever the numbers are, what is counted is what was cut of the sums and
+// of the FIR's, of each MOST_SUMS at most.
 pub fn take_batch(
     f: Fixed,
     clock: &mut Clock,
@@ -97,6 +98,10 @@ pub fn take_batch(
 ) -> Moved
     ensures within { (result.taken ≤ length samples.now) × (result.written ≤ length out.old) }
     ensures same { Same lent.old lent.new }
+    ensures counted { let fed = thin_fed (thinner_in f clock.old.sample_counter lent.old) samples.now (min count most_sums) in
+        let sums = map (λ y. floor_div y (2 ^ f.bits)) fed.written in
+        let cuts = cut_count w16 sums + cut_count w16 (outs summing (fir_in f clock.old.wait lent.old) (map (cut w16) sums)) in
+        (cuts ≤ most_sums + most_sums) × (clock.new.cuts ≡ held_sum most_cuts clock.old.cuts cuts) }
     ensures batched { let s = f.settings in
         let before = parts_in f clock.old lent.old in
         let places = length out.old in

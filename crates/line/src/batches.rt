@@ -8,21 +8,21 @@ ghost use Rattle.line.specs.inner.Together as T;
 use crate::validity::Checked;
 use chain::arrays::Arrays;
 use chain::clock::Clock;
-use chain::fixed::FEW_SUMS;
+use chain::fixed::{FEW_SAMPLES, FEW_SUMS};
 use chain::room::sums_for;
 use chain::settings::Settings;
 use chain::sums::take_batch;
 use nonrecursive::Thinning;
 use refusal::Moved;
 
-// Whether so many samples are worth a batch: those of one sum of neighbours, which go one by one at a higher cost, and of FEW_SUMS of integrators. Each kind by
+// Whether so many samples are worth a batch: FEW_SAMPLES of neighbours, and those of one sum, which go one by one at a higher cost, and those of FEW_SUMS of integrators. Each kind by
 // itself, and not over chain's `few_sums`: so the divisor is a constant, by which no division is compiled.
 fn worth_a_batch(s: Settings, left: usize) -> bool
     ensures { result ≡ true → s.r ≤ left }
 {
     match s.thinning {
         Thinning::Integrators => s.r <= left / FEW_SUMS,
-        Thinning::Neighbours => s.r <= left,
+        Thinning::Neighbours => FEW_SAMPLES <= left && s.r <= left,
     }
 }
 

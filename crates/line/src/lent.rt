@@ -61,7 +61,7 @@ pub fn feed_lent(
         let after = N.line_in n.new lent.new in
         Demand3 before samples.now out.old out.new (told_on none_moved result after) }
 {
-    let own = n.checked(lent.counts)?;
-    let moved = feed_by(own, &mut n.clock, lent, samples, out);
+    let checked = n.checked(lent.counts)?;
+    let moved = feed_by(checked, &mut n.clock, lent, samples, out);
     Ok(moved)
 }

@@ -1,10 +1,14 @@
 -- `filter::filter` meets its contract: the values through the FIR, and what it makes into the half-band stages.
-use Rattle.std.proofs.Common.{◌∙◌, arith}
+use Rattle.std.proofs.Common.{◌∙◌, arith, refl}
 use Rattle.chain.proofs.Running.{filtered_state, filtered_cuts, filtered_front, few_cuts, filter_batched}
 use Rattle.chain.proofs.filter.filter.Goals as goal
 
 pub overflow_cast-at : goal.overflow_cast-at
 overflow_cast-at c = omega (arith, few_cuts _ _ _ c.requires (filtered_cuts _ _ c.requires _ c.fir_block_at-at.ensures.cuts))
+
+pub returns-clause-within : goal.returns-clause-within
+returns-clause-within c =
+    (c.levels_in.ensures.within, few_cuts _ _ _ c.requires refl)
 
 pub returns-clause-batched : goal.returns-clause-batched
 returns-clause-batched c =

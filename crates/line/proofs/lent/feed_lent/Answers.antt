@@ -6,18 +6,18 @@ use Rattle.line.proofs.Numbers.{tested}
 use Rattle.line.proofs.Demanded.{refused, ran}
 use Rattle.line.proofs.lent.feed_lent.Goals as goal
 
-pub returns-in_err-own : goal.returns-in_err-own
-returns-in_err-own c =
+pub returns-in_err-checked : goal.returns-in_err-checked
+returns-in_err-checked c =
     let a = c.args in
     let p = err_from_is_err_and c.from_residual.result c.from_residual.ensures.1 in
-    let r = refused _ (tested (line_in a.n.now a.lent.now) c.in_err-own.ensures.valid refl) a.samples.now a.out.now in
-    rw (p.1, p.2, c.in_err-own.ensures.number) (record { same = search rules; stays = (refl, refl); answer = r.0; span = r.1; demand3 = r.2 })
+    let r = refused _ (tested (line_in a.n.now a.lent.now) c.in_err-checked.ensures.valid refl) a.samples.now a.out.now in
+    rw (p.1, p.2, c.in_err-checked.ensures.number) (record { same = search rules; stays = (refl, refl); answer = r.0; span = r.1; demand3 = r.2 })
 
 pub feed_by-moved-requires : goal.feed_by-moved-requires
-feed_by-moved-requires c = rw c.in_ok-own.ensures.fixed (tested (line_in c.args.n.now c.args.lent.now) c.in_ok-own.ensures.valid refl)
+feed_by-moved-requires c = rw c.in_ok-checked.ensures.fixed (tested (line_in c.args.n.now c.args.lent.now) c.in_ok-checked.ensures.valid refl)
 
 pub returns : goal.returns
 returns c =
-    let v = tested (line_in c.args.n.now c.args.lent.now) c.in_ok-own.ensures.valid refl in
-    let r = ran _ v _ refl (rw c.in_ok-own.ensures.fixed at c.feed_by-moved.ensures.ran) in
+    let v = tested (line_in c.args.n.now c.args.lent.now) c.in_ok-checked.ensures.valid refl in
+    let r = ran _ v _ refl (rw c.in_ok-checked.ensures.fixed at c.feed_by-moved.ensures.ran) in
     record { same = c.feed_by-moved.ensures.same; stays = (refl, refl); answer = r.0; span = r.1; demand3 = r.2 }
