@@ -83,7 +83,7 @@ pub fn pair_lent(
 ) -> Result<f32, Refusal>
     ensures answer { told_on zero32 result (dec_of m coeffs.now delay.new) ≡ dec_step (dec_of m coeffs.now delay.old) a b }
 {
-    state_answer(m, MOST_HALF_BAND_TAPS)?;
+    state_answer(m, coeffs.len())?;
     let taps = Taps { all: &coeffs[..m] };
     Ok(take_pair(&mut delay[..4 * m], taps, a, b))
 }

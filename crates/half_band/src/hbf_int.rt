@@ -83,7 +83,7 @@ pub fn sample_lent(
 ) -> Result<(f32, f32), Refusal>
     ensures answer { told_on (zero32, zero32) result (int_of m coeffs.now delay.new) ≡ int_step (int_of m coeffs.now delay.old) x }
 {
-    state_answer(m, MOST_HALF_BAND_TAPS)?;
+    state_answer(m, coeffs.len())?;
     let taps = Taps { all: &coeffs[..m] };
     Ok(take_sample(&mut delay[..2 * m], taps, x))
 }
