@@ -19,7 +19,6 @@ pub struct HbfInt {
     pub delay: [f32; INT_DELAYS],
 }
 
-#[tactic(auto, unfolding(refusal::specs::Rows::outside), using(refusal::proofs::Limits::within, crate::proofs::Interpolators::fresh_meets))]
 impl HbfInt {
     // The state that a caller in C is given of a refused opening.
     pub fn zeros() -> HbfInt
@@ -37,15 +36,9 @@ impl HbfInt {
         ensures answer { told_opened int_none result ≡ int_opening taps.now }
         ensures meets { IfOk result (IntMeets taps.now) }
     {
-        let m = taps.len();
-        if outside(m, 1, MOST_HALF_BAND_TAPS) {
-            return Err(Refusal::HalfBandTaps);
-        }
-        Ok(HbfInt {
-            m,
-            coeffs: padded(taps, 0.0),
-            delay: [0.0; INT_DELAYS],
-        })
+        let mut state = HbfInt::zeros();
+        open_lent(taps, &mut state.m, &mut state.coeffs, &mut state.delay)?;
+        Ok(state)
     }
 
     // One sample: its even and its odd output. Refusal 15.
@@ -67,10 +60,47 @@ impl HbfInt {
     pub fn reset(&mut self) -> Result<(), Refusal>
         ensures answer { told_reset result self.new ≡ int_reset self.old }
     {
-        state_answer(self.m, MOST_HALF_BAND_TAPS)?;
-        *self = HbfInt::new(&self.coeffs[..self.m])?;
-        Ok(())
+        reset_lent(self.m, &mut self.coeffs, &mut self.delay)
     }
+}
+
+// `HbfInt::new` for the C function, into the places that it is lent: no second state is made. Those of a refused opening are zeros.
+#[tactic(auto, unfolding(refusal::specs::Rows::outside), using(refusal::proofs::Limits::within, crate::proofs::Interpolators::fresh_meets))]
+pub fn open_lent(
+    taps: &[f32],
+    m: &mut usize,
+    coeffs: &mut [f32; MOST_HALF_BAND_TAPS],
+    delay: &mut [f32; INT_DELAYS],
+) -> Result<(), Refusal>
+    ensures answer { told_reset result (int_of m.new coeffs.new delay.new) ≡ int_opening taps.now }
+    ensures meets { IfOk result (λ _. IntMeets taps.now (int_of m.new coeffs.new delay.new)) }
+{
+    let count = taps.len();
+    delay.fill(0.0);
+    if outside(count, 1, MOST_HALF_BAND_TAPS) {
+        *m = 0;
+        coeffs.fill(0.0);
+        return Err(Refusal::HalfBandTaps);
+    }
+    *m = count;
+    *coeffs = padded(taps, 0.0);
+    Ok(())
+}
+
+// `HbfInt::reset`, of the fields lent: only zeros are written. Refusal 15.
+pub fn reset_lent(
+    m: usize,
+    coeffs: &mut [f32; MOST_HALF_BAND_TAPS],
+    delay: &mut [f32; INT_DELAYS],
+) -> Result<(), Refusal>
+    ensures answer { told_reset result (int_of m coeffs.new delay.new) ≡ int_reset (int_of m coeffs.old delay.old) }
+{
+    let answer = state_answer(m, MOST_HALF_BAND_TAPS);
+    if answer.is_ok() {
+        coeffs[m..].fill(0.0);
+        delay.fill(0.0);
+    }
+    answer
 }
 
 // `HbfInt::process_sample` for the C function, which is lent the state's arrays: a sample does not pay for moving them.
