@@ -31,7 +31,7 @@ impl HbfInt {
         }
     }
 
-    // An opening with the lent taps. Refusal 10: not 1 to 23 of them. As that of `HbfDec`, and so the reset below: two types as C has them, whose arrays and definitions differ, and a body of three lines.
+    // An opening with the lent taps. Refusal 10: not 1 to 23 of them. As that of `HbfDec`, and so the reset below: two types as C has them, whose arrays and definitions differ.
     pub fn new(taps: &[f32]) -> Result<HbfInt, Refusal>
         ensures answer { told_opened int_none result ≡ int_opening taps.now }
         ensures meets { IfOk result (IntMeets taps.now) }
