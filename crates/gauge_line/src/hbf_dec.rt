@@ -4,9 +4,8 @@ ghost use Rattle.half_band.specs.HbfDec.{dec_opening, dec_reset, dec_step, dec_b
 ghost use Rattle.gauge_line.specs.States.{entry, exit, dec_at};
 
 use crate::answers::number;
-use crate::states::{dec, put_filter};
-use half_band::hbf_dec::{pair_lent, pairs_lent};
-use half_band::{DEC_DELAYS, HbfDec, MOST_HALF_BAND_TAPS};
+use half_band::hbf_dec::{open_lent, pair_lent, pairs_lent, reset_lent};
+use half_band::{DEC_DELAYS, MOST_HALF_BAND_TAPS};
 
 #[unsafe(no_mangle)]
 pub extern "C" fn gauge_raw_hbf_dec_new(
@@ -18,11 +17,8 @@ pub extern "C" fn gauge_raw_hbf_dec_new(
     ensures answer { record { number = result; state = dec_at exit m coeffs delay } ≡ dec_opening taps.now }
     ensures meets { result ≡ 0 → DecMeets taps.now (dec_at exit m coeffs delay) }
 {
-    let opened = HbfDec::new(taps);
-    let told = number(&opened);
-    let state = opened.unwrap_or(HbfDec::zeros());
-    put_filter(state.m, state.coeffs, state.delay, m, coeffs, delay);
-    told
+    let answer = open_lent(taps, m, coeffs, delay);
+    number(&answer)
 }
 
 #[unsafe(no_mangle)]
@@ -33,9 +29,7 @@ pub extern "C" fn gauge_raw_hbf_dec_reset(
 ) -> usize
     ensures answer { record { number = result; state = dec_at exit m coeffs delay } ≡ dec_reset (dec_at entry m coeffs delay) }
 {
-    let mut state = dec(*m, *coeffs, *delay);
-    let answer = state.reset();
-    put_filter(state.m, state.coeffs, state.delay, m, coeffs, delay);
+    let answer = reset_lent(*m, coeffs, delay);
     number(&answer)
 }
 

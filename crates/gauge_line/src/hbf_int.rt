@@ -4,9 +4,8 @@ ghost use Rattle.half_band.specs.HbfInt.{int_opening, int_reset, int_step, int_b
 ghost use Rattle.gauge_line.specs.States.{entry, exit, int_at};
 
 use crate::answers::number;
-use crate::states::{int, put_filter};
-use half_band::hbf_int::{interpolate_lent, sample_lent};
-use half_band::{HbfInt, INT_DELAYS, MOST_HALF_BAND_TAPS};
+use half_band::hbf_int::{interpolate_lent, open_lent, reset_lent, sample_lent};
+use half_band::{INT_DELAYS, MOST_HALF_BAND_TAPS};
 
 #[unsafe(no_mangle)]
 pub extern "C" fn gauge_raw_hbf_int_new(
@@ -18,11 +17,8 @@ pub extern "C" fn gauge_raw_hbf_int_new(
     ensures answer { record { number = result; state = int_at exit m coeffs delay } ≡ int_opening taps.now }
     ensures meets { result ≡ 0 → IntMeets taps.now (int_at exit m coeffs delay) }
 {
-    let opened = HbfInt::new(taps);
-    let told = number(&opened);
-    let state = opened.unwrap_or(HbfInt::zeros());
-    put_filter(state.m, state.coeffs, state.delay, m, coeffs, delay);
-    told
+    let answer = open_lent(taps, m, coeffs, delay);
+    number(&answer)
 }
 
 #[unsafe(no_mangle)]
@@ -33,9 +29,7 @@ pub extern "C" fn gauge_raw_hbf_int_reset(
 ) -> usize
     ensures answer { record { number = result; state = int_at exit m coeffs delay } ≡ int_reset (int_at entry m coeffs delay) }
 {
-    let mut state = int(*m, *coeffs, *delay);
-    let answer = state.reset();
-    put_filter(state.m, state.coeffs, state.delay, m, coeffs, delay);
+    let answer = reset_lent(*m, coeffs, delay);
     number(&answer)
 }
 

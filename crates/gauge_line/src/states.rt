@@ -9,10 +9,7 @@ ghost use Rattle.gauge_line.specs.Crossing.{is_set, flag_of, kind_of};
 ghost use Rattle.gauge_line.specs.inner.Numbers.{kind_number};
 ghost use Rattle.gauge_line.specs.States.{exit, decimator_at, nonrecursive_at, interpolator_at, fir_at, stream_at};
 
-use half_band::{
-    DEC_CASCADE_DELAYS, DEC_DELAYS, HbfDec, HbfInt, HbfStream, INT_DELAYS, MOST_DEPTH,
-    MOST_HALF_BAND_TAPS,
-};
+use half_band::{DEC_CASCADE_DELAYS, HbfStream, MOST_DEPTH};
 use integer::limits::MOST_STAGES;
 use integer::{CicDecimator, CicInterpolator};
 use linear_phase::{Kind, LINEAR_PHASE_DELAYS, LinearPhaseFir, MOST_LINEAR_PHASE_TAPS};
@@ -159,12 +156,6 @@ pub(crate) fn put_fir(
     *wait = next.wait;
 }
 
-pub(crate) fn dec(m: usize, coeffs: [f32; MOST_HALF_BAND_TAPS], delay: [f32; DEC_DELAYS]) -> HbfDec
-    ensures { result ≡ record { m = m; coeffs = coeffs; delay = delay } }
-{
-    HbfDec { m, coeffs, delay }
-}
-
 // How many taps a filter has, the taps and the delay, into the places that were lent for them.
 pub(crate) fn put_filter<const TAPS: usize, const DELAYS: usize>(
     next_m: usize,
@@ -179,12 +170,6 @@ pub(crate) fn put_filter<const TAPS: usize, const DELAYS: usize>(
     *m = next_m;
     *taps = next_taps;
     *delay = next_delay;
-}
-
-pub(crate) fn int(m: usize, coeffs: [f32; MOST_HALF_BAND_TAPS], delay: [f32; INT_DELAYS]) -> HbfInt
-    ensures { result ≡ record { m = m; coeffs = coeffs; delay = delay } }
-{
-    HbfInt { m, coeffs, delay }
 }
 
 // The depth and the delays of a cascade of either direction into the places that were lent for them.

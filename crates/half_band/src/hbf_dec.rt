@@ -18,7 +18,6 @@ pub struct HbfDec {
     pub delay: [f32; DEC_DELAYS],
 }
 
-#[tactic(auto, unfolding(refusal::specs::Rows::outside))]
 impl HbfDec {
     // The state that a caller in C is given of a refused opening.
     pub fn zeros() -> HbfDec
@@ -36,15 +35,9 @@ impl HbfDec {
         ensures answer { told_opened dec_none result ≡ dec_opening taps.now }
         ensures meets { IfOk result (DecMeets taps.now) }
     {
-        let m = taps.len();
-        if outside(m, 1, MOST_HALF_BAND_TAPS) {
-            return Err(Refusal::HalfBandTaps);
-        }
-        Ok(HbfDec {
-            m,
-            coeffs: padded(taps, 0.0),
-            delay: [0.0; DEC_DELAYS],
-        })
+        let mut state = HbfDec::zeros();
+        open_lent(taps, &mut state.m, &mut state.coeffs, &mut state.delay)?;
+        Ok(state)
     }
 
     // One pair. Refusal 15.
@@ -66,10 +59,47 @@ impl HbfDec {
     pub fn reset(&mut self) -> Result<(), Refusal>
         ensures answer { told_reset result self.new ≡ dec_reset self.old }
     {
-        state_answer(self.m, MOST_HALF_BAND_TAPS)?;
-        *self = HbfDec::new(&self.coeffs[..self.m])?;
-        Ok(())
+        reset_lent(self.m, &mut self.coeffs, &mut self.delay)
     }
+}
+
+// `HbfDec::new` for the C function, into the places that it is lent: no second state is made. Those of a refused opening are zeros.
+#[tactic(auto, unfolding(refusal::specs::Rows::outside))]
+pub fn open_lent(
+    taps: &[f32],
+    m: &mut usize,
+    coeffs: &mut [f32; MOST_HALF_BAND_TAPS],
+    delay: &mut [f32; DEC_DELAYS],
+) -> Result<(), Refusal>
+    ensures answer { told_reset result (dec_of m.new coeffs.new delay.new) ≡ dec_opening taps.now }
+    ensures meets { IfOk result (λ _. DecMeets taps.now (dec_of m.new coeffs.new delay.new)) }
+{
+    let count = taps.len();
+    delay.fill(0.0);
+    if outside(count, 1, MOST_HALF_BAND_TAPS) {
+        *m = 0;
+        coeffs.fill(0.0);
+        return Err(Refusal::HalfBandTaps);
+    }
+    *m = count;
+    *coeffs = padded(taps, 0.0);
+    Ok(())
+}
+
+// `HbfDec::reset`, of the fields lent: only zeros are written. Refusal 15.
+pub fn reset_lent(
+    m: usize,
+    coeffs: &mut [f32; MOST_HALF_BAND_TAPS],
+    delay: &mut [f32; DEC_DELAYS],
+) -> Result<(), Refusal>
+    ensures answer { told_reset result (dec_of m coeffs.new delay.new) ≡ dec_reset (dec_of m coeffs.old delay.old) }
+{
+    let answer = state_answer(m, MOST_HALF_BAND_TAPS);
+    if answer.is_ok() {
+        coeffs[m..].fill(0.0);
+        delay.fill(0.0);
+    }
+    answer
 }
 
 // `HbfDec::process_pair` for the C function, which is lent the state's arrays: a pair does not pay for moving them.
@@ -83,7 +113,7 @@ pub fn pair_lent(
 ) -> Result<f32, Refusal>
     ensures answer { told_on zero32 result (dec_of m coeffs.now delay.new) ≡ dec_step (dec_of m coeffs.now delay.old) a b }
 {
-    state_answer(m, MOST_HALF_BAND_TAPS)?;
+    state_answer(m, coeffs.len())?;
     let taps = Taps { all: &coeffs[..m] };
     Ok(take_pair(&mut delay[..4 * m], taps, a, b))
 }

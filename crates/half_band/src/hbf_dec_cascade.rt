@@ -134,9 +134,11 @@ pub fn frames_lent<T: StageTable>(
 pub fn reset_lent(depth: usize, delays: &mut [f32; DEC_CASCADE_DELAYS]) -> Result<(), Refusal>
     ensures answer { told_reset result (cascade_of depth delays.new) ≡ dec_cascade_reset (cascade_of depth delays.old) }
 {
-    state_answer(depth, MOST_DEPTH)?;
-    delays.fill(0.0);
-    Ok(())
+    let answer = state_answer(depth, MOST_DEPTH);
+    if answer.is_ok() {
+        delays.fill(0.0);
+    }
+    answer
 }
 
 #[tactic(auto, unfolding(refusal::specs::Rows::outside, refusal::specs::Rows::samples_refused))]

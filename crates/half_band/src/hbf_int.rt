@@ -19,7 +19,6 @@ pub struct HbfInt {
     pub delay: [f32; INT_DELAYS],
 }
 
-#[tactic(auto, unfolding(refusal::specs::Rows::outside), using(refusal::proofs::Limits::within, crate::proofs::Interpolators::fresh_meets))]
 impl HbfInt {
     // The state that a caller in C is given of a refused opening.
     pub fn zeros() -> HbfInt
@@ -32,20 +31,14 @@ impl HbfInt {
         }
     }
 
-    // An opening with the lent taps. Refusal 10: not 1 to 23 of them. As that of `HbfDec`, and so the reset below: two types as C has them, whose arrays and definitions differ, and a body of three lines.
+    // An opening with the lent taps. Refusal 10: not 1 to 23 of them. As that of `HbfDec`, and so the reset below: two types as C has them, whose arrays and definitions differ.
     pub fn new(taps: &[f32]) -> Result<HbfInt, Refusal>
         ensures answer { told_opened int_none result ≡ int_opening taps.now }
         ensures meets { IfOk result (IntMeets taps.now) }
     {
-        let m = taps.len();
-        if outside(m, 1, MOST_HALF_BAND_TAPS) {
-            return Err(Refusal::HalfBandTaps);
-        }
-        Ok(HbfInt {
-            m,
-            coeffs: padded(taps, 0.0),
-            delay: [0.0; INT_DELAYS],
-        })
+        let mut state = HbfInt::zeros();
+        open_lent(taps, &mut state.m, &mut state.coeffs, &mut state.delay)?;
+        Ok(state)
     }
 
     // One sample: its even and its odd output. Refusal 15.
@@ -67,10 +60,47 @@ impl HbfInt {
     pub fn reset(&mut self) -> Result<(), Refusal>
         ensures answer { told_reset result self.new ≡ int_reset self.old }
     {
-        state_answer(self.m, MOST_HALF_BAND_TAPS)?;
-        *self = HbfInt::new(&self.coeffs[..self.m])?;
-        Ok(())
+        reset_lent(self.m, &mut self.coeffs, &mut self.delay)
     }
+}
+
+// `HbfInt::new` for the C function, into the places that it is lent: no second state is made. Those of a refused opening are zeros.
+#[tactic(auto, unfolding(refusal::specs::Rows::outside), using(refusal::proofs::Limits::within, crate::proofs::Interpolators::fresh_meets))]
+pub fn open_lent(
+    taps: &[f32],
+    m: &mut usize,
+    coeffs: &mut [f32; MOST_HALF_BAND_TAPS],
+    delay: &mut [f32; INT_DELAYS],
+) -> Result<(), Refusal>
+    ensures answer { told_reset result (int_of m.new coeffs.new delay.new) ≡ int_opening taps.now }
+    ensures meets { IfOk result (λ _. IntMeets taps.now (int_of m.new coeffs.new delay.new)) }
+{
+    let count = taps.len();
+    delay.fill(0.0);
+    if outside(count, 1, MOST_HALF_BAND_TAPS) {
+        *m = 0;
+        coeffs.fill(0.0);
+        return Err(Refusal::HalfBandTaps);
+    }
+    *m = count;
+    *coeffs = padded(taps, 0.0);
+    Ok(())
+}
+
+// `HbfInt::reset`, of the fields lent: only zeros are written. Refusal 15.
+pub fn reset_lent(
+    m: usize,
+    coeffs: &mut [f32; MOST_HALF_BAND_TAPS],
+    delay: &mut [f32; INT_DELAYS],
+) -> Result<(), Refusal>
+    ensures answer { told_reset result (int_of m coeffs.new delay.new) ≡ int_reset (int_of m coeffs.old delay.old) }
+{
+    let answer = state_answer(m, MOST_HALF_BAND_TAPS);
+    if answer.is_ok() {
+        coeffs[m..].fill(0.0);
+        delay.fill(0.0);
+    }
+    answer
 }
 
 // `HbfInt::process_sample` for the C function, which is lent the state's arrays: a sample does not pay for moving them.
@@ -83,7 +113,7 @@ pub fn sample_lent(
 ) -> Result<(f32, f32), Refusal>
     ensures answer { told_on (zero32, zero32) result (int_of m coeffs.now delay.new) ≡ int_step (int_of m coeffs.now delay.old) x }
 {
-    state_answer(m, MOST_HALF_BAND_TAPS)?;
+    state_answer(m, coeffs.len())?;
     let taps = Taps { all: &coeffs[..m] };
     Ok(take_sample(&mut delay[..2 * m], taps, x))
 }

@@ -83,9 +83,11 @@ pub fn samples_lent(
 pub fn reset_lent(depth: usize, delays: &mut [f32; INT_CASCADE_DELAYS]) -> Result<(), Refusal>
     ensures answer { told_reset result (int_cascade_of depth delays.new) ≡ int_cascade_reset (int_cascade_of depth delays.old) }
 {
-    state_answer(depth, MOST_DEPTH)?;
-    delays.fill(0.0);
-    Ok(())
+    let answer = state_answer(depth, MOST_DEPTH);
+    if answer.is_ok() {
+        delays.fill(0.0);
+    }
+    answer
 }
 
 #[tactic(auto, unfolding(refusal::specs::Rows::outside))]
