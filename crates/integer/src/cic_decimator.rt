@@ -314,8 +314,14 @@ impl CicDecimator {
             let opened = D.fresh self.now.stages self.now.r in
             ExactWithin ends.least ends.greatest self.now.stages self.now.r (outs D.decimator opened) (outs D.scaled_decimator opened)) }
     {
-        state_answer(self.stages, self.r, self.sample_counter)?;
-        range_of(self.stages, self.r)
+        let CicDecimator {
+            stages,
+            r,
+            sample_counter,
+            ..
+        } = *self;
+        state_answer(stages, r, sample_counter)?;
+        range_of(stages, r)
     }
 
     // 01 has two calls, this one and the scaled one: each hands the fields to the leaf of its name.

@@ -143,15 +143,23 @@ fn blank() -> [i32; TAPE]
     [0; TAPE]
 }
 
-// Samples handed on as they are, each read by itself: so it is known to be an i32. By the sample's number: in a zip with `iter_mut` a proof sees an iterator
-// in place of dst.
+// Each sample is read by itself: so it is known to be an i32, which wrapping leaves alone. The compiler leaves nothing of the loop.
+fn read_each(samples: &[i32])
+    ensures { map (wrap w32) samples.now ≡ samples.now }
+{
+    for sample in samples {
+        let _read = *sample;
+    }
+}
+
+// Samples handed on as they are. As a whole: of a loop over both slices the compiler does not see that they lie apart, and a block at r = 1 takes 1.3 to 1.4 times
+// as long.
 fn hand_on(dst: &mut [i32], samples: &[i32])
     requires { length samples.now ≡ length dst.old }
     ensures { dst.new ≡ map (wrap w32) samples.now }
 {
-    for (i, sample) in samples.iter().enumerate() {
-        dst[i] = *sample;
-    }
+    read_each(samples);
+    dst.copy_from_slice(samples);
 }
 
 // A frame of r samples for each place of dst, where the place is 0: the first halving reads them, the others go on a tape.
