@@ -2,7 +2,7 @@
 use mathlib.Core.Path.{◌≡◌, refl, ap, ◌∙◌}
 use mathlib.Core.Bool.{Bool, true, false, cond}
 use mathlib.Core.List.{List}
-use Prim.Native.Nat.{ℕ, ◌≤◌}
+use Prim.Native.Nat.{ℕ, zero, suc, ◌≤◌}
 use native.Mathlib.Decide.{dec_le}
 use native.Mathlib.Omega.{arith}
 use borrow.Author.Tests.{eq-eqb, ne_eqb}
@@ -10,7 +10,7 @@ use lib.IntN.{ℤ}
 use lib.ListN.{length, take}
 use lib.Seq.{length-take-le}
 use Rattle.refusal.specs.Outcome.{Opened}
-use Rattle.q15.specs.FirDecimator.{most_taps, settings_number, settings_number_in_line, fir_valid, fir_valid_in_line, valid, valid_in_line, fresh, fresh_in_line, fir_reset, Streams}
+use Rattle.q15.specs.FirDecimator.{most_taps, fir_zeros, settings_number, settings_number_in_line, fir_valid, fir_valid_in_line, valid, valid_in_line, fresh, fresh_in_line, opened_by, fir_opened, fir_reset, Streams}
 use Rattle.q15.specs.inner.FirBlock.{settings_of}
 use Rattle.q15.specs.declared.fir_decimator.FirDecimator.{FirDecimator}
 use Rattle.q15.specs.declared.fir_settings.FirSettings.{FirSettings}
@@ -33,6 +33,21 @@ module _ (c : List ℤ) (D : ℕ) where
           let n : length c ≡ 0 → ⊥ = omega arith in
           rw (ne_eqb (length c) 0 n) (valid_in_line_lem _ _ _ (fresh_valid (line_settings (length c) D n e)))
       go (no h) = let z : length c ≡ 0 = omega arith in rw (eq-eqb (length c) 0 z) refl
+
+  zeros_by : (n : ℕ) → (n ≡ 0 → ⊥) → opened_by n c D ≡ fir_zeros
+  zeros_by zero h = absurd (h refl)
+  zeros_by (suc n) h = refl
+
+  -- an opening with settings that the line takes gives the line's part, since both are zeros where there are no taps
+  pub line_opened : settings_number_in_line (length c) D ≡ 0 → (fir_opened c D).state ≡ fresh_in_line c D
+  unfolding fresh_in_line
+  line_opened e = go (dec_le 1 (length c))
+    where
+      go : Dec (1 ≤ length c) → (fir_opened c D).state ≡ fresh_in_line c D
+      go (yes h) =
+          let n : length c ≡ 0 → ⊥ = omega arith in
+          rw (ne_eqb (length c) 0 n) (ap (λ (k : ℕ). opened_by k c D) (line_settings (length c) D n e))
+      go (no h) = let z : length c ≡ 0 = omega arith in rw (eq-eqb (length c) 0 z) (zeros_by (settings_number (length c) D) (λ q. let i = (settings_in_lem (length c) D q).some in absurd (omega arith)))
 
   pub fresh_streams : settings_number (length c) D ≡ 0 → Streams c D (fresh c D)
   fresh_streams e =
