@@ -5,7 +5,7 @@ ghost use Rattle.linear_phase.specs.inner.Handed as H;
 ghost use Rattle.linear_phase.specs.LinearPhase.{reach};
 ghost use Rattle.linear_phase.specs.LinearPhaseFir as P;
 
-use crate::brief::{filter_brief, is_brief};
+use crate::brief::{filter_brief, filter_single, is_brief};
 use crate::filter::{few_inplace, few_of, filter, filter_short, is_short};
 use crate::kinds::{Folded, Half};
 use crate::lanes::MORE;
@@ -88,6 +88,9 @@ impl Half {
             return;
         }
         if self.m <= FEW_TAPS {
+            if self.m == 1 {
+                return filter_single(self.kind, taps, delay, src, span);
+            }
             let long = self.kind.reach(self.m);
             if is_straight(self.m, long, src.len()) {
                 return filter_straight(self.m, self.kind, taps, delay, src, span);

@@ -84,6 +84,50 @@ pub fn block_at(
     Ok(span.len())
 }
 
+// An opening of the lent kind with the taps `own`, one half of them, in places that are lent apart. Refusal 19: not 1 to 23 of them; all that is lent is zeros and noes then.
+#[tactic(auto, unfolding(refusal::specs::Rows::outside))]
+pub fn open_at(
+    kind: &mut Kind,
+    own: &[f32],
+    m: &mut usize,
+    taps: &mut [f32; MOST_LINEAR_PHASE_TAPS],
+    delay: &mut [f32; LINEAR_PHASE_DELAYS],
+) -> Result<(), Refusal>
+    ensures answer { let after = P.phase_of m.new kind.new.odd kind.new.antisymmetric taps.new delay.new in
+        told_reset result after ≡ P.phase_opening kind.old.odd kind.old.antisymmetric own.now }
+    ensures streams { let after = P.phase_of m.new kind.new.odd kind.new.antisymmetric taps.new delay.new in
+        number_in result ≡ 0 → P.PhaseStreams kind.old.odd kind.old.antisymmetric own.now after }
+{
+    *taps = [0.0f32; MOST_LINEAR_PHASE_TAPS];
+    *delay = [0.0f32; LINEAR_PHASE_DELAYS];
+    if outside(own.len(), 1, MOST_LINEAR_PHASE_TAPS) {
+        *m = 0;
+        kind.odd = false;
+        kind.antisymmetric = false;
+        return Err(Refusal::PhaseTaps);
+    }
+    *m = own.len();
+    taps[..own.len()].copy_from_slice(own);
+    Ok(())
+}
+
+// A fresh opening with the lent taps, of the same kind, where they and the delay lie. Refusal 15: both stay.
+pub fn reset_at(
+    m: usize,
+    kind: Kind,
+    taps: &mut [f32; MOST_LINEAR_PHASE_TAPS],
+    delay: &mut [f32; LINEAR_PHASE_DELAYS],
+) -> Result<(), Refusal>
+    ensures answer { let before = P.phase_of m kind.odd kind.antisymmetric taps.old delay.old in
+        let after = P.phase_of m kind.odd kind.antisymmetric taps.new delay.new in
+        told_reset result after ≡ P.phase_reset before }
+{
+    Half::of(m, kind)?;
+    taps[m..].fill(0.0);
+    delay.fill(0.0);
+    Ok(())
+}
+
 impl LinearPhaseFir {
     // An opening with the lent taps, one half of them. Refusal 19: not 1 to 23 of them.
     #[tactic(auto, unfolding(refusal::specs::Rows::outside))]
@@ -195,10 +239,7 @@ impl LinearPhaseFir {
     pub fn reset(&mut self) -> Result<(), Refusal>
         ensures answer { told_reset result self.new ≡ P.phase_reset self.old }
     {
-        Half::of(self.m, self.kind())?;
-        let taps = padded(&self.taps[..self.m], 0.0);
-        self.taps = taps;
-        self.delay = [0.0f32; LINEAR_PHASE_DELAYS];
-        Ok(())
+        let kind = self.kind();
+        reset_at(self.m, kind, &mut self.taps, &mut self.delay)
     }
 }
