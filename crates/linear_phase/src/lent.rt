@@ -107,10 +107,29 @@ impl Half {
             return;
         }
         if src.len() <= MORE {
-            let fir = self.folded(taps);
-            return few_of(delay, &fir, src, span);
+            return self.few(taps, delay, src, span);
         }
         self.along(taps, delay, Some(src), span);
+    }
+
+    // A few samples of src, likewise, in one group. Inlined, and yet apart: so the places of its filter are cleared on this road alone, and not for each block.
+    #[inline(always)]
+    fn few(
+        self,
+        taps: &[f32; MOST_LINEAR_PHASE_TAPS],
+        delay: &mut [f32; LINEAR_PHASE_DELAYS],
+        src: &[f32],
+        span: &mut [f32],
+    )
+        requires { (length span.old ≡ length src.now) × (length span.old ≤ 24) }
+        ensures delay { let before = H.lent_state self taps.now delay.old in
+            let after = H.lent_state self taps.now delay.new in
+            after ≡ state P.phase_fir before src.now }
+        ensures span { let before = H.lent_state self taps.now delay.old in
+            span.new ≡ outs P.phase_fir before src.now }
+    {
+        let fir = self.folded(taps);
+        few_of(delay, &fir, src, span);
     }
 
     // A group of samples and more, the lent ones or else those of the span itself, likewise, along a tape. Two calls, and by itself the compiler inlines neither.

@@ -6,7 +6,6 @@ ghost use Rattle.linear_phase.specs.LinearPhaseFir as P;
 
 use crate::kinds::{Half, Kind};
 use crate::limits::{LINEAR_PHASE_DELAYS, MOST_LINEAR_PHASE_TAPS};
-use q15::padding::padded;
 use refusal::Refusal;
 use refusal::rows::outside;
 
@@ -37,8 +36,7 @@ pub fn process_at(
         let after = P.phase_of m kind.odd kind.antisymmetric taps.now delay.new in
         told_on zero32 result after ≡ P.phase_step before x }
 {
-    let half = Half::of(m, kind)?;
-    Ok(half.process(taps, delay, x))
+    Ok(Half::of(m, kind)?.process(taps, delay, x))
 }
 
 // A block in place, the arrays lent apart. Refusal 15.
@@ -130,21 +128,22 @@ pub fn reset_at(
 
 impl LinearPhaseFir {
     // An opening with the lent taps, one half of them. Refusal 19: not 1 to 23 of them.
-    #[tactic(auto, unfolding(refusal::specs::Rows::outside))]
     pub fn new(odd: bool, antisymmetric: bool, taps: &[f32]) -> Result<LinearPhaseFir, Refusal>
         ensures answer { told_opened P.phase_none result ≡ P.phase_opening odd antisymmetric taps.now }
         ensures streams { number_in result ≡ 0 → P.PhaseStreams odd antisymmetric taps.now (told_opened P.phase_none result).state }
     {
-        if outside(taps.len(), 1, MOST_LINEAR_PHASE_TAPS) {
-            return Err(Refusal::PhaseTaps);
-        }
-        Ok(LinearPhaseFir {
-            m: taps.len(),
-            odd,
-            antisymmetric,
-            taps: padded(taps, 0.0),
-            delay: [0.0f32; LINEAR_PHASE_DELAYS],
-        })
+        let mut kind = Kind { odd, antisymmetric };
+        let mut state = LinearPhaseFir::zeros();
+        open_at(
+            &mut kind,
+            taps,
+            &mut state.m,
+            &mut state.taps,
+            &mut state.delay,
+        )?;
+        state.odd = kind.odd;
+        state.antisymmetric = kind.antisymmetric;
+        Ok(state)
     }
 
     // What a refused opening leaves.

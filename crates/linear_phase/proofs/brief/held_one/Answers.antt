@@ -1,5 +1,5 @@
 -- `linear_phase::brief::held_one` meets its contract: the places that hold the delay are read and stored one by one (`front_stored`).
-use Rattle.std.proofs.Common.{ℕ, not, nat_eq, ◌≡◌, ◌≤◌, List, ◌++◌, length, take, drop, sym, ap, ap₂, ◌∙◌, arith, length-take-le}
+use Rattle.std.proofs.Common.{ℕ, not, nat_eq, ◌≡◌, ◌≤◌, List, ◌++◌, length, take, drop, ap, ap₂, ◌∙◌, arith, length-take-le}
 use lib.Ieee.{Float}
 use Rattle.theory.specs.Sections.{state}
 use Rattle.linear_phase.specs.LinearPhase.{reach}

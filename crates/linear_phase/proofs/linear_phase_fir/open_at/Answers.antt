@@ -1,5 +1,5 @@
 -- `linear_phase::linear_phase_fir::open_at` meets its contract: what stands in the lent places is a fresh filter, which makes the whole list.
-use Rattle.std.proofs.Common.{Bool, cond, ◌≡◌, ◌++◌, List, length, drop, replicate, sym, ap, ◌∙◌, subst}
+use Rattle.std.proofs.Common.{Bool, cond, ◌++◌, List, length, drop, replicate, sym, ap, ◌∙◌, subst}
 use Rattle.std.proofs.lemmas.List.{drop-replicate}
 use lib.Ieee.{Float}
 use Rattle.refusal.specs.Outcome.{Opened}

@@ -66,15 +66,3 @@ returns-then-src-eq2 c =
     let y = c.process-y.ensures in
     let z = c.process-z.ensures in
     record { delay = two_states d v _ _ two y.delay z.delay; span = two_outs d v _ a.span.now _ _ two (c.requires ∙ two) y.delay y.value z.value }
-
-pub returns-then-src-le-MORE : goal.returns-then-src-le-MORE
-returns-then-src-le-MORE c =
-    let a = c.args in
-    let s = a.self in
-    let o = rw (c.folded-fir.ensures.0, c.folded-fir.ensures.2) at c.few_of.ensures in
-    record {
-      delay =
-          ap (phase_of s.m s.kind.odd s.kind.antisymmetric a.taps.now) o.delay
-          ∙ state_is _ _ _ _ _ s.inside c.told-taps c.told-delay _ c.folded-fir.ensures.1 a.src.now _ refl;
-      span = outs_are _ _ _ _ _ s.inside c.told-taps c.told-delay _ c.folded-fir.ensures.1 a.src.now _ o.span;
-    }
