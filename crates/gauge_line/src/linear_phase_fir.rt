@@ -5,9 +5,9 @@ ghost use Rattle.gauge_line.specs.Crossing.{is_set, flag_of};
 ghost use Rattle.gauge_line.specs.States.{entry, exit, phase_at};
 
 use crate::answers::number;
-use crate::states::{flag, is_set, phase, put_phase};
-use linear_phase::linear_phase_fir::{block_at, inplace_at, process_at};
-use linear_phase::{Kind, LINEAR_PHASE_DELAYS, LinearPhaseFir, MOST_LINEAR_PHASE_TAPS};
+use crate::states::{flag, is_set, phase};
+use linear_phase::linear_phase_fir::{block_at, inplace_at, open_at, process_at, reset_at};
+use linear_phase::{Kind, LINEAR_PHASE_DELAYS, MOST_LINEAR_PHASE_TAPS};
 
 // The kind as it was lent.
 fn kind(odd: usize, antisymmetric: usize) -> Kind
@@ -37,14 +37,11 @@ pub extern "C" fn gauge_raw_linear_phase_fir_new(
     ensures kind { let opened = P.phase_opening (is_set wanted_odd) (is_set wanted_antisymmetric) wanted_taps.now in
         (odd.new ≡ flag_of opened.state.odd) × (antisymmetric.new ≡ flag_of opened.state.antisymmetric) }
 {
-    let wanted = kind(wanted_odd, wanted_antisymmetric);
-    let opened = LinearPhaseFir::new(wanted.odd, wanted.antisymmetric, wanted_taps);
-    let told = number(&opened);
-    let state = opened.unwrap_or(LinearPhaseFir::zeros());
-    *odd = flag(state.odd);
-    *antisymmetric = flag(state.antisymmetric);
-    put_phase(state, m, taps, delay);
-    told
+    let mut opened = kind(wanted_odd, wanted_antisymmetric);
+    let answer = open_at(&mut opened, wanted_taps, m, taps, delay);
+    *odd = flag(opened.odd);
+    *antisymmetric = flag(opened.antisymmetric);
+    number(&answer)
 }
 
 #[unsafe(no_mangle)]
@@ -60,9 +57,7 @@ pub extern "C" fn gauge_raw_linear_phase_fir_reset(
         record { number = result; state = after } ≡ P.phase_reset before }
     ensures kind { (odd.new ≡ odd.old) × (antisymmetric.new ≡ antisymmetric.old) }
 {
-    let mut state = phase(*m, kind(*odd, *antisymmetric), *taps, *delay);
-    let answer = state.reset();
-    put_phase(state, m, taps, delay);
+    let answer = reset_at(*m, kind(*odd, *antisymmetric), taps, delay);
     number(&answer)
 }
 

@@ -253,15 +253,3 @@ pub(crate) fn phase(
         delay,
     }
 }
-
-// All but the kind.
-pub(crate) fn put_phase(
-    next: LinearPhaseFir,
-    m: &mut usize,
-    taps: &mut [f32; MOST_LINEAR_PHASE_TAPS],
-    delay: &mut [f32; LINEAR_PHASE_DELAYS],
-)
-    ensures { phase_of m.new next.odd next.antisymmetric taps.new delay.new ≡ next }
-{
-    put_filter(next.m, next.taps, next.delay, m, taps, delay);
-}

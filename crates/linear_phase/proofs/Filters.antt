@@ -1,13 +1,15 @@
 -- `LinearPhaseFir` runs as the filter of its taps with its delay as the state, so from an opening it makes what 02, §2, says of the whole list.
 use mathlib.Core.Path.{◌≡◌, refl, sym, ap, ap₂, ◌∙◌}
-use mathlib.Core.Bool.{Bool}
+use mathlib.Core.Bool.{Bool, true, false, cond}
 use mathlib.Core.List.{List, [], ◌∷◌, ◌++◌}
-use Prim.Native.Nat.{ℕ, ◌-◌, ◌≤◌}
+use Prim.Native.Nat.{ℕ, ◌-◌, ◌≤◌, ◌<◌}
 use native.Mathlib.Omega.{arith}
 use lib.ListN.{length, get_or, take, drop, replicate, set}
 use lib.Seq.{take_at}
 use lib.Ieee.{Float, nan}
 use Rattle.theory.specs.Sections.{Section, outs, state}
+use Rattle.refusal.specs.Outcome.{Opened}
+use Rattle.refusal.specs.Rows.{outside}
 use Rattle.refusal.proofs.Limits.{Between, not_outside}
 use Rattle.float.specs.F32.{zero32}
 use Rattle.half_band.specs.Windows.{slid}
@@ -18,7 +20,7 @@ use Rattle.half_band.proofs.Stored as stored
 use Rattle.linear_phase.specs.LinearPhase.{reach, phase_filtered}
 use Rattle.linear_phase.specs.Windows.{window_value}
 use Rattle.linear_phase.specs.inner.Lanes.{linear_phase}
-use Rattle.linear_phase.specs.LinearPhaseFir.{phase_of, phase_taps, phase_delay, with_delay, phase_next, phase_out, phase_fir, phase_fresh, phase_refused, PhaseStreams}
+use Rattle.linear_phase.specs.LinearPhaseFir.{phase_of, phase_taps, phase_delay, with_delay, phase_next, phase_out, phase_fir, phase_none, phase_fresh, phase_opening, phase_refused, PhaseStreams}
 use Rattle.linear_phase.specs.declared.linear_phase_fir.LinearPhaseFir.{LinearPhaseFir}
 use Rattle.linear_phase.proofs.WholeList.{reaches, from_zeros, cuts}
 
@@ -130,3 +132,13 @@ fresh_streams odd antisymmetric c b =
         ∙ ap (λ (t : List Float). outs (linear_phase odd antisymmetric t) (take (reach odd (length c)) (replicate 46 zero32)) v) (take_at c (replicate (23 - length c) zero32) (length c) refl)
         ∙ ap (λ (w : List Float). outs (linear_phase odd antisymmetric c) w v) (take-replicate (reach odd (length c)) 46 zero32 (omega (arith, (reaches odd (length c) b.least).most, b.most)))
         ∙ from_zeros odd antisymmetric c b.least v
+
+-- the state of one that is refused, of two that a test decides between, and of an opening
+refused_by : (f : LinearPhaseFir) (b : Bool) (n : ℕ) → 0 < n → n ≡ (cond {A = Opened LinearPhaseFir} b (record { number = 19; state = phase_none }) (record { number = 0; state = f })).number
+    → record { number = n; state = phase_none } ≡ cond {A = Opened LinearPhaseFir} b (record { number = 19; state = phase_none }) (record { number = 0; state = f })
+refused_by f true n h e = ap {B = Opened LinearPhaseFir} (λ (k : ℕ). record { number = k; state = phase_none }) e
+refused_by f false n h e = absurd (omega (arith, h, e))
+
+pub refused_zeros : (odd antisymmetric : Bool) (c : List Float) (n : ℕ) → 0 < n → n ≡ (phase_opening odd antisymmetric c).number
+    → record { number = n; state = phase_none } ≡ phase_opening odd antisymmetric c
+refused_zeros odd antisymmetric c n h e = refused_by (phase_fresh odd antisymmetric c) (outside (length c) 1 23) n h e

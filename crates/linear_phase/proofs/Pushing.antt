@@ -1,7 +1,7 @@
 -- A delay d into which a sample x goes from the end on: the places in front are as they were, and behind them stands what has moved.
-use mathlib.Core.Path.{◌≡◌, sym, ap, ap₂, ◌∙◌, subst}
+use mathlib.Core.Path.{◌≡◌, refl, sym, ap, ap₂, ◌∙◌, subst}
 use mathlib.Core.List.{List, [], ◌∷◌, ◌++◌}
-use Prim.Native.Nat.{ℕ, suc, ◌-◌, ◌≤◌, ◌<◌}
+use Prim.Native.Nat.{ℕ, zero, suc, ◌-◌, ◌≤◌, ◌<◌}
 use native.Mathlib.Omega.{arith}
 use lib.ListN.{length, get_or, get_or-append, set, take, drop, length-append}
 use lib.Seq.{get_or-take, length-take-le, take-suc, drop-cons, drop-append-le, set_at, append_snoc}
@@ -51,3 +51,21 @@ next_pushed d x delay later i h l p = one_less (i - 1) (omega arith) (subst (Pus
 pub all_pushed : (d : List Float) (x : Float) (delay : List Float) (later : Float) (i : ℕ) → i ≤ 0 → 1 ≤ length d → Pushed d x delay later i → delay ≡ slid d (x ∷ [])
 unfolding slid
 all_pushed d x delay later i z h p = p.is ∙ ap (λ (k : ℕ). take k d ++ drop (suc k) (row d x)) (let e : i ≡ 0 = omega arith in e) ∙ drop-append-le 1 d (x ∷ []) h
+
+-- ---- a delay of one or two places, which was read place by place, and is stored so
+abbrev pub in_front : List Float → List Float
+in_front d = get_or d 0 nan ∷ get_or d 1 nan ∷ []
+
+pub front_read : (d : List Float) (k : ℕ) → k ≤ 2 → 2 ≤ length d → take k (in_front d) ≡ take k d
+front_read d zero h l = refl
+front_read (a ∷ b ∷ d) (suc zero) h l = refl
+front_read (a ∷ b ∷ d) (suc (suc zero)) h l = refl
+front_read [] (suc k) h l = absurd (omega arith)
+front_read (a ∷ []) (suc k) h l = absurd (omega arith)
+front_read (a ∷ b ∷ d) (suc (suc (suc k))) h l = absurd (omega arith)
+
+pub front_stored : (d w : List Float) (k : ℕ) → length w ≡ k → 1 ≤ k → k ≤ 2 → 2 ≤ length d
+    → set (set d 0 (get_or (w ++ drop k (in_front d)) 0 nan)) 1 (get_or (w ++ drop k (in_front d)) 1 nan) ≡ w ++ drop k d
+front_stored (a ∷ b ∷ d) (x ∷ []) (suc zero) e s h l = refl
+front_stored (a ∷ b ∷ d) (x ∷ y ∷ []) (suc (suc zero)) e s h l = refl
+front_stored d w k e s h l = absurd (omega arith)

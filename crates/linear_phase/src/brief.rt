@@ -76,6 +76,51 @@ fn held<const M: usize, const ODD: bool, const MINUS: bool>(
     delay[..long].copy_from_slice(&window[..long]);
 }
 
+// Through one tap. The delay comes and goes place by place: as a slice it is one word of two samples, which the compiler would take apart for each sample.
+#[inline(always)]
+fn held_one<const ODD: bool, const MINUS: bool>(
+    taps: &[f32],
+    delay: &mut [f32; LINEAR_PHASE_DELAYS],
+    src: &[f32],
+    span: &mut [f32],
+)
+    requires { (length taps.now ≡ 1) × (length span.old ≡ length src.now) }
+    ensures delay { delay.new ≡ H.left_of (A.linear_phase ODD MINUS taps.now) (P.reach ODD (length taps.now)) delay.old src.now }
+    ensures span { span.new ≡ H.made_of (A.linear_phase ODD MINUS taps.now) (P.reach ODD (length taps.now)) delay.old src.now }
+{
+    let kind = Kind {
+        odd: ODD,
+        antisymmetric: MINUS,
+    };
+    let fir = Folded::of(taps, kind);
+    let mut window = [delay[0], delay[1]];
+    each(&mut window[..fir.long], fir, src, span);
+    delay[0] = window[0];
+    delay[1] = window[1];
+}
+
+// A copy for each kind. Inlined where it is called: a call takes a fifth of the time of a block of four.
+#[inline(always)]
+pub(crate) fn filter_single(
+    kind: Kind,
+    taps: &[f32; MOST_LINEAR_PHASE_TAPS],
+    delay: &mut [f32; LINEAR_PHASE_DELAYS],
+    src: &[f32],
+    span: &mut [f32],
+)
+    requires { length span.old ≡ length src.now }
+    ensures delay { delay.new ≡ H.left_of (H.kind_by 1 kind taps.now) (H.kind_long 1 kind) delay.old src.now }
+    ensures span { span.new ≡ H.made_of (H.kind_by 1 kind taps.now) (H.kind_long 1 kind) delay.old src.now }
+{
+    let taps = &taps[..1];
+    match (kind.odd, kind.antisymmetric) {
+        (false, false) => held_one::<false, false>(taps, delay, src, span),
+        (false, true) => held_one::<false, true>(taps, delay, src, span),
+        (true, false) => held_one::<true, false>(taps, delay, src, span),
+        (true, true) => held_one::<true, true>(taps, delay, src, span),
+    }
+}
+
 // Of five taps. A call of its own: what its window takes of the registers would be saved at every call of the others.
 #[inline(never)]
 fn held_five<const ODD: bool, const MINUS: bool>(
@@ -98,12 +143,11 @@ fn filter_kind<const ODD: bool, const MINUS: bool>(
     src: &[f32],
     span: &mut [f32],
 )
-    requires { (1 ≤ length taps.now) × (length taps.now ≤ 5) × (length span.old ≡ length src.now) }
+    requires { (2 ≤ length taps.now) × (length taps.now ≤ 5) × (length span.old ≡ length src.now) }
     ensures delay { delay.new ≡ H.left_of (A.linear_phase ODD MINUS taps.now) (P.reach ODD (length taps.now)) delay.old src.now }
     ensures span { span.new ≡ H.made_of (A.linear_phase ODD MINUS taps.now) (P.reach ODD (length taps.now)) delay.old src.now }
 {
     match taps.len() {
-        1 => held::<1, ODD, MINUS>(taps, delay, src, span),
         2 => held::<2, ODD, MINUS>(taps, delay, src, span),
         3 => held::<3, ODD, MINUS>(taps, delay, src, span),
         4 => held::<4, ODD, MINUS>(taps, delay, src, span),
@@ -121,7 +165,7 @@ pub(crate) fn filter_brief(
     src: &[f32],
     span: &mut [f32],
 )
-    requires { (1 ≤ m) × (m ≤ 5) × (length span.old ≡ length src.now) }
+    requires { (2 ≤ m) × (m ≤ 5) × (length span.old ≡ length src.now) }
     ensures delay { delay.new ≡ H.left_of (H.kind_by m kind taps.now) (H.kind_long m kind) delay.old src.now }
     ensures span { span.new ≡ H.made_of (H.kind_by m kind taps.now) (H.kind_long m kind) delay.old src.now }
 {

@@ -5,7 +5,7 @@ ghost use Rattle.linear_phase.specs.inner.Handed as H;
 ghost use Rattle.linear_phase.specs.LinearPhase.{reach};
 ghost use Rattle.linear_phase.specs.LinearPhaseFir as P;
 
-use crate::brief::{filter_brief, is_brief};
+use crate::brief::{filter_brief, filter_single, is_brief};
 use crate::filter::{few_inplace, few_of, filter, filter_short, is_short};
 use crate::kinds::{Folded, Half};
 use crate::lanes::MORE;
@@ -88,6 +88,9 @@ impl Half {
             return;
         }
         if self.m <= FEW_TAPS {
+            if self.m == 1 {
+                return filter_single(self.kind, taps, delay, src, span);
+            }
             let long = self.kind.reach(self.m);
             if is_straight(self.m, long, src.len()) {
                 return filter_straight(self.m, self.kind, taps, delay, src, span);
@@ -104,10 +107,29 @@ impl Half {
             return;
         }
         if src.len() <= MORE {
-            let fir = self.folded(taps);
-            return few_of(delay, &fir, src, span);
+            return self.few(taps, delay, src, span);
         }
         self.along(taps, delay, Some(src), span);
+    }
+
+    // A few samples of src, likewise, in one group. Inlined, and yet apart: so the places of its filter are cleared on this road alone, and not for each block.
+    #[inline(always)]
+    fn few(
+        self,
+        taps: &[f32; MOST_LINEAR_PHASE_TAPS],
+        delay: &mut [f32; LINEAR_PHASE_DELAYS],
+        src: &[f32],
+        span: &mut [f32],
+    )
+        requires { (length span.old ≡ length src.now) × (length span.old ≤ 24) }
+        ensures delay { let before = H.lent_state self taps.now delay.old in
+            let after = H.lent_state self taps.now delay.new in
+            after ≡ state P.phase_fir before src.now }
+        ensures span { let before = H.lent_state self taps.now delay.old in
+            span.new ≡ outs P.phase_fir before src.now }
+    {
+        let fir = self.folded(taps);
+        few_of(delay, &fir, src, span);
     }
 
     // A group of samples and more, the lent ones or else those of the span itself, likewise, along a tape. Two calls, and by itself the compiler inlines neither.

@@ -6,7 +6,6 @@ ghost use Rattle.linear_phase.specs.LinearPhaseFir as P;
 
 use crate::kinds::{Half, Kind};
 use crate::limits::{LINEAR_PHASE_DELAYS, MOST_LINEAR_PHASE_TAPS};
-use q15::padding::padded;
 use refusal::Refusal;
 use refusal::rows::outside;
 
@@ -37,8 +36,7 @@ pub fn process_at(
         let after = P.phase_of m kind.odd kind.antisymmetric taps.now delay.new in
         told_on zero32 result after ≡ P.phase_step before x }
 {
-    let half = Half::of(m, kind)?;
-    Ok(half.process(taps, delay, x))
+    Ok(Half::of(m, kind)?.process(taps, delay, x))
 }
 
 // A block in place, the arrays lent apart. Refusal 15.
@@ -84,23 +82,68 @@ pub fn block_at(
     Ok(span.len())
 }
 
+// An opening of the lent kind with the taps `own`, one half of them, in places that are lent apart. Refusal 19: not 1 to 23 of them; all that is lent is zeros and noes then.
+#[tactic(auto, unfolding(refusal::specs::Rows::outside))]
+pub fn open_at(
+    kind: &mut Kind,
+    own: &[f32],
+    m: &mut usize,
+    taps: &mut [f32; MOST_LINEAR_PHASE_TAPS],
+    delay: &mut [f32; LINEAR_PHASE_DELAYS],
+) -> Result<(), Refusal>
+    ensures answer { let after = P.phase_of m.new kind.new.odd kind.new.antisymmetric taps.new delay.new in
+        told_reset result after ≡ P.phase_opening kind.old.odd kind.old.antisymmetric own.now }
+    ensures streams { let after = P.phase_of m.new kind.new.odd kind.new.antisymmetric taps.new delay.new in
+        number_in result ≡ 0 → P.PhaseStreams kind.old.odd kind.old.antisymmetric own.now after }
+{
+    *taps = [0.0f32; MOST_LINEAR_PHASE_TAPS];
+    *delay = [0.0f32; LINEAR_PHASE_DELAYS];
+    if outside(own.len(), 1, MOST_LINEAR_PHASE_TAPS) {
+        *m = 0;
+        kind.odd = false;
+        kind.antisymmetric = false;
+        return Err(Refusal::PhaseTaps);
+    }
+    *m = own.len();
+    taps[..own.len()].copy_from_slice(own);
+    Ok(())
+}
+
+// A fresh opening with the lent taps, of the same kind, where they and the delay lie. Refusal 15: both stay.
+pub fn reset_at(
+    m: usize,
+    kind: Kind,
+    taps: &mut [f32; MOST_LINEAR_PHASE_TAPS],
+    delay: &mut [f32; LINEAR_PHASE_DELAYS],
+) -> Result<(), Refusal>
+    ensures answer { let before = P.phase_of m kind.odd kind.antisymmetric taps.old delay.old in
+        let after = P.phase_of m kind.odd kind.antisymmetric taps.new delay.new in
+        told_reset result after ≡ P.phase_reset before }
+{
+    Half::of(m, kind)?;
+    taps[m..].fill(0.0);
+    delay.fill(0.0);
+    Ok(())
+}
+
 impl LinearPhaseFir {
     // An opening with the lent taps, one half of them. Refusal 19: not 1 to 23 of them.
-    #[tactic(auto, unfolding(refusal::specs::Rows::outside))]
     pub fn new(odd: bool, antisymmetric: bool, taps: &[f32]) -> Result<LinearPhaseFir, Refusal>
         ensures answer { told_opened P.phase_none result ≡ P.phase_opening odd antisymmetric taps.now }
         ensures streams { number_in result ≡ 0 → P.PhaseStreams odd antisymmetric taps.now (told_opened P.phase_none result).state }
     {
-        if outside(taps.len(), 1, MOST_LINEAR_PHASE_TAPS) {
-            return Err(Refusal::PhaseTaps);
-        }
-        Ok(LinearPhaseFir {
-            m: taps.len(),
-            odd,
-            antisymmetric,
-            taps: padded(taps, 0.0),
-            delay: [0.0f32; LINEAR_PHASE_DELAYS],
-        })
+        let mut kind = Kind { odd, antisymmetric };
+        let mut state = LinearPhaseFir::zeros();
+        open_at(
+            &mut kind,
+            taps,
+            &mut state.m,
+            &mut state.taps,
+            &mut state.delay,
+        )?;
+        state.odd = kind.odd;
+        state.antisymmetric = kind.antisymmetric;
+        Ok(state)
     }
 
     // What a refused opening leaves.
@@ -195,10 +238,7 @@ impl LinearPhaseFir {
     pub fn reset(&mut self) -> Result<(), Refusal>
         ensures answer { told_reset result self.new ≡ P.phase_reset self.old }
     {
-        Half::of(self.m, self.kind())?;
-        let taps = padded(&self.taps[..self.m], 0.0);
-        self.taps = taps;
-        self.delay = [0.0f32; LINEAR_PHASE_DELAYS];
-        Ok(())
+        let kind = self.kind();
+        reset_at(self.m, kind, &mut self.taps, &mut self.delay)
     }
 }

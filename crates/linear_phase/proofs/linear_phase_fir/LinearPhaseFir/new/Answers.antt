@@ -1,18 +1,20 @@
--- `LinearPhaseFir::new` meets its contract: a fresh filter makes the whole list.
-use Rattle.std.proofs.Common.{◌≡◌, List, length, replicate, sym, ap, ◌∙◌, subst}
-use lib.Ieee.{Float}
-use Rattle.refusal.proofs.Limits.{within}
-use Rattle.float.specs.F32.{zero32}
-use Rattle.linear_phase.specs.LinearPhaseFir.{phase_fresh, PhaseStreams}
+-- `LinearPhaseFir::new` meets its contract: a refused opening has the zeros, and the state of any other is what was opened.
+use Rattle.std.proofs.Common.{ap, arith}
+use Rattle.std.proofs.lemmas.Result.{err_from_is_err_and}
+use Rattle.refusal.specs.Outcome.{Opened}
+use Rattle.refusal.specs.Table.{number_of}
+use Rattle.refusal.proofs.Table.{number_positive}
 use Rattle.linear_phase.specs.declared.linear_phase_fir.LinearPhaseFir.{LinearPhaseFir}
-use Rattle.linear_phase.proofs.Filters.{fresh_streams}
+use Rattle.linear_phase.proofs.Filters.{refused_zeros}
 use Rattle.linear_phase.proofs.linear_phase_fir.LinearPhaseFir.new.Goals as goal
 
-pub returns-clause-streams : goal.returns-clause-streams
-returns-clause-streams c =
-    let k = c.args in
-    let l = c.args.taps.now in
-    let build : List Float → LinearPhaseFir = λ t. record { m = length l; odd = k.odd; antisymmetric = k.antisymmetric; taps = t; delay = replicate 46 zero32 } in
-    let b = within (length l) 1 23 (sym c.outside.ensures ∙ c.if-outside.false) in
-    let e : build c.padded.result ≡ phase_fresh k.odd k.antisymmetric l = ap build (c.padded.ensures.fits b.most) in
-    λ z. subst (λ (d : LinearPhaseFir). PhaseStreams k.odd k.antisymmetric l d) (sym e) (fresh_streams k.odd k.antisymmetric l b)
+pub returns-in_err-open_at : goal.returns-in_err-open_at
+returns-in_err-open_at c =
+    let p = err_from_is_err_and c.from_residual.result c.from_residual.ensures.1 in
+    let a = c.args in
+    let q = c.in_err-open_at.field-0.0 in
+    rw (p.1, p.2)
+    (record {
+      answer = refused_zeros a.odd a.antisymmetric a.taps.now (number_of q) (number_positive q) (ap (λ (o : Opened LinearPhaseFir). o.number) c.in_err-open_at.ensures.answer);
+      streams = λ z. absurd (omega (arith, number_positive q, z));
+    })
