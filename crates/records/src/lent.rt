@@ -1,6 +1,6 @@
 // Slices that a record lends: a word each for length, pattern, stride and count of those listed, then the listed elements. An element behind them is the
 // pattern plus its index times the stride, modulo 2^32. No words at all lend zeros.
-ghost use Rattle.std.specs.Prelude.{◌≡◌, ◌+◌, ◌*◌, ◌%◌, length, min};
+ghost use Rattle.std.specs.Prelude.{◌≡◌, ℕ, ◌+◌, ◌*◌, ◌%◌, ◌<◌, length, min, slice_index_or};
 ghost use Rattle.records.specs.Comparison.{lent_word};
 
 use crate::element::Element;
@@ -48,7 +48,9 @@ impl Lent<'_> {
 
     // The elements, as many as there is room for, at its front.
     pub fn put<'b, T: Element>(&self, room: &'b mut [T]) -> &'b mut [T]
-        ensures { length result.now ≡ min self.now.length (length room.old) }
+        ensures length { length result.now ≡ min self.now.length (length room.old) }
+        ensures elements { (i : ℕ) (d : T) → i < length result.now →
+            slice_index_or result.now i d ≡ T.meant (lent_word self.now.pattern self.now.stride self.now.listed.now i) }
     {
         let count = self.length.min(room.len());
         let places = &mut room[..count];

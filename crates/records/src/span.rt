@@ -1,5 +1,6 @@
 // A span that a record lends: the places that a call may write.
-ghost use Rattle.std.specs.Prelude.{◌≡◌, length, min};
+ghost use Rattle.std.specs.Prelude.{◌≡◌, ℕ, ◌<◌, length, min, slice_index_or};
+ghost use Rattle.records.specs.Comparison.{lent_word};
 
 use crate::element::Element;
 use crate::lent::Lent;
@@ -13,7 +14,9 @@ pub struct Span<'a, 'b, T> {
 
 impl<'a, 'b, T: Element> Span<'a, 'b, T> {
     pub fn of(lent: Lent<'a>, room: &'b mut [T]) -> Span<'a, 'b, T>
-        ensures { length result.places.now ≡ min lent.entry.length (length room.old) }
+        ensures length { length result.places.now ≡ min lent.entry.length (length room.old) }
+        ensures elements { (i : ℕ) (d : T) → i < length result.places.now →
+            slice_index_or result.places.now i d ≡ T.meant (lent_word lent.entry.pattern lent.entry.stride lent.entry.listed.now i) }
     {
         Span {
             lent,
