@@ -62,7 +62,7 @@ fn separator(i: usize, count: usize) -> u8
     if i + 1 < count { BLANK } else { LINE_END }
 }
 
-// Fills `words` from a text that has exactly so many. By their numbers, which say the byte behind each.
+// Fills `words` from a text that has exactly so many. By their numbers, which say the byte behind each: over `chunks_exact` with `enumerate` the proof did not close.
 fn parse(text: &[u8], words: &mut [u32]) -> bool
     ensures { IsTrue result → take (length words.new * 9) text.now ≡ words_text (length text.now / 9) (length words.new) words.new }
 {
