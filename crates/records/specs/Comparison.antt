@@ -1,5 +1,5 @@
 -- What a comparison of answers with a record's words comes to. A comparison stands at a place; the record agrees where it ends at the last word.
-use Rattle.std.specs.Prelude.{ℕ, ◌≡◌, ◌≤◌, ◌<◌, ◌+◌, ◌/◌, ◌%◌, Bool, cond, drop, IsFalse, IsTrue, List, length, ℤ, ◌==◌, from_bits, nat_lt, slice_index, to_bits, Float}
+use Rattle.std.specs.Prelude.{ℕ, ◌≡◌, ◌≤◌, ◌<◌, ◌+◌, ◌*◌, ◌/◌, ◌%◌, Bool, cond, drop, get_or, IsFalse, IsTrue, List, length, ℤ, ◌==◌, from_bits, nat_lt, slice_index, to_bits, Float}
 use Rattle.std.specs.Int.{Width}
 use Rattle.std.proofs.Common.{of_z}
 use Rattle.std.specs.Float.{binary32, nan}
@@ -12,6 +12,10 @@ lost = 18446744073709551615
 -- the word at a place, 0 past the end
 abbrev pub word_at : List ℕ → ℕ → ℕ
 word_at w at = slice_index w at
+
+-- the i-th word of a slice that a record lends: one of those listed, or else the pattern with i times the stride
+abbrev pub lent_word : ℕ → ℕ → List ℕ → ℕ → ℕ
+lent_word pattern stride listed i = get_or listed i ((pattern + stride * (i % 4294967296)) % 4294967296)
 
 -- the f32 whose bits n is; a NaN's bits all give one NaN
 unfoldable pub float_of : ℕ → Float

@@ -1,6 +1,7 @@
 // What a record has in one word: an element of a slice, or a value by itself.
-ghost use Rattle.std.specs.Prelude.{◌≡◌, ℕ, Bool, ◌%◌, ◌==◌};
+ghost use Rattle.std.specs.Prelude.{◌≡◌, ℕ, Bool, ◌*◌, ◌%◌, ◌^◌, ◌<◌, ◌==◌};
 ghost use Rattle.std.specs.Int.{w16, w32};
+ghost use Rattle.std.specs.Mem.{type_size};
 ghost use Rattle.std.proofs.Common.{to_z};
 ghost use Rattle.records.specs.Comparison.{float_of, bits_of, same_bits};
 
@@ -15,6 +16,10 @@ pub trait Element: Copy + PartialEq {
 
     fn from_word(word: u32) -> Self
         ensures { result ≡ meant word };
+
+    // Does nothing: its clause says that room for the longest slice fits into memory, which generic code has to know before it makes one.
+    fn fits()
+        ensures { 65600 * type_size Self.row < 2 ^ 63 };
 
     // With no default: its clause is each type's own `recorded`, which one over `==` would meet by a law beside, one for each type.
     fn is_recorded_as(self, word: u32) -> bool
@@ -35,6 +40,8 @@ impl Element for u32 {
         word
     }
 
+    fn fits() {}
+
     fn is_recorded_as(self, word: u32) -> bool {
         word == self
     }
@@ -48,6 +55,8 @@ impl Element for i32 {
     fn from_word(word: u32) -> i32 {
         word.cast_signed()
     }
+
+    fn fits() {}
 
     fn is_recorded_as(self, word: u32) -> bool {
         i32::from_word(word) == self
@@ -64,6 +73,8 @@ impl Element for i16 {
         ((word % 65536) as u16).cast_signed()
     }
 
+    fn fits() {}
+
     fn is_recorded_as(self, word: u32) -> bool {
         i16::from_word(word) == self
     }
@@ -78,6 +89,8 @@ impl Element for u8 {
     fn from_word(word: u32) -> u8 {
         (word % 256) as u8
     }
+
+    fn fits() {}
 
     fn is_recorded_as(self, word: u32) -> bool {
         u8::from_word(word) == self
@@ -94,6 +107,8 @@ impl Element for f32 {
     fn from_word(word: u32) -> f32 {
         f32_of_bits(word)
     }
+
+    fn fits() {}
 
     fn is_recorded_as(self, word: u32) -> bool {
         word == bits_of_f32(self)

@@ -1,9 +1,9 @@
 // Linear resampling of a list, which has no state.
 use crate::element::Element;
+use crate::lent::room;
 use crate::record::Words;
 use crate::span::Span;
 use refusal::Refusal;
-use std::alloc::{AllocError, Global};
 
 pub trait Linear {
     type Sample: Element;
@@ -19,10 +19,13 @@ pub trait Linear {
 }
 
 // Whether resampling answers as a record says: the ratio, the samples and the span, and then the answers.
-pub fn replay_linear<L: Linear>(mut words: Words<'_>, alloc: Global) -> Result<bool, AllocError> {
+pub fn replay_linear<L: Linear>(mut words: Words<'_>) -> bool {
     let ratio = words.value();
-    let samples: Vec<L::Sample> = words.slice().elements(alloc)?;
-    let mut span = Span::of(words.slice(), alloc)?;
-    let count = L::resample(&samples, &mut span.places, ratio);
-    Ok(words.same_answer(count) && span.is_same(&mut words) && words.is_empty())
+    L::Sample::fits();
+    let mut read = room::<L::Sample>();
+    let mut written = room::<L::Sample>();
+    let samples = words.slice().put(&mut read);
+    let span = Span::of(words.slice(), &mut written);
+    let count = L::resample(samples, span.places, ratio);
+    words.same_answer(count) && span.is_same(&mut words) && words.is_empty()
 }

@@ -1,5 +1,5 @@
 // The words of a record that are left, read from the front, and the comparison of answers with them. tests/oracle/README.md has the format.
-ghost use Rattle.std.specs.Prelude.{◌≡◌, ◌+◌, ◌*◌, ◌^◌, ◌<◌, [], take, drop, length, IsTrue, ◌↔◌, if◌then◌else◌};
+ghost use Rattle.std.specs.Prelude.{◌≡◌, ◌+◌, ◌*◌, ◌^◌, ◌<◌, ◌≤◌, [], take, drop, length, IfSome, IsTrue, ◌↔◌, if◌then◌else◌};
 ghost use Rattle.records.specs.Comparison.{Compares, after, after_if, after_long, word_at};
 
 use crate::element::Element;
@@ -128,20 +128,49 @@ impl<'a> Words<'a> {
         longs.iter().all(|x| self.same_long(*x))
     }
 
-    // A span or an array after the call: a count, so many places, and those behind them as they were before.
-    pub fn same_places<T: Element>(&mut self, places: &[T], before: &[T]) -> bool {
-        if self.is_empty() || before.len() != places.len() {
-            return false;
+    // A count, and so many of the places: how many, if these agree.
+    fn same_listed<T: Element>(&mut self, places: &[T]) -> Option<usize>
+        ensures { IfSome result (λ listed. (listed ≤ length places.now) × (listed ≡ word_at self.old.left.now 0)) }
+    {
+        if self.is_empty() {
+            return None;
         }
         let listed = self.word() as usize;
-        if places.len() < listed {
+        if places.len() < listed || !self.same_values(&places[..listed]) {
+            return None;
+        }
+        Some(listed)
+    }
+
+    // An array after the call: a count, so many places, and those behind them as they were before.
+    pub fn same_places<T: Element>(&mut self, places: &[T], before: &[T]) -> bool
+        ensures lengths { IsTrue result → length before.now ≡ length places.now }
+        ensures listed { IsTrue result → word_at self.old.left.now 0 ≤ length places.now }
+    {
+        if before.len() != places.len() {
             return false;
         }
-        self.same_values(&places[..listed])
-            && places[listed..]
-                .iter()
-                .zip(&before[listed..])
-                .all(|(x, y)| x.is_same(*y))
+        let Some(listed) = self.same_listed(places) else {
+            return false;
+        };
+        places[listed..]
+            .iter()
+            .zip(&before[listed..])
+            .all(|(x, y)| x.is_same(*y))
+    }
+
+    // A span after the call: a count, so many places, and those behind them as they were lent.
+    pub fn same_span<T: Element>(&mut self, places: &[T], lent: Lent<'_>) -> bool
+        ensures { IsTrue result → word_at self.old.left.now 0 ≤ length places.now }
+    {
+        let Some(listed) = self.same_listed(places) else {
+            return false;
+        };
+        places
+            .iter()
+            .enumerate()
+            .skip(listed)
+            .all(|(i, x)| x.is_same(lent.element(i)))
     }
 }
 

@@ -1,11 +1,11 @@
 // A sample to a state, which answers with what it made, or writes its outputs to a span.
 use crate::element::Element;
+use crate::lent::room;
 use crate::record::Words;
 use crate::span::Span;
 use crate::state::State;
 use crate::value::Value;
 use refusal::Refusal;
-use std::alloc::{AllocError, Global};
 
 pub trait Sampled: State {
     type Sample: Element;
@@ -30,11 +30,13 @@ pub trait Pushed: State {
 }
 
 // Whether a sample with several outputs answers as a record says: the state, the sample and the span, and then the answers.
-pub fn replay_push<S: Pushed>(words: Words<'_>, alloc: Global) -> Result<bool, AllocError> {
+pub fn replay_push<S: Pushed>(words: Words<'_>) -> bool {
     let mut answers = words;
     let mut state = S::from_words(&mut answers);
     let sample = answers.value();
-    let mut span = Span::of(answers.slice(), alloc)?;
-    let written = state.push(sample, &mut span.places);
-    Ok(answers.same_answer(written) && span.is_same(&mut answers) && state.is_last(answers, words))
+    S::Sample::fits();
+    let mut places = room::<S::Sample>();
+    let span = Span::of(answers.slice(), &mut places);
+    let written = state.push(sample, span.places);
+    answers.same_answer(written) && span.is_same(&mut answers) && state.is_last(answers, words)
 }

@@ -6,6 +6,9 @@ pub trait State: Drop {
     // The state that the words begin with, which are then behind.
     fn from_words(words: &mut Words<'_>) -> Self;
 
+    // The state of a refused opening, by the library's own function.
+    fn refused() -> Self;
+
     // Whether the answers say this state, which was `before` before the call.
     fn is_same(&self, answers: &mut Words<'_>, before: &Self) -> bool;
 
@@ -16,11 +19,11 @@ pub trait State: Drop {
     }
 }
 
-// Whether an opening answers as a record says: the refusal, and then the state, of zeros where it was refused.
+// Whether an opening answers as a record says: the refusal, and then the state, which the library makes where it was refused.
 pub fn same_opened<S: State>(mut answers: Words<'_>, opened: Result<S, Refusal>) -> bool {
     let (answer, state) = match opened {
         Ok(state) => (Ok(()), state),
-        Err(refusal) => (Err(refusal), S::from_words(&mut Words::none())),
+        Err(refusal) => (Err(refusal), S::refused()),
     };
     answers.same_answer(answer) && state.is_last(answers, Words::none())
 }

@@ -7,6 +7,7 @@ use Rattle.std.specs.Prelude.{OnOk, Option, None, Some, Result, Ok, Err}
 use Rattle.std.specs.Io.KnownBytes.{Appends, Consumes}
 use Rattle.std.proofs.KnownBytes.{Consumes-trans, Appends-trans}
 use Rattle.replay.specs.Text.{word_text, words_text, record_text}
+use Rattle.replay.proofs.Words.{words_front}
 use borrow.Rule.Slice.PartMut.{put_mid, post_of}
 
 pub front : (us ys zs : List ℕ) (d n : ℕ) → length us ≡ d → n ≤ length ys → take (d + n) (us ++ (ys ++ zs)) ≡ us ++ take n ys
@@ -24,19 +25,21 @@ joined (Some us) (Some vs) (Some ws) d k xs ys n hd hn p q =
     ∙ ap (λ w. w ++ ws) (sym (front (take d xs) ys (post_of d k xs) d n (length-take-le d xs hd) hn))
 
 -- a header and the words behind it
-pub record_of : (a b c : Option (List ℕ)) (header : List ℕ) (got n : ℕ) (text words : List ℕ)
+pub record_of : (a b c : Option (List ℕ)) (header : List ℕ) (got n : ℕ) (text : List ℕ) (words post : List ℕ) (most : ℕ)
     → length (take got header) ≤ 9 → Consumes a b (take got header) → take 9 (take got header) ≡ word_text n 32
-    → Consumes b c text → length text ≡ n * 9 → length words ≡ length text / 9
+    → Consumes b c (take most text) → length text ≤ most → length text ≡ n * 9 → length words ≡ n
     → take (length words * 9) text ≡ words_text (length text / 9) (length words) words
-    → Consumes a c (record_text (length words) words)
-record_of a b c header got n text words hg p h q ht hw s =
+    → Consumes a c (record_text n (words ++ post))
+record_of a b c header got n text words post most hg p h q hm ht hw s =
     let front : take got header ≡ word_text n 32 = sym (take_all 9 (take got header) hg) ∙ h in
     let count : length text / 9 ≡ n = ap (λ m. m / 9) ht ∙ mul-div_cancel n (omega arith) in
-    let all : length words ≡ n = hw ∙ count in
-    let spelled : text ≡ words_text (length words) (length words) words =
-    sym (take_all (length words * 9) text (omega arith)) ∙ s ∙ ap (λ m. words_text m (length words) words) (sym hw) in
-    Consumes-trans a b c (word_text (length words) 32) (words_text (length words) (length words) words)
-    (subst (λ w. Consumes a b w) (front ∙ ap (λ m. word_text m 32) (sym all)) p) (subst (λ w. Consumes b c w) spelled q)
+    let spelled : text ≡ words_text n n words =
+    sym (take_all (n * 9) text (omega arith)) ∙ ap (λ m. take (m * 9) text) (sym hw) ∙ s
+    ∙ ap (λ m. words_text m (length words) words) count ∙ ap (λ m. words_text n m words) hw in
+    let rest : take most text ≡ words_text n n (words ++ post) =
+    take_all most text hm ∙ spelled ∙ sym (words_front n n words post (omega arith)) in
+    Consumes-trans a b c (word_text n 32) (words_text n n (words ++ post))
+    (subst (λ w. Consumes a b w) front p) (subst (λ w. Consumes b c w) rest q)
 
 pub appended_then : {T E : Type 0} (r : Result T E) (a b c : Option (List ℕ)) (xs ys : List ℕ) → Appends a b xs → OnOk r (Appends b c ys)
     → OnOk r (Appends a c (xs ++ ys))

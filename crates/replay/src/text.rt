@@ -1,19 +1,15 @@
 // Reading a record: each word is eight hexadecimal digits and one byte, a blank or, after the last, the line's end.
-ghost use Rattle.std.specs.Prelude.{◌≡◌, ℕ, ◌*◌, ◌/◌, ◌<◌, ◌≤◌, Some, None, Ok, false, length, take, IfOk, IfSome};
+ghost use Rattle.std.specs.Prelude.{◌≡◌, ℕ, ◌*◌, ◌/◌, ◌<◌, ◌≤◌, Some, None, Ok, false, length, take, IfOk, IfSome, IsTrue};
 ghost use Rattle.std.specs.Fmt.{digit_glyph};
 ghost use Rattle.std.specs.Io.{ReadsAtMost};
 ghost use Rattle.std.specs.Io.KnownBytes.{Consumes, IsAtEnd, ReadConsumes};
 ghost use Rattle.replay.specs.Text.{record_text, separator_of, word_text, words_text};
 
-use std::alloc::{AllocError, Global};
 use std::io;
 use std::io::ErrorKind;
 
 // Bytes of a word.
 const WIDTH: usize = 9;
-
-// The most words of a record.
-const MOST_WORDS: u32 = 200000;
 
 const BLANK: u8 = b' ';
 
@@ -30,12 +26,6 @@ pub(crate) enum ReadError {
 impl From<io::Error> for ReadError {
     fn from(error: io::Error) -> ReadError {
         ReadError::Io(error)
-    }
-}
-
-impl From<AllocError> for ReadError {
-    fn from(error: AllocError) -> ReadError {
-        ReadError::Io(io::Error::from(error))
     }
 }
 
@@ -72,20 +62,21 @@ fn separator(i: usize, count: usize) -> u8
     if i + 1 < count { BLANK } else { LINE_END }
 }
 
-// The words of a text, as many as fit it. By their numbers, which say the byte behind each: over `chunks_exact` with `enumerate` the proof did not close.
-fn parse(text: &[u8], alloc: Global) -> Result<Option<Vec<u32>>, AllocError>
-    ensures { IfOk result (λ found. IfSome found (λ words. (length words.items ≡ length text.now / 9)
-        × (take (length words.items * 9) text.now ≡ words_text (length text.now / 9) (length words.items) words.items))) }
+// Fills `words` from a text that has exactly so many. By their numbers, which say the byte behind each: over `chunks_exact` with `enumerate` the proof did not close.
+fn parse(text: &[u8], words: &mut [u32]) -> bool
+    ensures { IsTrue result → take (length words.new * 9) text.now ≡ words_text (length text.now / 9) (length words.new) words.new }
 {
     let count = text.len() / WIDTH;
-    let mut words = Vec::new(alloc);
-    for i in 0..count {
+    for i in 0..words.len() {
+        if count <= i {
+            return false;
+        }
         let Some(x) = parse_word(&text[i * WIDTH..], separator(i, count)) else {
-            return Ok(None);
+            return false;
         };
-        words.push(x)?;
+        words[i] = x;
     }
-    Ok(Some(words))
+    true
 }
 
 // One read, tried again where a signal interrupts it: no more often than a loop with an end allows.
@@ -123,25 +114,14 @@ fn read_full<R: io::Read>(source: &mut R, buf: &mut [u8]) -> io::Result<usize>
     Ok(done)
 }
 
-// The next `size` bytes, or nothing where the list ends before.
-fn read_text<R: io::Read>(source: &mut R, size: usize, alloc: Global) -> io::Result<Option<Vec<u8>>>
-    ensures { IfOk result (λ found. IfSome found (λ text. (length text.items ≡ size)
-        × Consumes (R.remaining source.old) (R.remaining source.new) text.items)) }
-{
-    let mut text = vec![in alloc; 0u8; size]?;
-    let got = read_full(source, &mut text)?;
-    if got < size {
-        return Ok(None);
-    }
-    Ok(Some(text))
-}
-
-// The next record's words, or nothing at the list's end.
+// How many words the next record has, which are then at the front of `words`, by way of `bytes`; or nothing at the list's end.
 pub(crate) fn read_record<R: io::Read>(
     source: &mut R,
-    alloc: Global,
-) -> Result<Option<Vec<u32>>, ReadError>
-    ensures spelled { IfOk result (λ found. IfSome found (λ words. Consumes (R.remaining source.old) (R.remaining source.new) (record_text (length words.items) words.items))) }
+    bytes: &mut [u8],
+    words: &mut [u32],
+) -> Result<Option<usize>, ReadError>
+    ensures room { IfOk result (λ found. IfSome found (λ count. count ≤ length words.new)) }
+    ensures spelled { IfOk result (λ found. IfSome found (λ count. Consumes (R.remaining source.old) (R.remaining source.new) (record_text count words.new))) }
     ensures end { result ≡ Ok None → IsAtEnd (R.remaining source.old) }
 {
     let mut header = [0u8; WIDTH];
@@ -149,11 +129,13 @@ pub(crate) fn read_record<R: io::Read>(
     if got == 0 {
         return Ok(None);
     }
-    let count = parse_word(&header[..got], BLANK).ok_or(ReadError::Broken)?;
-    if count > MOST_WORDS {
+    let count = parse_word(&header[..got], BLANK).ok_or(ReadError::Broken)? as usize;
+    if words.len() < count || bytes.len() / WIDTH < count {
         return Err(ReadError::Broken);
     }
-    let text = read_text(source, count as usize * WIDTH, alloc)?.ok_or(ReadError::Broken)?;
-    let words = parse(&text, alloc)?.ok_or(ReadError::Broken)?;
-    Ok(Some(words))
+    let text = &mut bytes[..count * WIDTH];
+    if read_full(source, text)? < text.len() || !parse(text, &mut words[..count]) {
+        return Err(ReadError::Broken);
+    }
+    Ok(Some(count))
 }

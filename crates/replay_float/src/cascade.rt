@@ -30,6 +30,10 @@ impl State for DecCascade {
         })
     }
 
+    fn refused() -> DecCascade {
+        DecCascade(HbfDecCascade::zeros())
+    }
+
     fn is_same(&self, answers: &mut Words<'_>, before: &DecCascade) -> bool {
         answers.same_long(self.0.depth) && answers.same_places(&self.0.delays, &before.0.delays)
     }
@@ -66,6 +70,10 @@ impl State for IntCascade {
             depth: words.long(),
             delays: words.slice().array(),
         })
+    }
+
+    fn refused() -> IntCascade {
+        IntCascade(HbfIntCascade::zeros())
     }
 
     fn is_same(&self, answers: &mut Words<'_>, before: &IntCascade) -> bool {

@@ -1,20 +1,21 @@
 // The half-band converters. Each operation takes the words behind its code: its inputs, then the answers.
 use half_band::{DEC_DELAYS, HbfDec, HbfInt, INT_DELAYS, MOST_HALF_BAND_TAPS};
 use records::block::Block;
+use records::lent::room;
 use records::record::Words;
 use records::reset::Reset;
 use records::sample::Sampled;
 use records::state::{State, same_opened};
 use refusal::Refusal;
-use std::alloc::{AllocError, Global};
 
 pub(crate) trait HalfBand: State {
     fn opened(taps: &[f32]) -> Result<Self, Refusal>;
 }
 
-pub(crate) fn new<S: HalfBand>(mut words: Words<'_>, alloc: Global) -> Result<bool, AllocError> {
-    let taps: Vec<f32> = words.slice().elements(alloc)?;
-    Ok(same_opened(words, S::opened(&taps)))
+pub(crate) fn new<S: HalfBand>(mut words: Words<'_>) -> bool {
+    let mut read = room::<f32>();
+    let taps = words.slice().put(&mut read);
+    same_opened(words, S::opened(taps))
 }
 
 // The state of either converter; how long the delay is, is its own.
@@ -25,7 +26,7 @@ struct Parts<const N: usize> {
     delay: [f32; N],
 }
 
-impl<const N: usize> State for Parts<N> {
+impl<const N: usize> Parts<N> {
     fn from_words(words: &mut Words<'_>) -> Parts<N> {
         Parts {
             m: words.long(),
@@ -56,6 +57,10 @@ impl State for Dec {
     fn from_words(words: &mut Words<'_>) -> Dec {
         let Parts { m, coeffs, delay } = Parts::from_words(words);
         Dec(HbfDec { m, coeffs, delay })
+    }
+
+    fn refused() -> Dec {
+        Dec(HbfDec::zeros())
     }
 
     fn is_same(&self, answers: &mut Words<'_>, before: &Dec) -> bool {
@@ -100,6 +105,10 @@ impl State for Int {
     fn from_words(words: &mut Words<'_>) -> Int {
         let Parts { m, coeffs, delay } = Parts::from_words(words);
         Int(HbfInt { m, coeffs, delay })
+    }
+
+    fn refused() -> Int {
+        Int(HbfInt::zeros())
     }
 
     fn is_same(&self, answers: &mut Words<'_>, before: &Int) -> bool {

@@ -20,6 +20,10 @@ impl State for Stream {
         })
     }
 
+    fn refused() -> Stream {
+        Stream(HbfStream::fresh(0))
+    }
+
     fn is_same(&self, answers: &mut Words<'_>, before: &Stream) -> bool {
         answers.same_long(self.0.depth)
             && answers.same_longs(&self.0.counts)

@@ -1,12 +1,13 @@
 // The resampler as records have it, and its openings.
 use float::PolyphaseResampF32;
+use float::settings::{MOST_CELLS, MOST_PHASE_TAPS, Setting};
 use records::block::Block;
+use records::lent::room;
 use records::record::Words;
 use records::reset::Reset;
 use records::sample::Pushed;
 use records::state::{State, same_opened};
 use refusal::{Moved, Refusal};
-use std::alloc::{AllocError, Global};
 
 #[derive(Drop)]
 pub(crate) struct Resampler(PolyphaseResampF32);
@@ -21,6 +22,23 @@ impl State for Resampler {
             step: words.value(),
             delay: words.slice().array(),
             prototype: words.slice().array(),
+        })
+    }
+
+    // As the openings for C clear what they are lent: nothing of it is zero before.
+    fn refused() -> Resampler {
+        let mut mu = 1.0;
+        let mut delay = [1.0; MOST_PHASE_TAPS];
+        let mut prototype = [1.0; MOST_CELLS];
+        let setting = Setting::clear(&mut mu, &mut delay, &mut prototype);
+        Resampler(PolyphaseResampF32 {
+            phases: setting.phases,
+            taps: setting.phase_taps,
+            straight: setting.straight,
+            mu,
+            step: setting.step,
+            delay,
+            prototype,
         })
     }
 
@@ -61,7 +79,7 @@ impl Pushed for Resampler {
 }
 
 // An opening of either kind: phases, taps, the prototype and the step.
-pub(crate) fn new<F>(mut words: Words<'_>, alloc: Global, opening: F) -> Result<bool, AllocError>
+pub(crate) fn new<F>(mut words: Words<'_>, opening: F) -> bool
 where
     F: FnOnce(usize, usize, &[f32], f32) -> Result<PolyphaseResampF32, Refusal>,
     requires { F.IsAlwaysCallable opening }
@@ -69,7 +87,8 @@ where
     let phases = words.long();
     let taps = words.long();
     let step = words.value();
-    let prototype: Vec<f32> = words.slice().elements(alloc)?;
-    let opened = opening(phases, taps, &prototype, step);
-    Ok(same_opened(words, opened.map(Resampler)))
+    let mut read = room::<f32>();
+    let prototype = words.slice().put(&mut read);
+    let opened = opening(phases, taps, prototype, step);
+    same_opened(words, opened.map(Resampler))
 }

@@ -3,11 +3,11 @@ use crate::cic::Cic;
 use integer::CicDecimator;
 use nonrecursive::NonrecursiveDecimator;
 use records::block::{Block, replay_block};
+use records::lent::room;
 use records::record::Words;
 use records::span::Span;
 use records::state::State;
 use refusal::{Moved, Refusal};
-use std::alloc::{AllocError, Global};
 
 #[derive(Drop)]
 pub(crate) struct Decimator(CicDecimator);
@@ -21,6 +21,10 @@ impl State for Decimator {
             comb_state: words.values(),
             sample_counter: words.long(),
         })
+    }
+
+    fn refused() -> Decimator {
+        Decimator(CicDecimator::fresh(0, 0))
     }
 
     fn is_same(&self, answers: &mut Words<'_>, _before: &Self) -> bool {
@@ -68,19 +72,21 @@ where
     words.same_answer(process(&mut state.0, sample)) && state.is_last(words, Words::none())
 }
 
-// The same samples from an opening of the sums of neighbours: the same counts and span. A call on a refused opening is refused for its state.
-fn thinned(mut words: Words<'_>, alloc: Global) -> Result<bool, AllocError> {
+// The same samples from an opening of the sums of neighbours: the same counts and span. Of a refused opening the call goes to the state that C is given of it.
+fn thinned(mut words: Words<'_>) -> bool {
     let state = Decimator::from_words(&mut words);
-    let samples: Vec<i32> = words.slice().elements(alloc)?;
-    let mut span = Span::of(words.slice(), alloc)?;
-    let moved = match NonrecursiveDecimator::new(state.0.stages, state.0.r) {
-        Ok(mut opened) => opened.process_block(&samples, &mut span.places),
-        Err(_) => Err(Refusal::State),
-    };
-    Ok(words.same_answer(moved) && span.is_same(&mut words))
+    let mut read = room::<i32>();
+    let mut written = room::<i32>();
+    let samples = words.slice().put(&mut read);
+    let span = Span::of(words.slice(), &mut written);
+    let mut opened = NonrecursiveDecimator::new(state.0.stages, state.0.r).unwrap_or(
+        NonrecursiveDecimator::fresh(0, 0),
+    );
+    let moved = opened.process_block(samples, span.places);
+    words.same_answer(moved) && span.is_same(&mut words)
 }
 
 // A block of a state as it is opened, of a factor that is a power of two.
-pub(crate) fn fresh_block(words: Words<'_>, alloc: Global) -> Result<bool, AllocError> {
-    Ok(replay_block::<Decimator>(words, alloc)? && thinned(words, alloc)?)
+pub(crate) fn fresh_block(words: Words<'_>) -> bool {
+    replay_block::<Decimator>(words) && thinned(words)
 }

@@ -19,6 +19,10 @@ impl State for Interpolator {
         })
     }
 
+    fn refused() -> Interpolator {
+        Interpolator(CicInterpolator::fresh(0, 0))
+    }
+
     fn is_same(&self, answers: &mut Words<'_>, _before: &Self) -> bool {
         let state = &self.0;
         answers.same_long(state.stages)

@@ -1,5 +1,5 @@
 // The operations by their codes. tests/oracle/README.md has them.
-ghost use Rattle.std.specs.Prelude.{Ok, false, ◌≡◌, ◌<◌};
+ghost use Rattle.std.specs.Prelude.{false, ◌≡◌, ◌<◌};
 
 use crate::cic;
 use crate::cic_decimator::{self, Decimator};
@@ -8,26 +8,25 @@ use integer::CicDecimator;
 use records::block::replay_block;
 use records::record::Words;
 use records::sample::replay_push;
-use std::alloc::{AllocError, Global};
 
 // Whether the converters answer as a record says; `words` is what follows the operation's code. A code that is none of this layer's agrees with nothing.
 // A code stands here alone, beside what it does: an enum of the operations would list them a second time.
-pub fn agrees(operation: u32, words: Words<'_>, alloc: Global) -> Result<bool, AllocError>
-    ensures below { operation < 17 → result ≡ Ok false }
-    ensures above { 36 < operation → result ≡ Ok false }
+pub fn agrees(operation: u32, words: Words<'_>) -> bool
+    ensures below { operation < 17 → result ≡ false }
+    ensures above { 36 < operation → result ≡ false }
 {
     match operation {
-        0x11 => Ok(cic::new::<Decimator>(words)),
-        0x12 => Ok(cic_decimator::sample(words, CicDecimator::process_sample)),
-        0x13 => Ok(cic_decimator::sample(words, CicDecimator::process_sample_scaled)),
-        0x14 => Ok(cic::gain::<Decimator>(words)),
-        0x15 => Ok(cic::gain_bits::<Decimator>(words)),
-        0x16 => replay_block::<Decimator>(words, alloc),
-        0x17 => cic_decimator::fresh_block(words, alloc),
-        0x21 => Ok(cic::new::<Interpolator>(words)),
-        0x22 => replay_push::<Interpolator>(words, alloc),
-        0x23 => Ok(cic::gain::<Interpolator>(words)),
-        0x24 => Ok(cic::gain_bits::<Interpolator>(words)),
-        _ => Ok(false),
+        0x11 => cic::new::<Decimator>(words),
+        0x12 => cic_decimator::sample(words, CicDecimator::process_sample),
+        0x13 => cic_decimator::sample(words, CicDecimator::process_sample_scaled),
+        0x14 => cic::gain::<Decimator>(words),
+        0x15 => cic::gain_bits::<Decimator>(words),
+        0x16 => replay_block::<Decimator>(words),
+        0x17 => cic_decimator::fresh_block(words),
+        0x21 => cic::new::<Interpolator>(words),
+        0x22 => replay_push::<Interpolator>(words),
+        0x23 => cic::gain::<Interpolator>(words),
+        0x24 => cic::gain_bits::<Interpolator>(words),
+        _ => false,
     }
 }

@@ -1,13 +1,13 @@
 // The operations of LinearPhaseFir. Each takes the words behind its code: its inputs, then the answers.
 use linear_phase::LinearPhaseFir;
 use records::block::Block;
+use records::lent::room;
 use records::record::Words;
 use records::reset::Reset;
 use records::sample::Sampled;
 use records::span::Span;
 use records::state::{State, same_opened};
 use refusal::Refusal;
-use std::alloc::{AllocError, Global};
 
 #[derive(Drop)]
 pub(crate) struct Filter(LinearPhaseFir);
@@ -21,6 +21,10 @@ impl State for Filter {
             taps: words.slice().array(),
             delay: words.slice().array(),
         })
+    }
+
+    fn refused() -> Filter {
+        Filter(LinearPhaseFir::zeros())
     }
 
     fn is_same(&self, answers: &mut Words<'_>, before: &Filter) -> bool {
@@ -59,12 +63,13 @@ impl Block for Filter {
     }
 }
 
-pub(crate) fn new(mut words: Words<'_>, alloc: Global) -> Result<bool, AllocError> {
+pub(crate) fn new(mut words: Words<'_>) -> bool {
     let odd = words.long() != 0;
     let antisymmetric = words.long() != 0;
-    let taps: Vec<f32> = words.slice().elements(alloc)?;
-    let opened = LinearPhaseFir::new(odd, antisymmetric, &taps);
-    Ok(same_opened(words, opened.map(Filter)))
+    let mut read = room::<f32>();
+    let taps = words.slice().put(&mut read);
+    let opened = LinearPhaseFir::new(odd, antisymmetric, taps);
+    same_opened(words, opened.map(Filter))
 }
 
 pub(crate) fn response_length(words: Words<'_>) -> bool {
@@ -74,10 +79,11 @@ pub(crate) fn response_length(words: Words<'_>) -> bool {
 }
 
 // A block whose samples stand in its span.
-pub(crate) fn inplace(words: Words<'_>, alloc: Global) -> Result<bool, AllocError> {
+pub(crate) fn inplace(words: Words<'_>) -> bool {
     let mut answers = words;
     let mut state = Filter::from_words(&mut answers);
-    let mut span = Span::of(answers.slice(), alloc)?;
-    let written = state.0.inplace(&mut span.places);
-    Ok(answers.same_answer(written) && span.is_same(&mut answers) && state.is_last(answers, words))
+    let mut places = room::<f32>();
+    let span = Span::of(answers.slice(), &mut places);
+    let written = state.0.inplace(span.places);
+    answers.same_answer(written) && span.is_same(&mut answers) && state.is_last(answers, words)
 }

@@ -1,11 +1,11 @@
 // FirDecimator as records have it, and its opening.
 use q15::{Cut, FirDecimator, Q15};
+use records::lent::room;
 use records::record::Words;
 use records::reset::Reset;
 use records::sample::Sampled;
 use records::state::{State, same_opened};
 use refusal::Refusal;
-use std::alloc::{AllocError, Global};
 
 #[derive(Drop)]
 pub(crate) struct Decimator(FirDecimator);
@@ -19,6 +19,10 @@ impl State for Decimator {
             taps: words.slice().array(),
             delay: words.slice().array(),
         })
+    }
+
+    fn refused() -> Decimator {
+        Decimator(FirDecimator::zeros())
     }
 
     fn is_same(&self, answers: &mut Words<'_>, before: &Decimator) -> bool {
@@ -37,11 +41,12 @@ impl Reset for Decimator {
     }
 }
 
-pub(crate) fn new(mut words: Words<'_>, alloc: Global) -> Result<bool, AllocError> {
+pub(crate) fn new(mut words: Words<'_>) -> bool {
     let factor = words.long();
-    let taps: Vec<i16> = words.slice().elements(alloc)?;
-    let opened = FirDecimator::new(&taps, factor);
-    Ok(same_opened(words, opened.map(Decimator)))
+    let mut read = room::<i16>();
+    let taps = words.slice().put(&mut read);
+    let opened = FirDecimator::new(taps, factor);
+    same_opened(words, opened.map(Decimator))
 }
 
 // What a sample made, and then whether it was cut.

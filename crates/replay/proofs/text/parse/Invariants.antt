@@ -4,5 +4,4 @@ use Rattle.replay.specs.Text.{words_text}
 use Rattle.replay.proofs.text.parse.Given as goal
 
 abbrev pub invariant-loop-i : goal.invariant-loop-i
-invariant-loop-i l =
-    record { count : length l.words.items ≡ l.i; spelled : take (l.i * 9) l.text ≡ words_text (length l.text / 9) l.i l.words.items }
+invariant-loop-i l = take (l.i * 9) l.text ≡ words_text (length l.text / 9) l.i l.words

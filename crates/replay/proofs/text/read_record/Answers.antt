@@ -1,5 +1,5 @@
 -- A record is its header and then its words.
-use Rattle.std.proofs.Common.{arith}
+use Rattle.std.proofs.Common.{arith, refl}
 use Rattle.std.proofs.lemmas.Grind.{common_steps}
 use Rattle.replay.proofs.Bytes.{record_of}
 use Rattle.replay.proofs.text.read_record.Goals as goal
@@ -7,7 +7,6 @@ use Rattle.replay.proofs.text.read_record.Goals as goal
 pub returns-clause-spelled : goal.returns-clause-spelled
 returns-clause-spelled g c =
     let n = rw c.in_ok-count.ensures.ok_part at c.parse_word.ensures in
-    let t = rw c.in_ok-text.ensures.ok_part at c.in_ok-read_text.ensures in
-    let p = rw (c.in_ok-words.ensures.ok_part, c.deref.ensures.value) at c.in_ok-parse.ensures in
-    record_of _ _ _ c.read_full.new.buf c.in_ok-got.got c.in_ok-count.count c.in_ok-text.text.items c.in_ok-words.words.items
-    (grind (arith, common_steps)) c.in_ok-got.ensures.consumed n t.1 t.0 p.0 p.1
+    record_of _ _ _ c.read_full.new.buf c.in_ok-got.got c.in_ok-count.field-0 c.read_full-2.new.buf c.parse.new.words _ c.in_ok-read_full.field-0
+    (grind (arith, common_steps)) c.in_ok-got.ensures.consumed n
+    c.in_ok-read_full.ensures.consumed (omega arith) (grind (arith, common_steps)) (grind (arith, common_steps)) (c.if-not-parse.ensures refl)
