@@ -1,5 +1,5 @@
 -- An entry that is not refused stands in the sheet, where its place says.
-use Rattle.std.proofs.Common.{◌≡◌, ◌+◌, ◌-◌, arith, rules}
+use Rattle.std.proofs.Common.{◌≡◌, ℕ, ◌+◌, ◌-◌, List, take, drop, arith, rules}
 use Rattle.std.proofs.lemmas.Result.{err_from_is_err_and}
 use Rattle.sheet.specs.Sheet.{present}
 use Rattle.sheet.proofs.Answering.{place_in, none_in}
@@ -14,8 +14,12 @@ slice_bounds-result-end c = let g = place_in present c.args.self.bytes.now c.arg
 pub returns-clause-number : goal.returns-clause-number
 returns-clause-number c = let g = place_in present c.args.self.bytes.now c.args.self.count c.args.k c.in_ok-place.place (c.in_ok-place.ensures) in g.number
 
+-- a slice from a place on is as long as its ends are apart
+cut : (b e : List ℕ) (from size : ℕ) → take size (drop from b) ≡ e → take (from + size - from) (drop from b) ≡ e
+cut b e from size p = let q : from + size - from ≡ size = omega arith in rw q p
+
 pub returns-clause-part : goal.returns-clause-part
-returns-clause-part c = let g = place_in present c.args.self.bytes.now c.args.self.count c.args.k c.in_ok-place.place (c.in_ok-place.ensures) in (let e : c.in_ok-place.place.offset + c.in_ok-place.place.size - c.in_ok-place.place.offset ≡ c.in_ok-place.place.size = omega arith in rw e g.part)
+returns-clause-part c = let g = place_in present c.args.self.bytes.now c.args.self.count c.args.k c.in_ok-place.place (c.in_ok-place.ensures) in cut c.args.self.bytes.now _ c.in_ok-place.place.offset c.in_ok-place.place.size g.part
 
 pub returns-in_err-place-clause-part : goal.returns-in_err-place-clause-part
 returns-in_err-place-clause-part c =
