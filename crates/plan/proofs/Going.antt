@@ -1,10 +1,8 @@
 -- A feed that only counts, turn by turn: between two turns of its loop, what is counted so far and then a feed from there is the whole feed. The samples up to and with
 -- the one that brings a value are one turn.
 use mathlib.Core.Path.{◌≡◌, refl, sym, ap, ap₂, ◌∙◌, subst}
-use mathlib.Core.Bool.{Bool, true, false, cond}
+use mathlib.Core.Bool.{true, false}
 use Rattle.std.specs.Prelude.{Option, None, Some}
-use Rattle.std.specs.Option.{unwrap_or}
-use Rattle.std.proofs.lemmas.Option.{none-some}
 use Prim.Native.Nat.{ℕ, zero, suc, ◌+◌, ◌-◌, ◌≤◌, ◌<◌}
 use native.Mathlib.Omega.{arith}
 use borrow.Author.Tests.{lt-leb}
@@ -33,15 +31,6 @@ run_take c a n d =
     go : (o : Option (Unit {0})) → follow ticking (feed ticking) (replicate (suc a) tt) (suc n) (ticking.next c tt) (taking o) ≡ took_then o (run (ticking.next c tt) a (less o (suc n)))
     go None = refl
     go (Some u) = refl
-
--- whether an output is due, by the clock behind it, which there is then
-pub is_due : (d : Bool) (k b : Clock) → cond d (Some k) None ≡ Some b → (d ≡ true) × (b ≡ k)
-is_due true k b e = (refl, sym (ap (λ (o : Option Clock). unwrap_or o k) e))
-is_due false k b e = absurd (none-some b e)
-
-pub none_due : (d : Bool) (k : Clock) → cond {A = Option Clock} d (Some k) None ≡ None → d ≡ false
-none_due true k e = absurd (none-some k (sym e))
-none_due false k e = refl
 
 -- t samples are taken and w places written, and the clock is c
 pub record Going (c₀ : Clock) (piece places : ℕ) (c : Clock) (t w : ℕ) : Type 0 where

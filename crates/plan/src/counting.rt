@@ -75,59 +75,70 @@ impl Clock {
         filtered.slowed(s.r, s.r)
     }
 
-    // The clock behind the output that is due, if one is: "An output is due when the resampler is on and mu < 1."
-    #[tactic(auto, unfolding(crate::specs::inner::Ticking::ticking))]
-    fn behind_due(self) -> Option<Clock>
-        ensures { result ≡ cond (K.ticking.due self) (Some (K.ticking.after self)) None }
+    // A feed of a line without a resampler: each value is written as it comes. A turn counts as many samples as lie before the next value, so it is no loop over a range.
+    // The numbers that a turn changes are places of its own, which stay in registers.
+    fn feed_values(&mut self, piece: usize, places: usize) -> Moved
+        requires { (K.Runs self.old) × (self.old.pace ≡ None) }
+        ensures { K.CountedTo self.old piece places result.taken result.written self.new }
     {
-        match self.pace {
-            Some(pace) if pace.mu < 1.0 => {
-                let mu = pace.mu + pace.step;
-                let pace = Some(Pace { mu, ..pace });
-                Some(Clock { pace, ..self })
+        let period = self.period;
+        let mut ahead = self.left;
+        let mut taken: usize = 0;
+        let mut written: usize = 0;
+        while written < places {
+            let rest = piece - taken;
+            if rest < ahead {
+                ahead -= rest;
+                taken = piece;
+                break;
             }
-            _ => None,
+            taken += ahead;
+            ahead = period;
+            written += 1;
         }
+        self.left = ahead;
+        Moved { taken, written }
     }
 
-    // A value has come: it lowers mu, and without a resampler it is written. Answers how many are written, none or one.
-    fn arrive(&mut self) -> usize
-        ensures clock { self.new ≡ K.arrived self.old }
-        ensures wrote { result ≡ K.written_at_once self.old.pace }
+    // The same where a resampler gets the values: "An output is due when the resampler is on and mu < 1." A value lowers mu, and an output that is due raises it by the step.
+    fn feed_paced(&mut self, pace: Pace, piece: usize, places: usize) -> Moved
+        requires { (K.Runs self.old) × (self.old.pace ≡ Some pace) }
+        ensures { K.CountedTo self.old piece places result.taken result.written self.new }
     {
-        self.left = self.period;
-        match self.pace {
-            Some(pace) => {
-                let mu = pace.mu - 1.0;
-                self.pace = Some(Pace { mu, ..pace });
-                0
+        let period = self.period;
+        let mut left = self.left;
+        let mut mu = pace.mu;
+        let mut taken: usize = 0;
+        let mut written: usize = 0;
+        while written < places {
+            if mu < 1.0 {
+                mu += pace.step;
+                written += 1;
+            } else {
+                let rest = piece - taken;
+                if rest < left {
+                    left -= rest;
+                    taken = piece;
+                    break;
+                }
+                taken += left;
+                left = period;
+                mu -= 1.0;
             }
-            None => 1,
         }
+        self.left = left;
+        self.pace = Some(Pace { mu, ..pace });
+        Moved { taken, written }
     }
 
-    // A feed of so many samples into so many places. A turn counts as many samples as lie before the next output, so it is no loop over a range.
+    // A feed of so many samples, into so many places.
     pub(crate) fn feed(&mut self, piece: usize, places: usize) -> Moved
         requires { K.Runs self.old }
         ensures { K.CountedTo self.old piece places result.taken result.written self.new }
     {
-        let mut taken: usize = 0;
-        let mut written: usize = 0;
-        while written < places {
-            if let Some(behind) = self.behind_due() {
-                *self = behind;
-                written += 1;
-            } else {
-                let rest = piece - taken;
-                if rest < self.left {
-                    self.left -= rest;
-                    taken = piece;
-                    break;
-                }
-                taken += self.left;
-                written += self.arrive();
-            }
+        match self.pace {
+            None => self.feed_values(piece, places),
+            Some(pace) => self.feed_paced(pace, piece, places),
         }
-        Moved { taken, written }
     }
 }
