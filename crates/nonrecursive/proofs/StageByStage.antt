@@ -99,6 +99,22 @@ module _ (N : ℕ) where
         ap₂ (λ (a b : List ℤ). a ++ b) (sym all ∙ pairs_front w (take N s) s same_front) (sym (pairs_behind w s))
         ∙ take-append-drop N (pairs N s w).state
 
+  -- and their halving may hold them apart, h behind them, and put them back
+  module _ (w s h : List ℤ) (enough : N ≤ length s) where
+    abbrev apart : List ℤ
+    apart = take N s ++ drop N h
+
+    front_apart : take N apart ≡ take N s
+    front_apart = take_at (take N s) (drop N h) N (length-take-le N s enough)
+
+    pub apart_vals : (pairs N apart w).vals ≡ (pairs N s w).vals
+    apart_vals = pairs_vals w apart s front_apart
+
+    pub apart_state : take N (pairs N apart w).state ++ drop N s ≡ (pairs N s w).state
+    apart_state =
+        ap₂ (λ (a b : List ℤ). a ++ b) (pairs_front w apart s front_apart) (sym (pairs_behind w s))
+        ∙ take-append-drop N (pairs N s w).state
+
   -- m halvings as a section over the neighbours and the place
   abbrev pub thinner : ℕ → Section (List ℤ × ℕ) ℤ ℤ
   thinner m =
