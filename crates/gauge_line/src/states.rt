@@ -156,22 +156,6 @@ pub(crate) fn put_fir(
     *wait = next.wait;
 }
 
-// How many taps a filter has, the taps and the delay, into the places that were lent for them.
-pub(crate) fn put_filter<const TAPS: usize, const DELAYS: usize>(
-    next_m: usize,
-    next_taps: [f32; TAPS],
-    next_delay: [f32; DELAYS],
-    m: &mut usize,
-    taps: &mut [f32; TAPS],
-    delay: &mut [f32; DELAYS],
-)
-    ensures { (m.new ≡ next_m) × (taps.new ≡ next_taps.entry) × (delay.new ≡ next_delay.entry) }
-{
-    *m = next_m;
-    *taps = next_taps;
-    *delay = next_delay;
-}
-
 // The depth and the delays of a cascade of either direction into the places that were lent for them.
 pub(crate) fn put_cascade<const DELAYS: usize>(
     next_depth: usize,
