@@ -248,13 +248,21 @@ fn edit_and_log(name: &str, edit: &str) -> (PathBuf, PathBuf) {
     )
 }
 
-// The file that an edit changes, as the edit makes it.
+// The file that an edit changes, as the edit makes it: each pair applies to what the earlier ones made.
 fn edited(name: &str, edit: &str) -> String {
     let text = read(edit_and_log(name, edit).0);
-    let field = |key: &str| {
-        let line = text.lines().find_map(|line| line.strip_prefix(key));
-        line.unwrap_or_else(|| panic!("{name}/{edit} has no {key}"))
+    let fields = |key: &'static str| {
+        let found: Vec<&str> = text
+            .lines()
+            .filter_map(|line| line.strip_prefix(key))
+            .collect();
+        assert!(!found.is_empty(), "{name}/{edit} has no {key}");
+        found
     };
-    let file = read(format!("crates/{name}/{}", field("file: ")));
-    file.replacen(field("old: "), field("new: "), 1)
+    let [file] = fields("file: ")[..] else {
+        panic!("{name}/{edit} changes more than one file");
+    };
+    let file = read(format!("crates/{name}/{file}"));
+    let pairs = fields("old: ").into_iter().zip(fields("new: "));
+    pairs.fold(file, |made, (old, new)| made.replacen(old, new, 1))
 }
