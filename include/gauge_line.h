@@ -21,7 +21,7 @@
 #include "gauge_refusal.h"
 #include <stdint.h>
 
-#define GAUGE_VERSION "0.23.0"
+#define GAUGE_VERSION "0.23.1"
 
 #ifdef __cplusplus
 extern "C" {
