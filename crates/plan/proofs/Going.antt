@@ -3,7 +3,8 @@
 use mathlib.Core.Path.{◌≡◌, refl, sym, ap, ap₂, ◌∙◌, subst}
 use mathlib.Core.Bool.{true, false}
 use Rattle.std.specs.Prelude.{Option, None, Some}
-use Prim.Native.Nat.{ℕ, zero, suc, ◌+◌, ◌-◌, ◌≤◌, ◌<◌}
+use Prim.Native.Nat.{ℕ, zero, suc, ◌+◌, ◌-◌, ◌*◌, ◌≤◌, ◌<◌}
+use native.Mathlib.Nat.{suc-mul}
 use native.Mathlib.Omega.{arith}
 use borrow.Author.Tests.{lt-leb}
 use lib.ListN.{length, replicate}
@@ -159,3 +160,52 @@ module _ (c₀ : Clock) (piece places : ℕ) (c : Clock) (t w : ℕ) (g : Going 
       let f : t + k ≡ piece = omega (arith, g.some_taken) in
       let q = subst (λ (n : ℕ). Going c₀ piece places (at_left c (c.left - k)) n w) f (quiet k h (omega (arith, g.some_taken))) in
       done_dry c₀ piece places (at_left c (c.left - k)) piece w q (omega arith, r.1) (still (c.left - k)) (omega arith)
+
+-- ---- before the first turn
+pub begun : (c : Clock) (piece places : ℕ) → Going c piece places c 0 0
+begun c piece places =
+    let p : piece ≡ piece - 0 = omega arith in
+    let q : places ≡ places - 0 = omega arith in
+    let r : Fed Clock (Unit {0}) = run c (piece - 0) (places - 0) in
+    let same : run c piece places ≡ r = ap₂ {C = Fed Clock (Unit {0})} (run c) p q in
+    let t : r.taken ≡ 0 + r.taken = omega arith in
+    let w : length r.written ≡ 0 + length r.written = omega arith in
+    record {
+      some_taken = omega arith;
+      some_written = omega arith;
+      takes = ap (λ (x : Fed Clock (Unit {0})). x.taken) same ∙ t;
+      writes = ap (λ (x : Fed Clock (Unit {0})). length x.written) same ∙ w;
+      leaves = ap (λ (x : Fed Clock (Unit {0})). x.line) same;
+    }
+
+-- ---- with no resampler each value is written as it comes: the first is `left` samples away, and each other `period` more
+module _ (piece places left period : ℕ) (some : 1 ≤ left) (more : 1 ≤ period) where
+  abbrev on_way : ℕ → Clock
+  on_way n = record { left = n; period = period; pace = None }
+
+  never_due : (n : ℕ) → ticking.due (on_way n) ≡ false
+  unfolding ticking
+  never_due n = refl
+
+  pub come : (k : ℕ) → left + k * period ≤ piece → suc k ≤ places → Going (on_way left) piece places (on_way period) (left + k * period) (suc k)
+  come zero h b =
+      let i = going_value (on_way left) piece places (on_way left) 0 0 (begun (on_way left) piece places) (never_due left) (omega (arith, b)) some (omega (arith, h)) in
+      let e : 0 + left ≡ left + 0 * period = omega arith in
+      subst (λ (t : ℕ). Going (on_way left) piece places (on_way period) t 1) e i
+  come (suc k) h b =
+      let m = suc-mul k period in
+      let p = come k (omega (arith, h, m)) (omega (arith, b)) in
+      let i = going_value (on_way left) piece places (on_way period) (left + k * period) (suc k) p (never_due period) (omega (arith, b)) more (omega (arith, h, m)) in
+      let e : left + k * period + period ≡ left + suc k * period = omega (arith, m) in
+      let f : suc k + 1 ≡ suc (suc k) = omega arith in
+      subst (λ (t : ℕ). Going (on_way left) piece places (on_way period) t (suc (suc k))) e (subst (Going (on_way left) piece places (on_way period) (left + k * period + period)) f i)
+
+  -- all places are written
+  pub full : (k : ℕ) → left + k * period ≤ piece → suc k ≡ places → CountedTo (on_way left) piece places (left + k * period) (suc k) (on_way period)
+  full k h e = done_full (on_way left) piece places (on_way period) (left + k * period) (suc k) (come k h (omega (arith, e))) (more, more) (omega (arith, e))
+
+  -- or places are left, and the samples behind the last value bring none
+  pub spent : (k : ℕ) → left + k * period ≤ piece → suc k < places → piece - (left + k * period) < period
+      → CountedTo (on_way left) piece places piece (suc k) (on_way (period - (piece - (left + k * period))))
+  spent k h b l =
+      done_rest (on_way left) piece places (on_way period) (left + k * period) (suc k) (come k h (omega (arith, b))) (never_due period) b (more, more) l

@@ -75,29 +75,40 @@ impl Clock {
         filtered.slowed(s.r, s.r)
     }
 
-    // A feed of a line without a resampler: each value is written as it comes. A turn counts as many samples as lie before the next value, so it is no loop over a range.
-    // The numbers that a turn changes are places of its own, which stay in registers.
+    // A feed of a line without a resampler: each value is written as it comes, so how many come is one division. In a loop the compiler counted sixteen turns at once, which
+    // took longer than one by one.
     fn feed_values(&mut self, piece: usize, places: usize) -> Moved
         requires { (K.Runs self.old) × (self.old.pace ≡ None) }
         ensures { K.CountedTo self.old piece places result.taken result.written self.new }
     {
-        let period = self.period;
-        let mut ahead = self.left;
-        let mut taken: usize = 0;
-        let mut written: usize = 0;
-        while written < places {
-            let rest = piece - taken;
-            if rest < ahead {
-                ahead -= rest;
-                taken = piece;
-                break;
-            }
-            taken += ahead;
-            ahead = period;
-            written += 1;
+        if places == 0 {
+            return Moved {
+                taken: 0,
+                written: 0,
+            };
         }
-        self.left = ahead;
-        Moved { taken, written }
+        if piece < self.left {
+            self.left -= piece;
+            return Moved {
+                taken: piece,
+                written: 0,
+            };
+        }
+        let behind = piece - self.left;
+        let more = (behind / self.period).min(places - 1);
+        let rest = behind - more * self.period;
+        if more + 1 == places {
+            self.left = self.period;
+            return Moved {
+                taken: piece - rest,
+                written: places,
+            };
+        }
+        self.left = self.period - rest;
+        Moved {
+            taken: piece,
+            written: more + 1,
+        }
     }
 
     // The same where a resampler gets the values: "An output is due when the resampler is on and mu < 1." A value lowers mu, and an output that is due raises it by the step.
