@@ -17,10 +17,6 @@ pub trait Element: Copy + PartialEq {
     fn from_word(word: u32) -> Self
         ensures { result ≡ meant word };
 
-    // Does nothing: its clause says that room for the longest slice fits into memory, which generic code has to know before it makes one.
-    fn fits()
-        ensures { 65600 * type_size Self.row < 2 ^ 63 };
-
     // With no default: its clause is each type's own `recorded`, which one over `==` would meet by a law beside, one for each type.
     fn is_recorded_as(self, word: u32) -> bool
         ensures { result ≡ recorded self word };
@@ -40,8 +36,6 @@ impl Element for u32 {
         word
     }
 
-    fn fits() {}
-
     fn is_recorded_as(self, word: u32) -> bool {
         word == self
     }
@@ -55,8 +49,6 @@ impl Element for i32 {
     fn from_word(word: u32) -> i32 {
         word.cast_signed()
     }
-
-    fn fits() {}
 
     fn is_recorded_as(self, word: u32) -> bool {
         i32::from_word(word) == self
@@ -73,8 +65,6 @@ impl Element for i16 {
         ((word % 65536) as u16).cast_signed()
     }
 
-    fn fits() {}
-
     fn is_recorded_as(self, word: u32) -> bool {
         i16::from_word(word) == self
     }
@@ -89,8 +79,6 @@ impl Element for u8 {
     fn from_word(word: u32) -> u8 {
         (word % 256) as u8
     }
-
-    fn fits() {}
 
     fn is_recorded_as(self, word: u32) -> bool {
         u8::from_word(word) == self
@@ -108,8 +96,6 @@ impl Element for f32 {
         f32_of_bits(word)
     }
 
-    fn fits() {}
-
     fn is_recorded_as(self, word: u32) -> bool {
         word == bits_of_f32(self)
     }
@@ -117,4 +103,31 @@ impl Element for f32 {
     fn is_same(self, other: f32) -> bool {
         bits_of_f32(self) == bits_of_f32(other)
     }
+}
+
+// An element of which generic code may make room for the longest slice, on the stack.
+pub trait OnStack: Element {
+    // Does nothing: its clause says that room for the longest slice fits into memory, which generic code has to know before it makes one.
+    fn fits()
+        ensures { 65600 * type_size Self.row < 2 ^ 63 };
+}
+
+impl OnStack for u32 {
+    fn fits() {}
+}
+
+impl OnStack for i32 {
+    fn fits() {}
+}
+
+impl OnStack for i16 {
+    fn fits() {}
+}
+
+impl OnStack for u8 {
+    fn fits() {}
+}
+
+impl OnStack for f32 {
+    fn fits() {}
 }

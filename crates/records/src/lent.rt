@@ -1,9 +1,10 @@
 // Slices that a record lends: a word each for length, pattern, stride and count of those listed, then the listed elements. An element behind them is the
 // pattern plus its index times the stride, modulo 2^32. No words at all lend zeros.
-ghost use Rattle.std.specs.Prelude.{◌≡◌, ℕ, ◌+◌, ◌*◌, ◌%◌, ◌<◌, length, min, slice_index_or};
+ghost use Rattle.std.specs.Prelude.{◌≡◌, ℕ, ◌+◌, ◌*◌, ◌%◌, ◌<◌, OnOk, IfOk, length, min, vec_len, slice_index_or};
 ghost use Rattle.records.specs.Comparison.{lent_word};
 
 use crate::element::Element;
+use std::alloc::{AllocError, Global};
 
 // The most elements of a slice: 01's limit of 65,536, and some more to exceed it.
 const LONGEST: usize = 65600;
@@ -44,6 +45,15 @@ impl Lent<'_> {
     // The first elements, in an array of a state.
     pub fn array<T: Element, const N: usize>(&self) -> [T; N] {
         std::array::from_fn(|i| self.element(i))
+    }
+
+    // The elements, in memory that is asked for: of the longest slice at most.
+    pub(crate) fn elements<T: Element>(&self, alloc: Global) -> Result<Vec<T>, AllocError>
+        ensures { IfOk result (λ all. vec_len all ≡ min self.now.length 65600) }
+    {
+        (0..self.length.min(LONGEST))
+            .map(|i| self.element(i))
+            .collect(alloc)
     }
 
     // The elements, as many as there is room for, at its front.

@@ -11,4 +11,6 @@ pub mod reset;
 pub mod sample;
 pub mod span;
 pub mod state;
+#[cfg(test)]
+mod tests;
 pub mod value;

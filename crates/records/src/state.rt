@@ -6,8 +6,13 @@ pub trait State: Drop {
     // The state that the words begin with, which are then behind.
     fn from_words(words: &mut Words<'_>) -> Self;
 
-    // The state of a refused opening, by the library's own function.
-    fn refused() -> Self;
+    // The state of a refused opening. A library that has a function for it is asked itself; without one it is the state that no words say.
+    fn refused() -> Self
+    where
+        Self: Sized,
+    {
+        Self::from_words(&mut Words::none())
+    }
 
     // Whether the answers say this state, which was `before` before the call.
     fn is_same(&self, answers: &mut Words<'_>, before: &Self) -> bool;
@@ -19,7 +24,7 @@ pub trait State: Drop {
     }
 }
 
-// Whether an opening answers as a record says: the refusal, and then the state, which the library makes where it was refused.
+// Whether an opening answers as a record says: the refusal, and then the state, that of `refused` where it was refused.
 pub fn same_opened<S: State>(mut answers: Words<'_>, opened: Result<S, Refusal>) -> bool {
     let (answer, state) = match opened {
         Ok(state) => (Ok(()), state),

@@ -2,7 +2,7 @@
 use crate::cic::Cic;
 use integer::CicDecimator;
 use nonrecursive::NonrecursiveDecimator;
-use records::block::{Block, replay_block};
+use records::block::{Block, replay_block_on_stack};
 use records::lent::room;
 use records::record::Words;
 use records::span::Span;
@@ -88,5 +88,5 @@ fn thinned(mut words: Words<'_>) -> bool {
 
 // A block of a state as it is opened, of a factor that is a power of two.
 pub(crate) fn fresh_block(words: Words<'_>) -> bool {
-    replay_block::<Decimator>(words) && thinned(words)
+    replay_block_on_stack::<Decimator>(words) && thinned(words)
 }

@@ -5,9 +5,9 @@ use crate::cic;
 use crate::cic_decimator::{self, Decimator};
 use crate::cic_interpolator::Interpolator;
 use integer::CicDecimator;
-use records::block::replay_block;
+use records::block::replay_block_on_stack;
 use records::record::Words;
-use records::sample::replay_push;
+use records::sample::replay_push_on_stack;
 
 // Whether the converters answer as a record says; `words` is what follows the operation's code. A code that is none of this layer's agrees with nothing.
 // A code stands here alone, beside what it does: an enum of the operations would list them a second time.
@@ -21,10 +21,10 @@ pub fn agrees(operation: u32, words: Words<'_>) -> bool
         0x13 => cic_decimator::sample(words, CicDecimator::process_sample_scaled),
         0x14 => cic::gain::<Decimator>(words),
         0x15 => cic::gain_bits::<Decimator>(words),
-        0x16 => replay_block::<Decimator>(words),
+        0x16 => replay_block_on_stack::<Decimator>(words),
         0x17 => cic_decimator::fresh_block(words),
         0x21 => cic::new::<Interpolator>(words),
-        0x22 => replay_push::<Interpolator>(words),
+        0x22 => replay_push_on_stack::<Interpolator>(words),
         0x23 => cic::gain::<Interpolator>(words),
         0x24 => cic::gain_bits::<Interpolator>(words),
         _ => false,

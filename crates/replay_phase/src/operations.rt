@@ -2,7 +2,7 @@
 ghost use Rattle.std.specs.Prelude.{false, ◌≡◌, ◌<◌};
 
 use crate::linear_phase_fir::{self, Filter};
-use records::block::replay_block;
+use records::block::replay_block_on_stack;
 use records::record::Words;
 use records::reset::replay_reset;
 use records::sample::replay_sample;
@@ -16,7 +16,7 @@ pub fn agrees(operation: u32, words: Words<'_>) -> bool
     match operation {
         0xe1 => linear_phase_fir::new(words),
         0xe2 => replay_sample::<Filter>(words),
-        0xe3 => replay_block::<Filter>(words),
+        0xe3 => replay_block_on_stack::<Filter>(words),
         0xe4 => linear_phase_fir::inplace(words),
         0xe5 => linear_phase_fir::response_length(words),
         0xe6 => replay_reset::<Filter>(words),

@@ -4,7 +4,7 @@ ghost use Rattle.std.specs.Prelude.{false, ◌≡◌, ◌<◌};
 use crate::fir_decimator::{self, Decimator};
 use crate::q15_blocks::{self, LinearQ15};
 use q15::{polyphase_decimate_q15, polyphase_interpolate_q15};
-use records::linear::replay_linear;
+use records::linear::replay_linear_on_stack;
 use records::record::Words;
 use records::reset::replay_reset;
 use records::sample::replay_sample;
@@ -18,7 +18,7 @@ pub fn agrees(operation: u32, words: Words<'_>) -> bool
     match operation {
         0x31 => q15_blocks::fir(words, polyphase_decimate_q15),
         0x32 => q15_blocks::fir(words, polyphase_interpolate_q15),
-        0x33 => replay_linear::<LinearQ15>(words),
+        0x33 => replay_linear_on_stack::<LinearQ15>(words),
         0x34 => q15_blocks::cut(words),
         0x41 => fir_decimator::new(words),
         0x42 => replay_sample::<Decimator>(words),
